@@ -1,0 +1,142 @@
+//! Object identifiers.
+ghost use Rattle.asn1_core.specs.Identifier.{Holds};
+
+use crate::error::Error;
+use crate::padded::pad;
+use crate::subidentifiers::is_identifier;
+use std::cmp::Ordering;
+use std::hash::{Hash, Hasher};
+
+/// An object identifier (X.690 section 8.19): its `size` octets in front, and zeros behind them.
+///
+/// The octets are one or more subidentifiers in base 128, each in its fewest octets and below 2^32, at most 39 octets in all.
+#[derive(Clone, Copy, Debug, Drop)]
+pub struct ObjectIdentifier {
+    pub octets: [u8; 39],
+    pub size: u8,
+    pub ghost holds: { Holds octets size },
+}
+
+impl ObjectIdentifier {
+    ghost use Rattle.std.specs.Prelude.{◌≡◌, ◌↔◌, IsTrue, IsOk, IfOk, IfErr};
+    ghost use Rattle.asn1_core.specs.Identifier.{is_identifier};
+    ghost use Rattle.asn1_core.specs.Oid.{oid_octets};
+    ghost use Rattle.asn1_core.specs.Reading.{oid_of};
+    ghost use Rattle.asn1_core.specs.Gives.{Gives};
+
+    /// The identifier of these octets. `Malformed` exactly where they are the octets of none.
+    #[tactic(auto, using(crate::specs::Padded::is_padded, crate::specs::Padded::take_padded, crate::specs::ElementLaws::oid_reads_none))]
+    pub fn from_bytes(octets: &[u8]) -> Result<ObjectIdentifier, Error>
+        ensures ok { IfOk result (λ o. oid_octets o ≡ octets.now) }
+        ensures read { Gives (λ o. o) result (oid_of octets.now) }
+        ensures exact { IsOk result ↔ IsTrue (is_identifier octets.now) }
+        ensures err { IfErr result (λ e. e ≡ Error.Malformed) }
+    {
+        if !is_identifier(octets) {
+            return Err(Error::Malformed);
+        }
+        Ok(ObjectIdentifier {
+            octets: pad(octets),
+            size: octets.len() as u8,
+        })
+    }
+
+    /// The identifier of these octets. Caller: they are the octets of one.
+    #[tactic(auto, using(crate::specs::Padded::is_padded, crate::specs::Padded::take_padded))]
+    pub fn constant(octets: &[u8]) -> ObjectIdentifier
+        requires { IsTrue (is_identifier octets.now) }
+        ensures { oid_octets result ≡ octets.now }
+    {
+        ObjectIdentifier {
+            octets: pad(octets),
+            size: octets.len() as u8,
+        }
+    }
+
+    /// The octets of the identifier's value.
+    pub fn as_bytes(&self) -> &[u8]
+        ensures value { result.now ≡ oid_octets self.now }
+        ensures grammar { IsTrue (is_identifier (oid_octets self.now)) }
+    {
+        let n = self.size as usize;
+        &self.octets[..n]
+    }
+}
+
+impl PartialEq for ObjectIdentifier {
+    ghost use Rattle.std.specs.Prelude.{nat_eq};
+    ghost use Rattle.std.specs.Ordering.{on};
+    ghost use Rattle.std.specs.Cmp.Lexicographic.{pointwise};
+    ghost use Rattle.std.specs.Cmp.Rules.{comparing};
+    ghost use Rattle.std.proofs.Common.{rules};
+    ghost use Rattle.asn1_core.specs.Oid.{oid_octets};
+
+    ghost eq = { on oid_octets (pointwise nat_eq) };
+
+    ghost laws = { Prim.search (comparing, rules) };
+
+    fn eq(&self, other: &ObjectIdentifier) -> bool {
+        self.as_bytes() == other.as_bytes()
+    }
+}
+
+impl Eq for ObjectIdentifier {
+    ghost use Rattle.std.specs.Cmp.Rules.{comparing};
+    ghost use Rattle.std.proofs.Common.{rules};
+
+    ghost laws = { Prim.search (comparing, rules) };
+}
+
+impl PartialOrd for ObjectIdentifier {
+    ghost use Rattle.std.specs.Prelude.{nat_eq};
+    ghost use Rattle.std.specs.Ordering.{on, nat_cmp, as_partial_cmp};
+    ghost use Rattle.std.specs.Cmp.Lexicographic.{slice_cmp};
+    ghost use Rattle.std.specs.Cmp.{partial_order_from_own_ties};
+    ghost use Rattle.std.specs.Cmp.Rules.{comparing};
+    ghost use Rattle.std.proofs.Common.{rules};
+    ghost use Rattle.asn1_core.specs.Oid.{oid_octets};
+
+    ghost partial_cmp = { as_partial_cmp (on oid_octets (slice_cmp nat_cmp)) };
+
+    ghost laws = { partial_order_from_own_ties (Prim.search (comparing, rules)) (Prim.search (comparing, rules)) };
+
+    fn partial_cmp(&self, other: &ObjectIdentifier) -> Option<Ordering> {
+        Some(self.cmp(other))
+    }
+}
+
+impl Ord for ObjectIdentifier {
+    ghost use Rattle.std.specs.Prelude.{refl};
+    ghost use Rattle.std.specs.Ordering.{on, nat_cmp};
+    ghost use Rattle.std.specs.Cmp.Lexicographic.{slice_cmp};
+    ghost use Rattle.std.specs.Cmp.Rules.{comparing};
+    ghost use Rattle.std.proofs.Common.{rules};
+    ghost use Rattle.asn1_core.specs.Oid.{oid_octets};
+
+    ghost cmp = { on oid_octets (slice_cmp nat_cmp) };
+
+    ghost total = { Prim.search (comparing, rules) };
+
+    ghost matches_partial_cmp = { λ x y. refl };
+
+    ghost matches_eq = { Prim.search (comparing, rules) };
+
+    fn cmp(&self, other: &ObjectIdentifier) -> Ordering {
+        self.as_bytes().cmp(&other.as_bytes())
+    }
+}
+
+impl Hash for ObjectIdentifier {
+    ghost use Rattle.std.specs.Hash as fed;
+    ghost use Rattle.std.specs.Cmp.Rules.{hashing};
+    ghost use Rattle.std.proofs.Common.{rules};
+    ghost use Rattle.asn1_core.specs.Oid.{oid_octets};
+
+    ghost hash_input = { λ o. fed.slice fed.u8 (oid_octets o) };
+
+    ghost respects_eq = { Prim.search (hashing, rules) };
+
+    fn hash<H: Hasher>(&self, state: &mut H) {
+        self.as_bytes().hash(state);
+    }
+}

@@ -1,0 +1,112 @@
+//! Octets that the standard's grammar takes or refuses, X.690's own examples among them.
+use crate::{
+    Error, Items, ObjectIdentifier, Octets, Reader, SliceReader, Tag, Text, read_bmp, read_ia5,
+    read_identifier, read_inner, read_raw, read_uint,
+};
+
+fn uint(octets: &[u8], max: u64) -> Result<u64, Error> {
+    let mut r = SliceReader::new(octets);
+    read_uint(&mut r, max)
+}
+
+#[test]
+fn integers_in_the_fewest_octets(rt: HostRuntime) {
+    assert!(rt; uint(&[2, 2, 0, 0xff], u64::MAX) == Ok(255));
+    assert!(rt; uint(&[2, 1, 0], 0xff) == Ok(0));
+    assert!(rt;
+        uint(
+            &[2, 9, 0, 0xff, 0xff, 0xff, 0xff, 0xff, 0xff, 0xff, 0xff],
+            u64::MAX
+        ) == Ok(u64::MAX)
+    );
+    assert!(rt; uint(&[2, 0], u64::MAX) == Err(Error::Malformed));
+    assert!(rt; uint(&[2, 2, 0, 1], u64::MAX) == Err(Error::Malformed));
+    assert!(rt; uint(&[2, 1, 0xff], u64::MAX) == Err(Error::Malformed));
+    assert!(rt; uint(&[2, 2, 1, 0], 0xff) == Err(Error::Malformed));
+    assert!(rt; uint(&[0x82, 1, 0], 0xff) == Err(Error::Malformed));
+}
+
+#[test]
+fn lengths_in_the_fewest_octets(rt: HostRuntime) {
+    let mut short = SliceReader::new(&[4, 5, 1, 2, 3, 4, 5, 9]);
+    let value = read_inner(&mut short, Tag::OCTET_STRING).expect(&rt, "an octet string");
+    assert!(rt; value.rest == &[1, 2, 3, 4, 5][..]);
+    assert!(rt; short.rest == &[9][..]);
+    assert!(rt; short.position() == 7);
+    let mut long = SliceReader::new(&[4, 0x81, 5, 1, 2, 3, 4, 5]);
+    assert!(rt; read_inner(&mut long, Tag::OCTET_STRING).is_err());
+    assert!(rt; long.position() == 0);
+    let mut indefinite = SliceReader::new(&[0x30, 0x80, 0, 0]);
+    assert!(rt; read_inner(&mut indefinite, Tag::SEQUENCE).is_err());
+    let mut large = [7; 131];
+    large[0] = 4;
+    large[1] = 0x81;
+    large[2] = 0x80;
+    let mut r = SliceReader::new(&large);
+    assert!(rt; read_raw(&mut r) == Ok(&large[..]));
+    assert!(rt; r.is_finished());
+}
+
+#[test]
+fn identifiers_of_the_standard(rt: HostRuntime) {
+    // 2.999 and 1.2.840.113549.1.7.1
+    let mut r = SliceReader::new(&[
+        6, 2, 0x88, 0x37, 6, 9, 0x2a, 0x86, 0x48, 0x86, 0xf7, 0x0d, 1, 7, 1,
+    ]);
+    let first = read_identifier(&mut r).expect(&rt, "an identifier");
+    assert!(rt; first.as_bytes() == &[0x88, 0x37][..]);
+    let second = read_identifier(&mut r).expect(&rt, "an identifier");
+    assert!(rt;
+        second == ObjectIdentifier::constant(&[0x2a, 0x86, 0x48, 0x86, 0xf7, 0x0d, 1, 7, 1])
+    );
+    assert!(rt; first != second);
+    assert!(rt; ObjectIdentifier::from_bytes(&[0x80, 1]) == Err(Error::Malformed));
+    assert!(rt; ObjectIdentifier::from_bytes(&[0x2b, 0x80]) == Err(Error::Malformed));
+    assert!(rt;
+        ObjectIdentifier::from_bytes(&[0x90, 0x80, 0x80, 0x80, 0]) == Err(Error::Malformed)
+    );
+    assert!(rt; ObjectIdentifier::from_bytes(&[]) == Err(Error::Malformed));
+    assert!(rt; ObjectIdentifier::from_bytes(&[1; 40]) == Err(Error::Malformed));
+    assert!(rt; ObjectIdentifier::from_bytes(&[1; 39]).is_ok());
+}
+
+#[test]
+fn texts_of_characters(rt: HostRuntime) {
+    let alloc = rt.alloc();
+    let mut ia5 = SliceReader::new(&[0x16, 2, 0x68, 0x69]);
+    let text = read_ia5(alloc, &mut ia5).expect(&rt, "a text");
+    assert!(rt; text.as_str() == "hi");
+    let mut high = SliceReader::new(&[0x16, 1, 0x80]);
+    assert!(rt; read_ia5(alloc, &mut high).is_err());
+    assert!(rt; high.position() == 0);
+    // U+1D11E by its pair of surrogates (RFC 2781, section 2.1 has the rule)
+    let mut pair = SliceReader::new(&[0x1e, 6, 0, 0x61, 0xd8, 0x34, 0xdd, 0x1e]);
+    let clef = read_bmp(alloc, &mut pair).expect(&rt, "a text");
+    assert!(rt; clef.as_str() == "a\u{1d11e}");
+    let mut lone = SliceReader::new(&[0x1e, 2, 0xd8, 0x34]);
+    assert!(rt; read_bmp(alloc, &mut lone).is_err());
+    let mut odd = SliceReader::new(&[0x1e, 3, 0, 0x61, 0]);
+    assert!(rt; read_bmp(alloc, &mut odd).is_err());
+}
+
+#[test]
+fn values_in_memory_of_their_own(rt: HostRuntime) {
+    let alloc = rt.alloc();
+    let mut octets = Octets::from_slice(alloc, &[1, 2]).expect(&rt, "octets");
+    octets.push(3).expect(&rt, "room");
+    octets.extend(&[4, 5]).expect(&rt, "room");
+    octets.as_mut_slice()[0] = 9;
+    let copy = octets.try_clone(alloc).expect(&rt, "octets");
+    octets.truncate(2);
+    assert!(rt; octets.as_slice() == &[9, 2][..]);
+    assert!(rt; copy.as_slice() == &[9, 2, 3, 4, 5][..]);
+    assert!(rt; octets < copy);
+    assert!(rt; !octets.is_empty());
+    let text = Text::from_text(alloc, "store").expect(&rt, "a text");
+    assert!(rt; text == text.try_clone(alloc).expect(&rt, "a text"));
+    let mut items: Items<u8> = Items::new(alloc);
+    items.push(7).expect(&rt, "room");
+    assert!(rt; items.get(0) == Some(&7));
+    assert!(rt; items.get(1).is_none());
+    assert!(rt; items.len() == 1);
+}
