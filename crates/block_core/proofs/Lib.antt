@@ -1,0 +1,6 @@
+mod Tables
+mod Schedule
+mod Groups
+mod Places
+mod AesVectors
+mod DesVectors

@@ -1,0 +1,6 @@
+use Rattle.std.proofs.Common.{arith}
+use Rattle.block_core.proofs.Tables.{inv_sbox_entry}
+use Rattle.block_core.proofs.sbox.inv_sub_byte.Goals as goal
+
+pub returns : goal.returns
+returns c = inv_sbox_entry c.args.a (omega arith)

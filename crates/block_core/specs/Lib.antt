@@ -1,0 +1,16 @@
+pub mod BlockCipher
+pub mod Field
+pub mod Sbox
+pub mod AesRounds
+pub mod AesKey
+pub mod Aes
+pub mod Bits
+pub mod DesTables
+pub mod Des
+pub mod Tdes
+pub mod TableLaws
+pub mod FieldLaws
+pub mod AesLaws
+pub mod BitsLaws
+pub mod DesLaws
+pub mod TdesLaws
