@@ -1,0 +1,24 @@
+use Rattle.std.proofs.Common.{arith, subst, ap, ◌∙◌, ◌+◌, ◌*◌, ◌/◌, ◌<◌, ◌≤◌, ◌≡◌, ℕ, length, refl}
+use Rattle.std.proofs.Math.Nat.{mul_comm}
+use Rattle.mac_modes.proofs.Chains.{opening_none, opening_more, opening_all, block_room}
+use Rattle.mac_modes.proofs.cbc.decrypt_blocks.Goals as goal
+
+pub loop-i-init : goal.loop-i-init
+loop-i-init g c = opening_none _ _ _ _ _ c.requires.iv c.copy_from_slice.ensures.after
+
+pub loop-i-preserved : goal.loop-i-preserved
+loop-i-preserved g c =
+    let n : ℕ = g.C.BlockCipher.BLOCK in
+    let size : c.BLOCK-size.result ≡ n = c.BLOCK-size.ensures in
+    let start : c.loop-i.i * c.BLOCK-size.result ≡ n * c.loop-i.i = ap (λ (r : ℕ). c.loop-i.i * r) size ∙ mul_comm c.loop-i.i n in
+    let room : n * c.loop-i.i + n ≤ length c.args.buffer.now =
+    block_room n (length c.args.buffer.now) c.loop-i.i (subst (λ (m : ℕ). c.loop-i.i < length c.args.buffer.now / m) size c.loop-i-test.true) in
+    opening_more (g.C.BlockCipher.decryption c.args.cipher.now) n c.args.iv.now c.args.buffer.now c.loop-i.buffer c.loop-i.previous
+    c.decrypt_one.new.text _ c.decrypt_one.new.previous c.loop-i.i _ _
+    c.requires.iv room c.loop-i.auto.buffer start (omega arith) c.decrypt_one.auto.text refl
+    c.decrypt_one.ensures.kept c.loop-i.invariant c.decrypt_one.ensures.text
+
+pub returns : goal.returns
+returns g c =
+    opening_all (g.C.BlockCipher.decryption c.args.cipher.now) g.C.BlockCipher.BLOCK c.args.iv.now c.args.buffer.now c.loop-i.buffer c.loop-i.previous
+    c.loop-i.i c.BLOCK-size.result c.BLOCK-size.ensures c.requires.whole c.loop-i.auto.buffer c.loop-i-test.false c.loop-i.auto.i-end c.loop-i.invariant

@@ -1,0 +1,13 @@
+pub mod HashFn
+pub mod Sha1Laws
+pub mod Prf
+pub mod Hmac
+pub mod HmacLaws
+pub mod Padding
+pub mod Cbc
+pub mod ModeError
+pub mod Faults
+pub mod Draw
+pub mod DrawnBytes
+pub mod FailingDraw
+pub mod OutsideDraw

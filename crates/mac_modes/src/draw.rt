@@ -1,0 +1,39 @@
+//! Where random octets come from.
+ghost use Rattle.std.specs.Prelude.{ℕ, List, codes, Some};
+ghost use Rattle.std.specs.declared.option.Option.{Option};
+ghost use Rattle.mac_modes.specs.Draw.{FailsShort, Fills};
+ghost use Rattle.mac_modes.specs.Faults.{HasCause};
+
+use std::error::Error;
+use std::fmt;
+
+/// A draw could not give the octets that it was asked for.
+#[derive(Clone, Copy, PartialEq, Eq, Debug, Drop)]
+pub struct Failed;
+
+impl fmt::Display for Failed {
+    ghost output = { λ _. Some (codes "Failed") };
+
+    fn fmt<W: fmt::Write>(&self, f: &mut fmt::Formatter<W>) -> fmt::Result {
+        f.write_str("Failed")
+    }
+}
+
+impl Error for Failed {}
+
+/// Where random octets come from. A draw may tell which octets are to come, in `left`, or nothing, and it counts its
+/// faults: the count never falls, and stays at `u64::MAX` once it stands there.
+pub trait Draw {
+    // the octets still to come, where the draw tells them
+    ghost left: { Self → Option (List ℕ) };
+
+    // how often a fill failed
+    ghost faults: { Self → ℕ };
+
+    /// Fills `out` with the next octets. `Failed` only where the count of faults rose, or stands at its last value;
+    /// over a draw that tells its octets exactly where fewer remain than `out` has, and none is taken then.
+    fn fill(&mut self, out: &mut [u8]) -> Result<(), Failed>
+        ensures drawn { Fills (left self.old) (left self.new) result out.new }
+        ensures short { FailsShort (left self.old) result out.old }
+        ensures cause { HasCause (faults self.old) (faults self.new) result };
+}

@@ -1,0 +1,68 @@
+//! A draw that fails at chosen calls.
+ghost use Rattle.std.specs.Prelude.{◌≡◌, List, None, OnOk, OnErr, IsErr};
+ghost use Rattle.mac_modes.specs.Draw.{FailsShort, Fills};
+ghost use Rattle.mac_modes.specs.FailingDraw.{FailingState, IsListed};
+ghost use Rattle.mac_modes.specs.Faults.{HasCause, one_more};
+
+use crate::draw::{Draw, Failed};
+use asn1_core::Items;
+use std::marker::Model;
+
+/// A draw that fails at chosen calls of `fill`, and else answers as the draw behind it. It does not tell its octets.
+#[derive(Debug, Drop)]
+pub struct FailingDraw<D> {
+    inner: D,
+    failing: Items<u64>,
+    call: u64,
+    faults: u64,
+}
+
+impl<D> Model for FailingDraw<D> {
+    ghost Value = { FailingState D };
+
+    ghost view = { λ d. record { inner = d.inner; failing = d.failing; call = d.call; faults = d.faults } };
+}
+
+impl<D: Draw> FailingDraw<D> {
+    /// The draw `inner` behind calls that fail. `failing` holds their numbers, counted from 0; the number of a call
+    /// stays at `u64::MAX` once it stands there.
+    pub fn new(inner: D, failing: Items<u64>) -> FailingDraw<D>
+        ensures { result ≡ record { inner = inner; failing = failing; call = 0; faults = 0 } }
+    {
+        FailingDraw {
+            inner,
+            failing,
+            call: 0,
+            faults: 0,
+        }
+    }
+}
+
+impl<D: Draw> Draw for FailingDraw<D> {
+    ghost left = { λ _. None };
+
+    ghost faults = { λ d. d.faults };
+
+    /// Fills `out`. `Failed` exactly at a listed call, which does not reach the draw behind, and where the draw
+    /// behind fails.
+    fn fill(&mut self, out: &mut [u8]) -> Result<(), Failed>
+        ensures drawn { Fills None None result out.new }
+        ensures short { FailsShort None result out.old }
+        ensures cause { HasCause self.old.faults self.new.faults result }
+        ensures listed { IsListed self.old → IsErr result × (self.new.inner ≡ self.old.inner) × (out.new ≡ out.old) }
+        ensures inner_drawn { ¬ IsListed self.old → Fills (D.left self.old.inner) (D.left self.new.inner) result out.new }
+        ensures inner_short { ¬ IsListed self.old → FailsShort (D.left self.old.inner) result out.old }
+        ensures inner_cause { ¬ IsListed self.old → HasCause (D.faults self.old.inner) (D.faults self.new.inner) result }
+        ensures no_fault { OnOk result (self.new.faults ≡ self.old.faults) }
+        ensures fault { OnErr result (self.new.faults ≡ one_more self.old.faults) }
+        ensures next { (self.new.call ≡ one_more self.old.call) × (self.new.failing ≡ self.old.failing) }
+    {
+        let listed = self.failing.as_slice().contains(&self.call);
+        self.call = self.call.saturating_add(1);
+        if !listed && self.inner.fill(out).is_ok() {
+            return Ok(());
+        }
+        self.faults = self.faults.saturating_add(1);
+        Err(Failed)
+    }
+}

@@ -1,0 +1,3 @@
+mod cbc_texts;
+mod draws;
+mod hmac_tags;

@@ -1,0 +1,111 @@
+//! Draws over octets in memory, and over a reader and a generator that may fail.
+use crate::{Draw, DrawnBytes, Failed, FailingDraw, ReadDraw, TryRngDraw};
+use asn1_core::{Items, Octets};
+use rand_core::TryRng;
+use std::alloc::Global;
+use std::fmt;
+use std::test::Fail;
+
+/// A draw of the octets 1 to 5.
+fn one_to_five(alloc: Global) -> Result<DrawnBytes, asn1_core::Error> {
+    Ok(DrawnBytes::new(Octets::from_slice(alloc, &[1, 2, 3, 4, 5])?))
+}
+
+#[test]
+fn drawn_bytes_come_in_order_until_too_few_are_left(rt: HostRuntime) -> Result<(), Fail> {
+    let mut draw = one_to_five(rt.alloc())?;
+    let mut pair = [0u8; 2];
+    assert_eq!(rt; draw.fill(&mut pair), Ok(()));
+    assert_eq!(rt; pair, [1, 2]);
+    let mut four = [9u8; 4];
+    assert_eq!(rt; draw.fill(&mut four), Err(Failed));
+    assert_eq!(rt; four, [9u8; 4]);
+    let mut three = [0u8; 3];
+    assert_eq!(rt; draw.fill(&mut three), Ok(()));
+    assert_eq!(rt; three, [3, 4, 5]);
+    assert_eq!(rt; draw.fill(&mut []), Ok(()));
+    assert_eq!(rt; draw.fill(&mut pair), Err(Failed));
+    Ok(())
+}
+
+#[test]
+fn a_draw_fails_at_the_listed_calls_and_where_the_draw_behind_it_fails(
+    rt: HostRuntime,
+) -> Result<(), Fail> {
+    let mut failing = Items::new(rt.alloc());
+    failing.push(1)?;
+    let mut draw = FailingDraw::new(one_to_five(rt.alloc())?, failing);
+    let mut pair = [0u8; 2];
+    assert_eq!(rt; draw.fill(&mut pair), Ok(()));
+    assert_eq!(rt; draw.fill(&mut pair), Err(Failed));
+    assert_eq!(rt; draw.fill(&mut pair), Ok(()));
+    assert_eq!(rt; pair, [3, 4]);
+    assert_eq!(rt; draw.fill(&mut pair), Err(Failed));
+    Ok(())
+}
+
+#[test]
+fn the_end_of_a_reader_is_a_fault(rt: HostRuntime) {
+    let octets = [1u8, 2, 3];
+    let mut draw = ReadDraw::new(octets.as_slice());
+    let mut pair = [0u8; 2];
+    assert_eq!(rt; draw.fill(&mut pair), Ok(()));
+    assert_eq!(rt; pair, [1, 2]);
+    assert_eq!(rt; draw.fill(&mut pair), Err(Failed));
+}
+
+/// Why the fake generator fails.
+#[derive(Debug, Drop)]
+struct Worn;
+
+impl fmt::Display for Worn {
+    fn fmt<W: fmt::Write>(&self, f: &mut fmt::Formatter<W>) -> fmt::Result {
+        f.write_str("worn")
+    }
+}
+
+impl std::error::Error for Worn {}
+
+/// A generator that gives ever the same octet, as often as it has draws left.
+#[derive(Drop)]
+struct FakeRng {
+    octet: u8,
+    draws_left: u32,
+}
+
+impl FakeRng {
+    fn draw(&mut self) -> Result<u8, Worn> {
+        self.draws_left = self.draws_left.checked_sub(1).ok_or(Worn)?;
+        Ok(self.octet)
+    }
+}
+
+impl TryRng for FakeRng {
+    type Error = Worn;
+
+    fn try_next_u32(&mut self) -> Result<u32, Worn> {
+        Ok(self.draw()? as u32)
+    }
+
+    fn try_next_u64(&mut self) -> Result<u64, Worn> {
+        Ok(self.draw()? as u64)
+    }
+
+    fn try_fill_bytes(&mut self, dst: &mut [u8]) -> Result<(), Worn> {
+        let octet = self.draw()?;
+        dst.fill(octet);
+        Ok(())
+    }
+}
+
+#[test]
+fn a_failure_of_a_generator_is_a_fault(rt: HostRuntime) {
+    let mut draw = TryRngDraw::new(FakeRng {
+        octet: 7,
+        draws_left: 1,
+    });
+    let mut pair = [0u8; 2];
+    assert_eq!(rt; draw.fill(&mut pair), Ok(()));
+    assert_eq!(rt; pair, [7, 7]);
+    assert_eq!(rt; draw.fill(&mut pair), Err(Failed));
+}
