@@ -1,0 +1,109 @@
+-- Laws of the definitions, for the crates above.
+use Rattle.std.proofs.Common.{◌≡◌, ℕ, zero, suc, inl, inr, ◌+◌, ◌*◌, ◌-◌, ◌≤◌, List, [], ◌∷◌, length, Bool, true, false, Option, Some, None, refl, arith, length-append, IsTrue, nat_lt}
+use Rattle.std.specs.Prelude.{All, if◌then◌else◌, ◌&&◌}
+use Rattle.std.specs.List.{flat_map}
+use Rattle.std.specs.Str.{chars, chars_after, continuation_len, lead_bits}
+use Rattle.std.specs.Int.{w16, to_be_bytes}
+use Rattle.std.proofs.lemmas.Bool.{ltb-true, lt-ltb, cases_lt, le-ltb}
+use Rattle.asn1_core.specs.Texts.{Within, Many}
+use Rattle.asn1_core.specs.OctetLaws.{both}
+use Rattle.asn1_core.specs.StandLaws.{whole_sole}
+use Rattle.p12.specs.declared.algorithm_identifier.AlgorithmIdentifier.{AlgorithmIdentifier}
+use Rattle.p12.specs.declared.algorithm_identifier.AlgorithmIdentifier.TheVariants.{Sha1, PbewithSHAAnd40BitRC2CBC, PbeWithSHAAnd3KeyTripleDESCBC, OtherAlg}
+use Rattle.p12.specs.declared.content_info.ContentInfo.{ContentInfo}
+use Rattle.p12.specs.declared.pfx.PFX.{PFX}
+use Rattle.p12.specs.declared.safe_bag.SafeBag.{SafeBag}
+use Rattle.p12.specs.AlgorithmIdentifier.{IsOpened, cost, is_blocks, taken, unlock, unlock_pbe, unpadded, triple_des_text}
+use Rattle.p12.specs.ContentInfo.{ContentFits, ContentText, IsContents}
+use Rattle.p12.specs.Password.{bmp_password, units_of_char}
+use Rattle.p12.specs.Pfx.{IsStore, PfxText, StoreFits}
+use Rattle.p12.specs.SafeBag.{BagText, IsBags}
+use Rattle.p12.proofs.BagRows.{bags-exact}
+use Rattle.p12.proofs.ContentRows.{contents-exact, pfx-exact}
+use Rattle.p12.proofs.Fits as fits
+
+-- ---- one text has one value
+
+pub store_sole : (b : List ℕ) (s t : PFX) → IsStore b s → IsStore b t → s ≡ t
+unfolding IsStore
+store_sole b s t p q = whole_sole PfxText _ pfx-exact b s t p q
+
+pub contents_sole : (b : List ℕ) (s t : List ContentInfo) → IsContents b s → IsContents b t → s ≡ t
+unfolding IsContents
+contents_sole b s t p q = whole_sole (Within 0x30 (Many ContentText)) _ contents-exact b s t p q
+
+pub bags_sole : (b : List ℕ) (s t : List SafeBag) → IsBags b s → IsBags b t → s ≡ t
+unfolding IsBags
+bags_sole b s t p q = whole_sole (Within 0x30 (Many BagText)) _ bags-exact b s t p q
+
+-- ---- a part is no longer than the whole
+
+pub store_fits : (b : List ℕ) (s : PFX) → IsStore b s → StoreFits (length b) s
+store_fits b s p = fits.store_fits b s p
+
+pub contents_fit : (b : List ℕ) (cs : List ContentInfo) → IsContents b cs → All (ContentFits (length b)) cs
+contents_fit b cs p = fits.contents_fit b cs p
+
+-- ---- opening a text
+
+not_none : (t : Bool) (r : Option (List ℕ)) (m : List ℕ) → (if t then r else None) ≡ Some m → IsTrue t
+not_none true r m e = refl
+not_none false r m e = absurd cc
+
+none_some : {P : Type 0} (m : List ℕ) → None ≡ Some m → P
+none_some m e = absurd cc
+
+triple_des_opened : (p : _) (q c m : List ℕ) → unlock_pbe (PbeWithSHAAnd3KeyTripleDESCBC p) q c ≡ Some m → IsOpened (PbeWithSHAAnd3KeyTripleDESCBC p) c
+unfolding unlock_pbe taken
+triple_des_opened p q c m h =
+    let t = both (nat_lt 0 p.iterations) (is_blocks c) (not_none (nat_lt 0 p.iterations && is_blocks c) (unpadded 8 (triple_des_text q p.salt p.iterations c)) m h) in
+    record { openable = refl; some_rounds = ltb-true 0 p.iterations t.0; all = rw t.1 refl }
+
+opened_pbe : (a : AlgorithmIdentifier) (q c m : List ℕ) → unlock_pbe a q c ≡ Some m → IsOpened a c
+unfolding unlock_pbe
+opened_pbe Sha1 q c m h = none_some m h
+opened_pbe (PbewithSHAAnd40BitRC2CBC p) q c m h = none_some m h
+opened_pbe (PbeWithSHAAnd3KeyTripleDESCBC p) q c m h = triple_des_opened p q c m h
+opened_pbe (OtherAlg o) q c m h = none_some m h
+
+pub unlock_opened : (a : AlgorithmIdentifier) (p c m : List ℕ) → unlock a p c ≡ Some m → IsOpened a c
+unfolding unlock
+unlock_opened a p c m h = opened_pbe a (bmp_password p) c m h
+
+at_most : (t : Bool) (n : ℕ) → (if t then n else 0) ≤ n
+at_most true n = omega arith
+at_most false n = omega arith
+
+pub taken_most : (a : AlgorithmIdentifier) (c : List ℕ) → taken a c ≤ cost a
+unfolding taken
+taken_most a c = at_most (is_blocks c) (cost a)
+
+-- ---- the octets of a password
+
+after_length : (n c : ℕ) (bs : List ℕ) → length (chars_after n c bs) ≤ length bs + 1
+after_length zero c [] = omega arith
+after_length zero c (b ∷ bs) = omega (arith, after_length (continuation_len b) (lead_bits b) bs)
+after_length (suc n) c [] = omega arith
+after_length (suc n) c (b ∷ bs) = omega (arith, after_length n (c * 64 + (b - 128)) bs)
+
+chars_length : (p : List ℕ) → length (chars p) ≤ length p
+unfolding chars
+chars_length [] = omega arith
+chars_length (b ∷ bs) = omega (arith, after_length (continuation_len b) (lead_bits b) bs)
+
+unit_size : (u : ℕ) → length (to_be_bytes w16 u) ≡ 2
+unit_size u = refl
+
+units_size : (c : ℕ) → length (units_of_char c) ≤ 4
+units_size c = elim (cases_lt c 0x1_0000) [
+  | inl low ↦ rw (lt-ltb c 0x1_0000 low) (omega (arith, unit_size c))
+  | inr high ↦ rw (le-ltb c 0x1_0000 high) (omega arith)
+]
+
+all_units_size : (cs : List ℕ) → length (flat_map units_of_char cs) ≤ 4 * length cs
+all_units_size [] = omega arith
+all_units_size (c ∷ cs) = omega (arith, length-append (units_of_char c) (flat_map units_of_char cs), units_size c, all_units_size cs)
+
+pub password_fits : (p : List ℕ) → length (bmp_password p) ≤ 4 * length p + 2
+unfolding bmp_password
+password_fits p = omega (arith, length-append (flat_map units_of_char (chars p)) (0 ∷ 0 ∷ []), all_units_size (chars p), chars_length p)

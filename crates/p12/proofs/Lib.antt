@@ -1,0 +1,11 @@
+pub mod AlgorithmRows
+pub mod ContentRows
+pub mod BagRows
+pub mod Public
+pub mod Sums
+pub mod Texts
+pub mod Paddings
+pub mod Opened
+pub mod Macs
+pub mod Fits
+pub mod Laws

@@ -1,0 +1,12 @@
+use Rattle.std.proofs.lemmas.Result.{err_from_is_err_and}
+use Rattle.p12.proofs.ContentRows.{encrypted_data-exact}
+use Rattle.p12.proofs.Public.{refused}
+use Rattle.p12.proofs.encrypted_data.EncryptedData.parse.Goals as goal
+
+pub returns-in_err-encrypted_data_in_front : goal.returns-in_err-encrypted_data_in_front
+returns-in_err-encrypted_data_in_front c =
+    let p = err_from_is_err_and c.from_residual.result c.from_residual.ensures.1 in
+    rw (p.1, p.2) (refused encrypted_data-exact _ _ _ c.in_err-encrypted_data_in_front.ensures)
+
+pub returns : goal.returns
+returns c = encrypted_data-exact.found _ _ _ c.in_ok-encrypted_data_in_front.ensures

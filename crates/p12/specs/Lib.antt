@@ -1,0 +1,16 @@
+pub mod Identifiers
+pub mod Error
+pub mod Numbers
+pub mod Derivation
+pub mod Password
+pub mod AlgorithmIdentifier
+pub mod DigestInfo
+pub mod MacData
+pub mod EncryptedData
+pub mod ContentInfo
+pub mod EncryptedPrivateKeyInfo
+pub mod CertBag
+pub mod Attribute
+pub mod SafeBag
+pub mod Pfx
+pub mod Reading

@@ -1,0 +1,24 @@
+-- Stores (RFC 7292 section 4).
+use Rattle.std.specs.Prelude.{ℕ, ◌≤◌, List, length, IfSome}
+use Rattle.asn1_core.specs.Texts.{Perhaps, Uint}
+use Rattle.asn1_core.specs.Fields.{Field, End, Sequence}
+use Rattle.asn1_core.specs.Der.{IsShort}
+use Rattle.p12.specs.ContentInfo.{ContentText, ContentFits}
+use Rattle.p12.specs.MacData.{MacText}
+use Rattle.p12.specs.declared.pfx.PFX.{PFX}
+
+-- PFX ::= SEQUENCE { version INTEGER, authSafe ContentInfo, macData MacData OPTIONAL }, the version below 256
+abbrev pub PfxText : List ℕ → PFX → Type 0
+PfxText = Sequence (Field (Uint 0xff) (λ s. s.version) (Field ContentText (λ s. s.auth_safe) (Field (Perhaps MacText) (λ s. s.mac_data) End)))
+
+-- these octets are this store
+unfoldable pub IsStore : List ℕ → PFX → Type 0
+IsStore b s = PfxText b s × IsShort b
+
+-- they are no store
+abbrev pub NoStore : List ℕ → Type 0
+NoStore b = (s : PFX) → IsStore b s → ⊥
+
+-- its outer content holds at most n octets, and so does the salt of its MAC
+abbrev pub StoreFits : ℕ → PFX → Type 0
+StoreFits n s = ContentFits n s.auth_safe × IfSome s.mac_data (λ m. length m.salt ≤ n)

@@ -1,0 +1,225 @@
+//! Algorithms of PKCS#12.
+ghost use Rattle.std.specs.Prelude.{◌≡◌, ◌<◌, length, OnOk, IfOk, IfErr};
+ghost use Rattle.asn1_core.specs.Gives.{ReadsIn, GivesIn};
+ghost use Rattle.p12.specs.AlgorithmIdentifier.{AlgorithmText, ParamsText};
+ghost use Rattle.p12.specs.Error.{Reads};
+ghost use Rattle.p12.specs.Reading.{params_at, sha1_all, rc2_all, triple_des_all, other_algorithm_all, algorithm_all, algorithm_at};
+
+use crate::error::Error;
+use crate::identifiers::{
+    PBE_WITH_SHA1_AND_3KEY_TRIPLE_DES_CBC, PBE_WITH_SHA1_AND_40BIT_RC2_CBC, SHA1,
+};
+use asn1_core::{
+    ObjectIdentifier, Octets, Reader, SliceReader, Tag, read_identifier, read_inner, read_raw,
+    read_uint,
+};
+use std::alloc::Global;
+
+/// The parameters of a password-based scheme (RFC 7292 appendix C): the salt, and how many rounds derive its key.
+///
+/// ```text
+/// pkcs-12PbeParams ::= SEQUENCE { salt OCTET STRING, iterations INTEGER }
+/// ```
+#[derive(Debug, PartialEq, Eq, Drop)]
+pub struct Pkcs12PbeParams {
+    pub salt: Octets,
+    pub iterations: u64,
+}
+
+/// An algorithm that is none of those that stores are written with here: its identifier, and its parameters as they stand.
+#[derive(Debug, PartialEq, Eq, Drop)]
+pub struct OtherAlgorithmIdentifier {
+    pub algorithm_type: ObjectIdentifier,
+    pub params: Option<Octets>,
+}
+
+/// An algorithm and its parameters (RFC 5280 section 4.1.1.2).
+///
+/// ```text
+/// AlgorithmIdentifier ::= SEQUENCE { algorithm OBJECT IDENTIFIER, parameters ANY OPTIONAL }
+/// ```
+#[derive(Debug, PartialEq, Eq, Drop)]
+pub enum AlgorithmIdentifier {
+    /// The digest of the MAC.
+    Sha1,
+    /// RC2 with 40 bits (RFC 7292 appendix C), which is read and never opened.
+    PbewithSHAAnd40BitRC2CBC(Pkcs12PbeParams),
+    /// Triple DES with three keys (RFC 7292 appendix C).
+    PbeWithSHAAnd3KeyTripleDESCBC(Pkcs12PbeParams),
+    OtherAlg(OtherAlgorithmIdentifier),
+}
+
+#[tactic(auto, unfolding(crate::specs::Reading::params_at))]
+fn params_in_front(
+    alloc: Global,
+    r: &mut SliceReader<'_>,
+) -> Result<Pkcs12PbeParams, asn1_core::Error>
+    ensures { ReadsIn params_at (λ x. x) r.old.rest.now r.new.rest.now result }
+{
+    let mut ahead = *r;
+    let mut body = read_inner(&mut ahead, Tag::SEQUENCE)?;
+    let salt = read_inner(&mut body, Tag::OCTET_STRING)?;
+    let iterations = read_uint(&mut body, u64::MAX)?;
+    body.finish()?;
+    let salt = Octets::from_slice(alloc, salt.rest)?;
+    *r = ahead;
+    Ok(Pkcs12PbeParams { salt, iterations })
+}
+
+fn sha1_parameters(mut body: SliceReader<'_>) -> Result<AlgorithmIdentifier, asn1_core::Error>
+    ensures { GivesIn (λ x. x) result (sha1_all body.entry.rest.now) }
+{
+    if body.is_finished() {
+        return Ok(AlgorithmIdentifier::Sha1);
+    }
+    let null = read_inner(&mut body, Tag::NULL)?;
+    null.finish()?;
+    body.finish()?;
+    Ok(AlgorithmIdentifier::Sha1)
+}
+
+fn rc2_parameters(
+    alloc: Global,
+    mut body: SliceReader<'_>,
+) -> Result<AlgorithmIdentifier, asn1_core::Error>
+    ensures { GivesIn (λ x. x) result (rc2_all body.entry.rest.now) }
+{
+    let params = params_in_front(alloc, &mut body)?;
+    body.finish()?;
+    Ok(AlgorithmIdentifier::PbewithSHAAnd40BitRC2CBC(params))
+}
+
+fn triple_des_parameters(
+    alloc: Global,
+    mut body: SliceReader<'_>,
+) -> Result<AlgorithmIdentifier, asn1_core::Error>
+    ensures { GivesIn (λ x. x) result (triple_des_all body.entry.rest.now) }
+{
+    let params = params_in_front(alloc, &mut body)?;
+    body.finish()?;
+    Ok(AlgorithmIdentifier::PbeWithSHAAnd3KeyTripleDESCBC(params))
+}
+
+fn other_parameters(
+    alloc: Global,
+    algorithm_type: ObjectIdentifier,
+    mut body: SliceReader<'_>,
+) -> Result<AlgorithmIdentifier, asn1_core::Error>
+    ensures { GivesIn (λ x. x) result (other_algorithm_all algorithm_type body.entry.rest.now) }
+{
+    if body.is_finished() {
+        return Ok(AlgorithmIdentifier::OtherAlg(OtherAlgorithmIdentifier {
+            algorithm_type,
+            params: None,
+        }));
+    }
+    let value = read_raw(&mut body)?;
+    body.finish()?;
+    let params = Octets::from_slice(alloc, value)?;
+    Ok(AlgorithmIdentifier::OtherAlg(OtherAlgorithmIdentifier {
+        algorithm_type,
+        params: Some(params),
+    }))
+}
+
+fn algorithm_of(
+    alloc: Global,
+    algorithm_type: ObjectIdentifier,
+    body: SliceReader<'_>,
+) -> Result<AlgorithmIdentifier, asn1_core::Error>
+    ensures { GivesIn (λ x. x) result (algorithm_all algorithm_type body.entry.rest.now) }
+{
+    if algorithm_type == SHA1 {
+        sha1_parameters(body)
+    } else if algorithm_type == PBE_WITH_SHA1_AND_40BIT_RC2_CBC {
+        rc2_parameters(alloc, body)
+    } else if algorithm_type == PBE_WITH_SHA1_AND_3KEY_TRIPLE_DES_CBC {
+        triple_des_parameters(alloc, body)
+    } else {
+        other_parameters(alloc, algorithm_type, body)
+    }
+}
+
+#[tactic(auto, unfolding(crate::specs::Reading::algorithm_at))]
+pub(crate) fn algorithm_in_front(
+    alloc: Global,
+    r: &mut SliceReader<'_>,
+) -> Result<AlgorithmIdentifier, asn1_core::Error>
+    ensures { ReadsIn algorithm_at (λ x. x) r.old.rest.now r.new.rest.now result }
+{
+    let mut ahead = *r;
+    let mut body = read_inner(&mut ahead, Tag::SEQUENCE)?;
+    let algorithm_type = read_identifier(&mut body)?;
+    let algorithm = algorithm_of(alloc, algorithm_type, body)?;
+    *r = ahead;
+    Ok(algorithm)
+}
+
+impl Pkcs12PbeParams {
+    /// The parameters that stand next. `Malformed` exactly where none do; the reader then stands where it stood.
+    pub fn parse(alloc: Global, r: &mut SliceReader<'_>) -> Result<Pkcs12PbeParams, Error>
+        ensures { Reads ParamsText r.old.rest.now r.new.rest.now result }
+    {
+        Ok(params_in_front(alloc, r)?)
+    }
+}
+
+impl AlgorithmIdentifier {
+    /// The algorithm that stands next. `Malformed` exactly where none does; the reader then stands where it stood.
+    pub fn parse(alloc: Global, r: &mut SliceReader<'_>) -> Result<AlgorithmIdentifier, Error>
+        ensures { Reads AlgorithmText r.old.rest.now r.new.rest.now result }
+    {
+        Ok(algorithm_in_front(alloc, r)?)
+    }
+}
+
+impl Pkcs12PbeParams {
+    /// An equal value in memory of its own. The only refusal is `Memory`.
+    pub fn try_clone(&self, alloc: Global) -> Result<Pkcs12PbeParams, Error>
+        ensures ok { IfOk result (λ v. v ≡ self.now) }
+        ensures err { IfErr result (λ e. e ≡ Error.Memory) }
+    {
+        Ok(Pkcs12PbeParams {
+            salt: self.salt.try_clone(alloc)?,
+            iterations: self.iterations,
+        })
+    }
+}
+
+impl OtherAlgorithmIdentifier {
+    /// An equal value in memory of its own. The only refusal is `Memory`.
+    pub fn try_clone(&self, alloc: Global) -> Result<OtherAlgorithmIdentifier, Error>
+        ensures ok { IfOk result (λ v. v ≡ self.now) }
+        ensures err { IfErr result (λ e. e ≡ Error.Memory) }
+    {
+        let params = match &self.params {
+            Some(params) => Some(params.try_clone(alloc)?),
+            None => None,
+        };
+        Ok(OtherAlgorithmIdentifier {
+            algorithm_type: self.algorithm_type,
+            params,
+        })
+    }
+}
+
+impl AlgorithmIdentifier {
+    /// An equal value in memory of its own. The only refusal is `Memory`.
+    pub fn try_clone(&self, alloc: Global) -> Result<AlgorithmIdentifier, Error>
+        ensures ok { IfOk result (λ v. v ≡ self.now) }
+        ensures err { IfErr result (λ e. e ≡ Error.Memory) }
+    {
+        Ok(match self {
+            AlgorithmIdentifier::Sha1 => AlgorithmIdentifier::Sha1,
+            AlgorithmIdentifier::PbewithSHAAnd40BitRC2CBC(params) => {
+                AlgorithmIdentifier::PbewithSHAAnd40BitRC2CBC(params.try_clone(alloc)?)
+            }
+            AlgorithmIdentifier::PbeWithSHAAnd3KeyTripleDESCBC(params) => {
+                AlgorithmIdentifier::PbeWithSHAAnd3KeyTripleDESCBC(params.try_clone(alloc)?)
+            }
+            AlgorithmIdentifier::OtherAlg(other) => {
+                AlgorithmIdentifier::OtherAlg(other.try_clone(alloc)?)
+            }
+        })
+    }
+}

@@ -1,0 +1,214 @@
+//! Contents.
+ghost use Rattle.std.specs.Prelude.{◌≡◌, ◌<◌, ◌^◌, length, OnOk, IfOk, IfErr};
+ghost use Rattle.asn1_core.specs.Gives.{ReadsIn, GivesIn};
+ghost use Rattle.asn1_core.specs.Reading.{many};
+ghost use Rattle.p12.specs.ContentInfo.{ContentText, content_oid, held, held_salt, plain_pbe, IsContents, NoContents};
+ghost use Rattle.p12.specs.Error.{MalformedOnly, Reads};
+ghost use Rattle.p12.specs.Reading.{data_all, encrypted_all, other_content_all, content_all, content_at, contents_at};
+ghost use Rattle.asn1_core.specs.Reading.{whole};
+ghost use Rattle.asn1_core.specs.Oid.{oid_octets};
+
+use crate::encrypted_data::{EncryptedData, encrypted_data_in_front};
+use crate::error::Error;
+use crate::identifiers::{DATA, ENCRYPTED_DATA};
+use asn1_core::{
+    Items, ObjectIdentifier, Octets, Reader, SliceReader, Tag, read_identifier, read_inner,
+    read_raw,
+};
+use std::alloc::Global;
+
+/// A content of another kind than those of stores: its identifier, and the one element that it holds.
+#[derive(Debug, Drop)]
+pub struct OtherContext {
+    pub content_type: ObjectIdentifier,
+    pub content: Octets,
+}
+
+/// A content of a store (RFC 7292 section 4.1; RFC 5652 section 3).
+///
+/// ```text
+/// ContentInfo ::= SEQUENCE { contentType OBJECT IDENTIFIER, content [0] EXPLICIT ANY }
+/// ```
+#[derive(Debug, Drop)]
+pub enum ContentInfo {
+    Data(Octets),
+    EncryptedData(EncryptedData),
+    OtherContext(OtherContext),
+}
+
+fn data_content(alloc: Global, mut body: SliceReader<'_>) -> Result<ContentInfo, asn1_core::Error>
+    ensures { GivesIn (λ x. x) result (data_all body.entry.rest.now) }
+{
+    let mut explicit = read_inner(&mut body, Tag::CONTEXT_0)?;
+    let value = read_inner(&mut explicit, Tag::OCTET_STRING)?;
+    explicit.finish()?;
+    body.finish()?;
+    Ok(ContentInfo::Data(Octets::from_slice(alloc, value.rest)?))
+}
+
+fn encrypted_content(
+    alloc: Global,
+    mut body: SliceReader<'_>,
+) -> Result<ContentInfo, asn1_core::Error>
+    ensures { GivesIn (λ x. x) result (encrypted_all body.entry.rest.now) }
+{
+    let mut explicit = read_inner(&mut body, Tag::CONTEXT_0)?;
+    let encrypted = encrypted_data_in_front(alloc, &mut explicit)?;
+    explicit.finish()?;
+    body.finish()?;
+    Ok(ContentInfo::EncryptedData(encrypted))
+}
+
+fn other_content(
+    alloc: Global,
+    content_type: ObjectIdentifier,
+    mut body: SliceReader<'_>,
+) -> Result<ContentInfo, asn1_core::Error>
+    ensures { GivesIn (λ x. x) result (other_content_all content_type body.entry.rest.now) }
+{
+    let mut explicit = read_inner(&mut body, Tag::CONTEXT_0)?;
+    let value = read_raw(&mut explicit)?;
+    explicit.finish()?;
+    body.finish()?;
+    let content = Octets::from_slice(alloc, value)?;
+    Ok(ContentInfo::OtherContext(OtherContext {
+        content_type,
+        content,
+    }))
+}
+
+fn content_of(
+    alloc: Global,
+    content_type: ObjectIdentifier,
+    body: SliceReader<'_>,
+) -> Result<ContentInfo, asn1_core::Error>
+    ensures { GivesIn (λ x. x) result (content_all content_type body.entry.rest.now) }
+{
+    if content_type == DATA {
+        data_content(alloc, body)
+    } else if content_type == ENCRYPTED_DATA {
+        encrypted_content(alloc, body)
+    } else {
+        other_content(alloc, content_type, body)
+    }
+}
+
+#[tactic(auto, unfolding(crate::specs::Reading::content_at))]
+pub(crate) fn content_in_front(
+    alloc: Global,
+    r: &mut SliceReader<'_>,
+) -> Result<ContentInfo, asn1_core::Error>
+    ensures exact { ReadsIn content_at (λ x. x) r.old.rest.now r.new.rest.now result }
+    ensures shorter { OnOk result (length r.new.rest.now < length r.old.rest.now) }
+{
+    let mut ahead = *r;
+    let mut body = read_inner(&mut ahead, Tag::SEQUENCE)?;
+    let content_type = read_identifier(&mut body)?;
+    let content = content_of(alloc, content_type, body)?;
+    *r = ahead;
+    Ok(content)
+}
+
+fn contents(
+    alloc: Global,
+    mut body: SliceReader<'_>,
+) -> Result<Items<ContentInfo>, asn1_core::Error>
+    ensures { GivesIn (λ x. x) result (many content_at body.entry.rest.now) }
+{
+    let mut items = Items::new(alloc);
+    while !body.is_finished() {
+        let item = content_in_front(alloc, &mut body)?;
+        items.push(item)?;
+    }
+    Ok(items)
+}
+
+#[tactic(auto, unfolding(crate::specs::Reading::contents_at))]
+fn all_contents(alloc: Global, bytes: &[u8]) -> Result<Items<ContentInfo>, asn1_core::Error>
+    ensures { GivesIn (λ x. x) result (whole contents_at bytes.now) }
+{
+    let mut r = SliceReader::new(bytes);
+    let body = read_inner(&mut r, Tag::SEQUENCE)?;
+    let items = contents(alloc, body)?;
+    r.finish()?;
+    Ok(items)
+}
+
+impl ContentInfo {
+    /// The content that stands next. `Malformed` exactly where none does; the reader then stands where it stood.
+    pub fn parse(alloc: Global, r: &mut SliceReader<'_>) -> Result<ContentInfo, Error>
+        ensures { Reads ContentText r.old.rest.now r.new.rest.now result }
+    {
+        Ok(content_in_front(alloc, r)?)
+    }
+
+    /// The contents that these octets list (AuthenticatedSafe, RFC 7292 section 4.1). `Malformed` exactly where they are no
+    /// list of contents.
+    pub fn parse_all(alloc: Global, bytes: &[u8]) -> Result<Items<ContentInfo>, Error>
+        ensures ok { IfOk result (λ x. IsContents bytes.now x) }
+        ensures err { IfErr result (λ e. MalformedOnly e (NoContents bytes.now)) }
+    {
+        Ok(all_contents(alloc, bytes)?)
+    }
+}
+
+impl OtherContext {
+    /// An equal value in memory of its own. The only refusal is `Memory`.
+    pub fn try_clone(&self, alloc: Global) -> Result<OtherContext, Error>
+        ensures ok { IfOk result (λ v. v ≡ self.now) }
+        ensures err { IfErr result (λ e. e ≡ Error.Memory) }
+    {
+        Ok(OtherContext {
+            content_type: self.content_type,
+            content: self.content.try_clone(alloc)?,
+        })
+    }
+}
+
+impl ContentInfo {
+    /// An equal value in memory of its own. The only refusal is `Memory`.
+    pub fn try_clone(&self, alloc: Global) -> Result<ContentInfo, Error>
+        ensures ok { IfOk result (λ v. v ≡ self.now) }
+        ensures err { IfErr result (λ e. e ≡ Error.Memory) }
+    {
+        Ok(match self {
+            ContentInfo::Data(octets) => ContentInfo::Data(octets.try_clone(alloc)?),
+            ContentInfo::EncryptedData(encrypted) => {
+                ContentInfo::EncryptedData(encrypted.try_clone(alloc)?)
+            }
+            ContentInfo::OtherContext(other) => ContentInfo::OtherContext(other.try_clone(alloc)?),
+        })
+    }
+}
+
+impl ContentInfo {
+    /// The identifier of the content's kind.
+    pub fn oid(&self) -> ObjectIdentifier
+        ensures { oid_octets result ≡ content_oid self.now }
+    {
+        match self {
+            ContentInfo::Data(_) => DATA,
+            ContentInfo::EncryptedData(_) => ENCRYPTED_DATA,
+            ContentInfo::OtherContext(other) => other.content_type,
+        }
+    }
+
+    /// The plain octets under a password, which comes as `bmp_string` gives it: those of a plain content as they are, those of an
+    /// encrypted one as `decrypt_pbe` gives them. None exactly for a content of another kind, and where `decrypt_pbe` gives none. The
+    /// only refusal is `Memory`.
+    ///
+    /// Caller: the encrypted octets are fewer than 2^32, password and salt fewer than 2^59 each.
+    pub fn data(&self, alloc: Global, password: &[u8]) -> Result<Option<Octets>, Error>
+        requires content { length (held self.now) < 2 ^ 32 }
+        requires salt { length (held_salt self.now) < 2 ^ 59 }
+        requires password { length password.now < 2 ^ 59 }
+        ensures value { IfOk result (λ m. m ≡ plain_pbe self.now password.now) }
+        ensures err { IfErr result (λ e. e ≡ Error.Memory) }
+    {
+        match self {
+            ContentInfo::Data(octets) => Ok(Some(octets.try_clone(alloc)?)),
+            ContentInfo::EncryptedData(encrypted) => encrypted.data(alloc, password),
+            ContentInfo::OtherContext(_) => Ok(None),
+        }
+    }
+}

@@ -1,0 +1,64 @@
+//! A digest and its algorithm.
+ghost use Rattle.std.specs.Prelude.{◌≡◌, ◌<◌, length, OnOk, IfOk, IfErr};
+ghost use Rattle.asn1_core.specs.Gives.{ReadsIn, GivesIn};
+ghost use Rattle.p12.specs.DigestInfo.{DigestText};
+ghost use Rattle.p12.specs.Error.{Reads};
+ghost use Rattle.p12.specs.Reading.{digest_at};
+
+use crate::algorithm_identifier::{AlgorithmIdentifier, algorithm_in_front};
+use crate::error::Error;
+use asn1_core::{Octets, Reader, SliceReader, Tag, read_inner};
+use std::alloc::Global;
+
+/// A digest and the algorithm that made it (RFC 2315 section 9.4).
+///
+/// ```text
+/// DigestInfo ::= SEQUENCE { digestAlgorithm AlgorithmIdentifier, digest OCTET STRING }
+/// ```
+#[derive(Debug, Drop)]
+pub struct DigestInfo {
+    pub digest_algorithm: AlgorithmIdentifier,
+    pub digest: Octets,
+}
+
+#[tactic(auto, unfolding(crate::specs::Reading::digest_at))]
+pub(crate) fn digest_in_front(
+    alloc: Global,
+    r: &mut SliceReader<'_>,
+) -> Result<DigestInfo, asn1_core::Error>
+    ensures { ReadsIn digest_at (λ x. x) r.old.rest.now r.new.rest.now result }
+{
+    let mut ahead = *r;
+    let mut body = read_inner(&mut ahead, Tag::SEQUENCE)?;
+    let digest_algorithm = algorithm_in_front(alloc, &mut body)?;
+    let digest = read_inner(&mut body, Tag::OCTET_STRING)?;
+    body.finish()?;
+    let digest = Octets::from_slice(alloc, digest.rest)?;
+    *r = ahead;
+    Ok(DigestInfo {
+        digest_algorithm,
+        digest,
+    })
+}
+
+impl DigestInfo {
+    /// The digest that stands next. `Malformed` exactly where none does; the reader then stands where it stood.
+    pub fn parse(alloc: Global, r: &mut SliceReader<'_>) -> Result<DigestInfo, Error>
+        ensures { Reads DigestText r.old.rest.now r.new.rest.now result }
+    {
+        Ok(digest_in_front(alloc, r)?)
+    }
+}
+
+impl DigestInfo {
+    /// An equal value in memory of its own. The only refusal is `Memory`.
+    pub fn try_clone(&self, alloc: Global) -> Result<DigestInfo, Error>
+        ensures ok { IfOk result (λ v. v ≡ self.now) }
+        ensures err { IfErr result (λ e. e ≡ Error.Memory) }
+    {
+        Ok(DigestInfo {
+            digest_algorithm: self.digest_algorithm.try_clone(alloc)?,
+            digest: self.digest.try_clone(alloc)?,
+        })
+    }
+}

@@ -1,0 +1,153 @@
+//! Encrypted contents.
+ghost use Rattle.std.specs.Prelude.{◌≡◌, ◌<◌, ◌^◌, length, OnOk, IfOk, IfErr};
+ghost use Rattle.asn1_core.specs.Gives.{ReadsIn, GivesIn};
+ghost use Rattle.p12.specs.EncryptedData.{EncryptedContentText, EncryptedDataText};
+ghost use Rattle.p12.specs.Error.{Reads};
+ghost use Rattle.p12.specs.Reading.{encrypted_content_at, encrypted_data_at};
+ghost use Rattle.p12.specs.AlgorithmIdentifier.{salt_of, unlock_pbe};
+
+use crate::algorithm_identifier::{AlgorithmIdentifier, algorithm_in_front};
+use crate::error::Error;
+use crate::identifiers::DATA;
+use asn1_core::{Octets, Reader, SliceReader, Tag, read_identifier, read_inner, read_uint};
+use std::alloc::Global;
+
+/// Octets that are encrypted, and how (RFC 5652 section 8). Their kind is always id-data.
+///
+/// ```text
+/// EncryptedContentInfo ::= SEQUENCE { contentType id-data, contentEncryptionAlgorithm AlgorithmIdentifier,
+///     encryptedContent [0] IMPLICIT OCTET STRING }
+/// ```
+#[derive(Debug, Drop)]
+pub struct EncryptedContentInfo {
+    pub content_encryption_algorithm: AlgorithmIdentifier,
+    pub encrypted_content: Octets,
+}
+
+/// An encrypted content of version 0 (RFC 5652 section 8).
+///
+/// ```text
+/// EncryptedData ::= SEQUENCE { version INTEGER (0), encryptedContentInfo EncryptedContentInfo }
+/// ```
+#[derive(Debug, Drop)]
+pub struct EncryptedData {
+    pub encrypted_content_info: EncryptedContentInfo,
+}
+
+#[tactic(auto, unfolding(crate::specs::Reading::encrypted_content_at))]
+fn encrypted_content_in_front(
+    alloc: Global,
+    r: &mut SliceReader<'_>,
+) -> Result<EncryptedContentInfo, asn1_core::Error>
+    ensures { ReadsIn encrypted_content_at (λ x. x) r.old.rest.now r.new.rest.now result }
+{
+    let mut ahead = *r;
+    let mut body = read_inner(&mut ahead, Tag::SEQUENCE)?;
+    if read_identifier(&mut body)? != DATA {
+        return Err(asn1_core::Error::Malformed);
+    }
+    let content_encryption_algorithm = algorithm_in_front(alloc, &mut body)?;
+    let content = read_inner(&mut body, Tag::PRIMITIVE_CONTEXT_0)?;
+    body.finish()?;
+    let encrypted_content = Octets::from_slice(alloc, content.rest)?;
+    *r = ahead;
+    Ok(EncryptedContentInfo {
+        content_encryption_algorithm,
+        encrypted_content,
+    })
+}
+
+#[tactic(auto, unfolding(crate::specs::Reading::encrypted_data_at))]
+pub(crate) fn encrypted_data_in_front(
+    alloc: Global,
+    r: &mut SliceReader<'_>,
+) -> Result<EncryptedData, asn1_core::Error>
+    ensures { ReadsIn encrypted_data_at (λ x. x) r.old.rest.now r.new.rest.now result }
+{
+    let mut ahead = *r;
+    let mut body = read_inner(&mut ahead, Tag::SEQUENCE)?;
+    if read_uint(&mut body, 0xff)? != 0 {
+        return Err(asn1_core::Error::Malformed);
+    }
+    let encrypted_content_info = encrypted_content_in_front(alloc, &mut body)?;
+    body.finish()?;
+    *r = ahead;
+    Ok(EncryptedData {
+        encrypted_content_info,
+    })
+}
+
+impl EncryptedContentInfo {
+    /// The encrypted octets that stand next. `Malformed` exactly where none do; the reader then stands where it stood.
+    pub fn parse(alloc: Global, r: &mut SliceReader<'_>) -> Result<EncryptedContentInfo, Error>
+        ensures { Reads EncryptedContentText r.old.rest.now r.new.rest.now result }
+    {
+        Ok(encrypted_content_in_front(alloc, r)?)
+    }
+}
+
+impl EncryptedData {
+    /// The encrypted content that stands next. `Malformed` exactly where none does; the reader then stands where it stood.
+    pub fn parse(alloc: Global, r: &mut SliceReader<'_>) -> Result<EncryptedData, Error>
+        ensures { Reads EncryptedDataText r.old.rest.now r.new.rest.now result }
+    {
+        Ok(encrypted_data_in_front(alloc, r)?)
+    }
+}
+
+impl EncryptedContentInfo {
+    /// An equal value in memory of its own. The only refusal is `Memory`.
+    pub fn try_clone(&self, alloc: Global) -> Result<EncryptedContentInfo, Error>
+        ensures ok { IfOk result (λ v. v ≡ self.now) }
+        ensures err { IfErr result (λ e. e ≡ Error.Memory) }
+    {
+        Ok(EncryptedContentInfo {
+            content_encryption_algorithm: self.content_encryption_algorithm.try_clone(alloc)?,
+            encrypted_content: self.encrypted_content.try_clone(alloc)?,
+        })
+    }
+}
+
+impl EncryptedData {
+    /// An equal value in memory of its own. The only refusal is `Memory`.
+    pub fn try_clone(&self, alloc: Global) -> Result<EncryptedData, Error>
+        ensures ok { IfOk result (λ v. v ≡ self.now) }
+        ensures err { IfErr result (λ e. e ≡ Error.Memory) }
+    {
+        Ok(EncryptedData {
+            encrypted_content_info: self.encrypted_content_info.try_clone(alloc)?,
+        })
+    }
+}
+
+impl EncryptedContentInfo {
+    /// The plain octets under a password, which comes as `bmp_string` gives it; None exactly where `decrypt_pbe` gives none. The
+    /// only refusal is `Memory`.
+    ///
+    /// Caller: the encrypted octets are fewer than 2^32, password and salt fewer than 2^59 each.
+    pub fn data(&self, alloc: Global, password: &[u8]) -> Result<Option<Octets>, Error>
+        requires content { length self.now.encrypted_content < 2 ^ 32 }
+        requires salt { length (salt_of self.now.content_encryption_algorithm) < 2 ^ 59 }
+        requires password { length password.now < 2 ^ 59 }
+        ensures value { IfOk result (λ m. m ≡ unlock_pbe self.now.content_encryption_algorithm password.now self.now.encrypted_content) }
+        ensures err { IfErr result (λ e. e ≡ Error.Memory) }
+    {
+        let algorithm = &self.content_encryption_algorithm;
+        algorithm.decrypt_pbe(alloc, self.encrypted_content.as_slice(), password)
+    }
+}
+
+impl EncryptedData {
+    /// The plain octets of the one content, as `EncryptedContentInfo::data` gives them.
+    ///
+    /// Caller: the encrypted octets are fewer than 2^32, password and salt fewer than 2^59 each.
+    pub fn data(&self, alloc: Global, password: &[u8]) -> Result<Option<Octets>, Error>
+        requires content { length self.now.encrypted_content_info.encrypted_content < 2 ^ 32 }
+        requires salt { length (salt_of self.now.encrypted_content_info.content_encryption_algorithm) < 2 ^ 59 }
+        requires password { length password.now < 2 ^ 59 }
+        ensures value { IfOk result (λ m. m ≡ unlock_pbe self.now.encrypted_content_info.content_encryption_algorithm password.now self.now.encrypted_content_info.encrypted_content) }
+        ensures err { IfErr result (λ e. e ≡ Error.Memory) }
+    {
+        self.encrypted_content_info.data(alloc, password)
+    }
+}

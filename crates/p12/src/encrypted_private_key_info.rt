@@ -1,0 +1,64 @@
+//! Encrypted private keys of a store.
+ghost use Rattle.std.specs.Prelude.{◌≡◌, ◌<◌, length, OnOk, IfOk, IfErr};
+ghost use Rattle.asn1_core.specs.Gives.{ReadsIn, GivesIn};
+ghost use Rattle.p12.specs.EncryptedPrivateKeyInfo.{EncryptedKeyText};
+ghost use Rattle.p12.specs.Error.{Reads};
+ghost use Rattle.p12.specs.Reading.{encrypted_key_at};
+
+use crate::algorithm_identifier::{AlgorithmIdentifier, algorithm_in_front};
+use crate::error::Error;
+use asn1_core::{Octets, Reader, SliceReader, Tag, read_inner};
+use std::alloc::Global;
+
+/// A private key that is encrypted under an algorithm of PKCS#12 (RFC 7292 section 4.2.2; RFC 5958 section 3).
+///
+/// ```text
+/// EncryptedPrivateKeyInfo ::= SEQUENCE { encryptionAlgorithm AlgorithmIdentifier, encryptedData OCTET STRING }
+/// ```
+#[derive(Debug, PartialEq, Eq, Drop)]
+pub struct EncryptedPrivateKeyInfo {
+    pub encryption_algorithm: AlgorithmIdentifier,
+    pub encrypted_data: Octets,
+}
+
+#[tactic(auto, unfolding(crate::specs::Reading::encrypted_key_at))]
+pub(crate) fn encrypted_key_in_front(
+    alloc: Global,
+    r: &mut SliceReader<'_>,
+) -> Result<EncryptedPrivateKeyInfo, asn1_core::Error>
+    ensures { ReadsIn encrypted_key_at (λ x. x) r.old.rest.now r.new.rest.now result }
+{
+    let mut ahead = *r;
+    let mut body = read_inner(&mut ahead, Tag::SEQUENCE)?;
+    let encryption_algorithm = algorithm_in_front(alloc, &mut body)?;
+    let value = read_inner(&mut body, Tag::OCTET_STRING)?;
+    body.finish()?;
+    let encrypted_data = Octets::from_slice(alloc, value.rest)?;
+    *r = ahead;
+    Ok(EncryptedPrivateKeyInfo {
+        encryption_algorithm,
+        encrypted_data,
+    })
+}
+
+impl EncryptedPrivateKeyInfo {
+    /// The encrypted key that stands next. `Malformed` exactly where none does; the reader then stands where it stood.
+    pub fn parse(alloc: Global, r: &mut SliceReader<'_>) -> Result<EncryptedPrivateKeyInfo, Error>
+        ensures { Reads EncryptedKeyText r.old.rest.now r.new.rest.now result }
+    {
+        Ok(encrypted_key_in_front(alloc, r)?)
+    }
+}
+
+impl EncryptedPrivateKeyInfo {
+    /// An equal value in memory of its own. The only refusal is `Memory`.
+    pub fn try_clone(&self, alloc: Global) -> Result<EncryptedPrivateKeyInfo, Error>
+        ensures ok { IfOk result (λ v. v ≡ self.now) }
+        ensures err { IfErr result (λ e. e ≡ Error.Memory) }
+    {
+        Ok(EncryptedPrivateKeyInfo {
+            encryption_algorithm: self.encryption_algorithm.try_clone(alloc)?,
+            encrypted_data: self.encrypted_data.try_clone(alloc)?,
+        })
+    }
+}

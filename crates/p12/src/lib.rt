@@ -1,0 +1,38 @@
+//! PKCS#12 stores (RFC 7292): their grammar, their MAC and their password-based encryption.
+#![tactic(auto)]
+
+mod algorithm_identifier;
+mod attribute;
+mod carry;
+mod cert_bag;
+mod content_info;
+mod derivation;
+mod digest_info;
+mod encrypted_data;
+mod encrypted_private_key_info;
+mod error;
+mod identifiers;
+mod mac;
+mod mac_data;
+mod opening;
+mod password;
+mod pfx;
+mod safe_bag;
+pub mod uniqueness;
+
+pub use algorithm_identifier::{AlgorithmIdentifier, OtherAlgorithmIdentifier, Pkcs12PbeParams};
+pub use attribute::{OtherAttribute, PKCS12Attribute};
+pub use cert_bag::CertBag;
+pub use content_info::{ContentInfo, OtherContext};
+pub use derivation::pbepkcs12sha1;
+pub use digest_info::DigestInfo;
+pub use encrypted_data::{EncryptedContentInfo, EncryptedData};
+pub use encrypted_private_key_info::EncryptedPrivateKeyInfo;
+pub use error::Error;
+pub use mac_data::MacData;
+pub use password::bmp_string;
+pub use pfx::PFX;
+pub use safe_bag::{OtherBag, SafeBag, SafeBagKind};
+
+#[cfg(test)]
+mod tests;

@@ -1,0 +1,68 @@
+//! The MAC of a store.
+ghost use Rattle.std.specs.Prelude.{◌≡◌, ◌<◌, length, OnOk, IfOk, IfErr};
+ghost use Rattle.asn1_core.specs.Gives.{ReadsIn, GivesIn};
+ghost use Rattle.p12.specs.MacData.{MacText};
+ghost use Rattle.p12.specs.Error.{Reads};
+ghost use Rattle.p12.specs.Reading.{mac_at};
+
+use crate::digest_info::{DigestInfo, digest_in_front};
+use crate::error::Error;
+use asn1_core::{Octets, Reader, SliceReader, Tag, read_inner, read_uint};
+use std::alloc::Global;
+
+/// The MAC of a store (RFC 7292 section 4): its digest, the salt, and how many rounds derive its key.
+///
+/// ```text
+/// MacData ::= SEQUENCE { mac DigestInfo, macSalt OCTET STRING, iterations INTEGER }
+/// ```
+#[derive(Debug, Drop)]
+pub struct MacData {
+    pub mac: DigestInfo,
+    pub salt: Octets,
+    pub iterations: u32,
+}
+
+#[tactic(auto, unfolding(crate::specs::Reading::mac_at))]
+pub(crate) fn mac_in_front(
+    alloc: Global,
+    r: &mut SliceReader<'_>,
+) -> Result<MacData, asn1_core::Error>
+    ensures { ReadsIn mac_at (λ x. x) r.old.rest.now r.new.rest.now result }
+{
+    let mut ahead = *r;
+    let mut body = read_inner(&mut ahead, Tag::SEQUENCE)?;
+    let mac = digest_in_front(alloc, &mut body)?;
+    let salt = read_inner(&mut body, Tag::OCTET_STRING)?;
+    let iterations = read_uint(&mut body, 0xffff_ffff)?;
+    body.finish()?;
+    let salt = Octets::from_slice(alloc, salt.rest)?;
+    *r = ahead;
+    Ok(MacData {
+        mac,
+        salt,
+        iterations: iterations as u32,
+    })
+}
+
+impl MacData {
+    /// The MAC that stands next. `Malformed` exactly where none does; the reader then stands where it stood.
+    pub fn parse(alloc: Global, r: &mut SliceReader<'_>) -> Result<MacData, Error>
+        ensures { Reads MacText r.old.rest.now r.new.rest.now result }
+    {
+        Ok(mac_in_front(alloc, r)?)
+    }
+}
+
+impl MacData {
+    /// An equal value in memory of its own. The only refusal is `Memory`.
+    pub fn try_clone(&self, alloc: Global) -> Result<MacData, Error>
+        ensures ok { IfOk result (λ v. v ≡ self.now) }
+        ensures err { IfErr result (λ e. e ≡ Error.Memory) }
+    {
+        Ok(MacData {
+            mac: self.mac.try_clone(alloc)?,
+            salt: self.salt.try_clone(alloc)?,
+            iterations: self.iterations,
+        })
+    }
+}

@@ -1,0 +1,300 @@
+//! Bags.
+ghost use Rattle.std.specs.Prelude.{◌≡◌, ◌<◌, length, OnOk, IfOk, IfErr};
+ghost use Rattle.asn1_core.specs.Gives.{ReadsIn, GivesIn};
+ghost use Rattle.asn1_core.specs.Reading.{many, whole};
+ghost use Rattle.p12.specs.SafeBag.{BagText, KindText, kind_oid, x509_of, sdsi_of, first_name, first_key_id, IsBags, NoBags};
+ghost use Rattle.p12.specs.Error.{MalformedOnly, Reads};
+ghost use Rattle.p12.specs.Reading.{cert_kind_all, shrouded_all, other_kind_all, kind_all, kind_at, bag_at, bags_at};
+ghost use Rattle.asn1_core.specs.Oid.{oid_octets};
+
+use crate::attribute::{PKCS12Attribute, attributes};
+use crate::cert_bag::{CertBag, certificate_in_front};
+use crate::encrypted_private_key_info::{EncryptedPrivateKeyInfo, encrypted_key_in_front};
+use crate::error::Error;
+use crate::identifiers::{CERT_BAG, SHROUDED_KEY_BAG};
+use asn1_core::{
+    Items, ObjectIdentifier, Octets, Reader, SliceReader, Tag, Text, read_identifier, read_inner,
+    read_raw,
+};
+use std::alloc::Global;
+
+/// A bag of another kind: its identifier, and the one element that it holds.
+#[derive(Debug, Drop)]
+pub struct OtherBag {
+    pub bag_id: ObjectIdentifier,
+    pub bag_value: Octets,
+}
+
+/// What a bag holds.
+#[derive(Debug, Drop)]
+pub enum SafeBagKind {
+    /// An encrypted private key (RFC 7292 section 4.2.2).
+    Pkcs8ShroudedKeyBag(EncryptedPrivateKeyInfo),
+    /// A certificate (RFC 7292 section 4.2.3).
+    CertBag(CertBag),
+    OtherBagKind(OtherBag),
+}
+
+/// A bag and its attributes, in the order read (RFC 7292 section 4.2).
+///
+/// ```text
+/// SafeBag ::= SEQUENCE { bagId OBJECT IDENTIFIER, bagValue [0] EXPLICIT ANY, bagAttributes SET OF PKCS12Attribute OPTIONAL }
+/// ```
+#[derive(Debug, Drop)]
+pub struct SafeBag {
+    pub bag: SafeBagKind,
+    pub attributes: Items<PKCS12Attribute>,
+}
+
+fn certificate_kind(
+    alloc: Global,
+    mut body: SliceReader<'_>,
+) -> Result<SafeBagKind, asn1_core::Error>
+    ensures { GivesIn (λ x. x) result (cert_kind_all body.entry.rest.now) }
+{
+    let certificate = certificate_in_front(alloc, &mut body)?;
+    body.finish()?;
+    Ok(SafeBagKind::CertBag(certificate))
+}
+
+fn shrouded_kind(alloc: Global, mut body: SliceReader<'_>) -> Result<SafeBagKind, asn1_core::Error>
+    ensures { GivesIn (λ x. x) result (shrouded_all body.entry.rest.now) }
+{
+    let key = encrypted_key_in_front(alloc, &mut body)?;
+    body.finish()?;
+    Ok(SafeBagKind::Pkcs8ShroudedKeyBag(key))
+}
+
+fn other_kind(
+    alloc: Global,
+    bag_id: ObjectIdentifier,
+    mut body: SliceReader<'_>,
+) -> Result<SafeBagKind, asn1_core::Error>
+    ensures { GivesIn (λ x. x) result (other_kind_all bag_id body.entry.rest.now) }
+{
+    let value = read_raw(&mut body)?;
+    body.finish()?;
+    let bag_value = Octets::from_slice(alloc, value)?;
+    Ok(SafeBagKind::OtherBagKind(OtherBag { bag_id, bag_value }))
+}
+
+/// The kind of a bag, whose value is all that is left.
+fn kind_of(
+    alloc: Global,
+    bag_id: ObjectIdentifier,
+    body: SliceReader<'_>,
+) -> Result<SafeBagKind, asn1_core::Error>
+    ensures { GivesIn (λ x. x) result (kind_all bag_id body.entry.rest.now) }
+{
+    if bag_id == CERT_BAG {
+        certificate_kind(alloc, body)
+    } else if bag_id == SHROUDED_KEY_BAG {
+        shrouded_kind(alloc, body)
+    } else {
+        other_kind(alloc, bag_id, body)
+    }
+}
+
+/// The value of a bag that stands next: an element whose tag its kind has.
+fn kind_in_front(
+    alloc: Global,
+    r: &mut SliceReader<'_>,
+    bag_id: ObjectIdentifier,
+) -> Result<SafeBagKind, asn1_core::Error>
+    ensures { ReadsIn (kind_at bag_id) (λ x. x) r.old.rest.now r.new.rest.now result }
+{
+    let mut ahead = *r;
+    let element = read_raw(&mut ahead)?;
+    let bag = kind_of(alloc, bag_id, SliceReader::new(element))?;
+    *r = ahead;
+    Ok(bag)
+}
+
+#[tactic(auto, unfolding(crate::specs::Reading::bag_at))]
+pub(crate) fn bag_in_front(
+    alloc: Global,
+    r: &mut SliceReader<'_>,
+) -> Result<SafeBag, asn1_core::Error>
+    ensures exact { ReadsIn bag_at (λ x. x) r.old.rest.now r.new.rest.now result }
+    ensures shorter { OnOk result (length r.new.rest.now < length r.old.rest.now) }
+{
+    let mut ahead = *r;
+    let mut body = read_inner(&mut ahead, Tag::SEQUENCE)?;
+    let bag_id = read_identifier(&mut body)?;
+    let value = read_inner(&mut body, Tag::CONTEXT_0)?;
+    let bag = kind_of(alloc, bag_id, value)?;
+    let attributes = attributes(alloc, body)?;
+    *r = ahead;
+    Ok(SafeBag { bag, attributes })
+}
+
+fn bags(alloc: Global, mut body: SliceReader<'_>) -> Result<Items<SafeBag>, asn1_core::Error>
+    ensures { GivesIn (λ x. x) result (many bag_at body.entry.rest.now) }
+{
+    let mut items = Items::new(alloc);
+    while !body.is_finished() {
+        let item = bag_in_front(alloc, &mut body)?;
+        items.push(item)?;
+    }
+    Ok(items)
+}
+
+#[tactic(auto, unfolding(crate::specs::Reading::bags_at))]
+fn all_bags(alloc: Global, bytes: &[u8]) -> Result<Items<SafeBag>, asn1_core::Error>
+    ensures { GivesIn (λ x. x) result (whole bags_at bytes.now) }
+{
+    let mut r = SliceReader::new(bytes);
+    let body = read_inner(&mut r, Tag::SEQUENCE)?;
+    let items = bags(alloc, body)?;
+    r.finish()?;
+    Ok(items)
+}
+
+impl SafeBag {
+    /// The bag that stands next. `Malformed` exactly where none does; the reader then stands where it stood.
+    pub fn parse(alloc: Global, r: &mut SliceReader<'_>) -> Result<SafeBag, Error>
+        ensures { Reads BagText r.old.rest.now r.new.rest.now result }
+    {
+        Ok(bag_in_front(alloc, r)?)
+    }
+
+    /// The bags that these octets list (SafeContents, RFC 7292 section 4.2). `Malformed` exactly where they are no list of
+    /// bags.
+    pub fn parse_all(alloc: Global, bytes: &[u8]) -> Result<Items<SafeBag>, Error>
+        ensures ok { IfOk result (λ x. IsBags bytes.now x) }
+        ensures err { IfErr result (λ e. MalformedOnly e (NoBags bytes.now)) }
+    {
+        Ok(all_bags(alloc, bytes)?)
+    }
+}
+
+/// Equal attributes in memory of their own.
+fn copied(alloc: Global, attributes: &[PKCS12Attribute]) -> Result<Items<PKCS12Attribute>, Error>
+    ensures ok { IfOk result (λ copies. copies ≡ attributes.now) }
+    ensures err { IfErr result (λ e. e ≡ Error.Memory) }
+{
+    let mut copies = Items::new(alloc);
+    for attribute in attributes {
+        copies.push(attribute.try_clone(alloc)?)?;
+    }
+    Ok(copies)
+}
+
+impl OtherBag {
+    /// An equal value in memory of its own. The only refusal is `Memory`.
+    pub fn try_clone(&self, alloc: Global) -> Result<OtherBag, Error>
+        ensures ok { IfOk result (λ v. v ≡ self.now) }
+        ensures err { IfErr result (λ e. e ≡ Error.Memory) }
+    {
+        Ok(OtherBag {
+            bag_id: self.bag_id,
+            bag_value: self.bag_value.try_clone(alloc)?,
+        })
+    }
+}
+
+impl SafeBagKind {
+    /// An equal value in memory of its own. The only refusal is `Memory`.
+    pub fn try_clone(&self, alloc: Global) -> Result<SafeBagKind, Error>
+        ensures ok { IfOk result (λ v. v ≡ self.now) }
+        ensures err { IfErr result (λ e. e ≡ Error.Memory) }
+    {
+        Ok(match self {
+            SafeBagKind::Pkcs8ShroudedKeyBag(key) => {
+                SafeBagKind::Pkcs8ShroudedKeyBag(key.try_clone(alloc)?)
+            }
+            SafeBagKind::CertBag(certificate) => SafeBagKind::CertBag(certificate.try_clone(
+                alloc,
+            )?),
+            SafeBagKind::OtherBagKind(other) => SafeBagKind::OtherBagKind(other.try_clone(alloc)?),
+        })
+    }
+}
+
+impl SafeBag {
+    /// An equal value in memory of its own. The only refusal is `Memory`.
+    pub fn try_clone(&self, alloc: Global) -> Result<SafeBag, Error>
+        ensures ok { IfOk result (λ v. v ≡ self.now) }
+        ensures err { IfErr result (λ e. e ≡ Error.Memory) }
+    {
+        Ok(SafeBag {
+            bag: self.bag.try_clone(alloc)?,
+            attributes: copied(alloc, self.attributes.as_slice())?,
+        })
+    }
+}
+
+impl SafeBagKind {
+    /// The value of a bag with this identifier, as it stands inside the bag's `[0]`. `Malformed` exactly where none does; the
+    /// reader then stands where it stood.
+    pub fn parse(
+        alloc: Global,
+        r: &mut SliceReader<'_>,
+        bag_id: ObjectIdentifier,
+    ) -> Result<SafeBagKind, Error>
+        ensures { Reads (KindText bag_id) r.old.rest.now r.new.rest.now result }
+    {
+        Ok(kind_in_front(alloc, r, bag_id)?)
+    }
+
+    /// The identifier of the bag's kind.
+    pub fn oid(&self) -> ObjectIdentifier
+        ensures { oid_octets result ≡ kind_oid self.now }
+    {
+        match self {
+            SafeBagKind::Pkcs8ShroudedKeyBag(_) => SHROUDED_KEY_BAG,
+            SafeBagKind::CertBag(_) => CERT_BAG,
+            SafeBagKind::OtherBagKind(other) => other.bag_id,
+        }
+    }
+
+    /// The DER of an X.509 certificate; None exactly for another bag. The only refusal is `Memory`.
+    pub fn get_x509_cert(&self, alloc: Global) -> Result<Option<Octets>, Error>
+        ensures value { IfOk result (λ c. c ≡ x509_of self.now) }
+        ensures err { IfErr result (λ e. e ≡ Error.Memory) }
+    {
+        match self {
+            SafeBagKind::CertBag(CertBag::X509(octets)) => Ok(Some(octets.try_clone(alloc)?)),
+            _ => Ok(None),
+        }
+    }
+
+    /// The text of an SDSI certificate; None exactly for another bag. The only refusal is `Memory`.
+    pub fn get_sdsi_cert(&self, alloc: Global) -> Result<Option<Text>, Error>
+        ensures value { IfOk result (λ c. c ≡ sdsi_of self.now) }
+        ensures err { IfErr result (λ e. e ≡ Error.Memory) }
+    {
+        match self {
+            SafeBagKind::CertBag(CertBag::SDSI(text)) => Ok(Some(text.try_clone(alloc)?)),
+            _ => Ok(None),
+        }
+    }
+}
+
+impl SafeBag {
+    /// The first friendly name among the attributes; None exactly where there is none. The only refusal is `Memory`.
+    pub fn friendly_name(&self, alloc: Global) -> Result<Option<Text>, Error>
+        ensures value { IfOk result (λ n. n ≡ first_name self.now.attributes) }
+        ensures err { IfErr result (λ e. e ≡ Error.Memory) }
+    {
+        for attribute in self.attributes.as_slice() {
+            if let PKCS12Attribute::FriendlyName(name) = attribute {
+                return Ok(Some(name.try_clone(alloc)?));
+            }
+        }
+        Ok(None)
+    }
+
+    /// The first local key id among the attributes; None exactly where there is none. The only refusal is `Memory`.
+    pub fn local_key_id(&self, alloc: Global) -> Result<Option<Octets>, Error>
+        ensures value { IfOk result (λ i. i ≡ first_key_id self.now.attributes) }
+        ensures err { IfErr result (λ e. e ≡ Error.Memory) }
+    {
+        for attribute in self.attributes.as_slice() {
+            if let PKCS12Attribute::LocalKeyId(key_id) = attribute {
+                return Ok(Some(key_id.try_clone(alloc)?));
+            }
+        }
+        Ok(None)
+    }
+}
