@@ -1,0 +1,118 @@
+-- Faults of parts in their order.
+use Rattle.std.proofs.Common.{ℕ, ◌≡◌, ◌+◌, ◌≤◌, ◌<◌, List, [], ◌∷◌, ◌++◌, length, refl, sym, ap, ◌∙◌, arith, subst, Bool, true, false, inr, take, drop, get_or}
+use Rattle.std.specs.Prelude.{Option, Some, None}
+use Rattle.std.specs.List.{sum_by}
+use Rattle.std.proofs.lemmas.List.{take_more, append_assoc, take-append-drop}
+use Rattle.std.proofs.lemmas.List.Sums.{sum_by-append}
+use Rattle.p12.specs.declared.algorithm_identifier.AlgorithmIdentifier.{AlgorithmIdentifier}
+use Rattle.p12.specs.declared.content_info.ContentInfo.{ContentInfo}
+use Rattle.p12.specs.declared.content_info.ContentInfo.TheVariants as content
+use Rattle.p12.specs.declared.encrypted_data.EncryptedData.{EncryptedData}
+use Rattle.p12.specs.declared.error.Error.{Error}
+use Rattle.p12.specs.declared.error.Error.TheVariants as errors
+use Rattle.p12.specs.AlgorithmIdentifier.{cost, unlock}
+use Rattle.p12.specs.Error.{MalformedOnly}
+use Rattle.p12.specs.SafeBag.{NoBags}
+use Rattle.p12.proofs.Laws.{unlock_opened}
+use Rattle.transfer.specs.declared.error.TransferError.{TransferError}
+use Rattle.transfer.specs.declared.error.TransferError.TheVariants.{TooLong, Malformed, Unsupported, MacMissing, MacUnsupported, ZeroIterations, WorkLimit, MacMismatch, ContentMalformed, DecryptFailed, Memory}
+use Rattle.transfer.specs.TransferError.{RefusedBy}
+use Rattle.transfer.specs.Parts.{AreOpen, IsFirstFault, Kind}
+use Rattle.transfer.specs.Opening.{ContentFault, LockFault, Stops}
+use Rattle.transfer.proofs.Lists.{each_append}
+
+-- ---- Causes
+
+pub refused_as : (P Q : TransferError → Type 0) → ((e : TransferError) → P e → Q e) → (e : TransferError) → RefusedBy P e → RefusedBy Q e
+refused_as P Q f TooLong h = f _ h
+refused_as P Q f Malformed h = f _ h
+refused_as P Q f Unsupported h = f _ h
+refused_as P Q f MacMissing h = f _ h
+refused_as P Q f MacUnsupported h = f _ h
+refused_as P Q f ZeroIterations h = f _ h
+refused_as P Q f WorkLimit h = f _ h
+refused_as P Q f MacMismatch h = f _ h
+refused_as P Q f ContentMalformed h = f _ h
+refused_as P Q f DecryptFailed h = f _ h
+refused_as P Q f Memory h = tt
+
+-- A cause behind k more steps.
+pub stops : (F G : TransferError → ℕ → Type 0) (old mid new k : ℕ) → mid ≡ old + k → ((e : TransferError) (n : ℕ) → F e n → G e (k + n)) → (e : TransferError) → Stops F mid new e → Stops G old new e
+stops F G old mid new k is f e h = refused_as (λ e. (n : ℕ) × F e n × (new ≡ mid + n)) (λ e. (n : ℕ) × G e n × (new ≡ old + n)) (λ e h. (k + h.0, f e h.0 h.1, omega (arith, is, h.2))) e h
+
+pub stops_as : (F G : TransferError → ℕ → Type 0) (old new : ℕ) → ((e : TransferError) (n : ℕ) → F e n → G e n) → (e : TransferError) → Stops F old new e → Stops G old new e
+stops_as F G old new f e h = refused_as (λ e. (n : ℕ) × F e n × (new ≡ old + n)) (λ e. (n : ℕ) × G e n × (new ≡ old + n)) (λ e h. (h.0, f e h.0 h.1, h.2)) e h
+
+pub malformed_only : (e : Error) (P : Type 0) → e ≡ errors.Malformed → MalformedOnly e P → P
+malformed_only e P is h = subst (λ e. MalformedOnly e P) is h
+
+-- ---- Locked texts
+
+pub some_none : {P : Type 0} (r : Option (List ℕ)) (m : List ℕ) → r ≡ Some m → r ≡ None → P
+some_none r m h k = grind (arith, h, k)
+
+pub true_false : {P : Type 0} (b : Bool) → b ≡ true → b ≡ false → P
+true_false b h k = grind (arith, h, k)
+
+-- What is wrong with the opened text is wrong with the locked one.
+pub lock_holds : (p : List ℕ) (limit sum : ℕ) (a : AlgorithmIdentifier) (c : List ℕ) (rest : List ℕ → TransferError → ℕ → Type 0) (m : List ℕ) (e : TransferError) (n : ℕ)
+    → unlock a p c ≡ Some m → sum + cost a ≤ limit → rest m e n → LockFault p limit sum a c rest e n
+lock_holds p limit sum a c rest m e n is le bad =
+    let o = unlock_opened a p c m is in
+    inr (λ h. true_false _ o.openable h, inr (λ h. omega (arith, h, o.some_rounds), inr (λ h. omega (arith, h, le), inr (λ h. some_none _ m is h, (m, is, bad)))))
+
+pub content_bad : (p : List ℕ) (limit sum : ℕ) (c : ContentInfo) (d : EncryptedData) (m : List ℕ) → c ≡ content.EncryptedData d
+    → unlock d.encrypted_content_info.content_encryption_algorithm p d.encrypted_content_info.encrypted_content ≡ Some m
+    → sum + cost d.encrypted_content_info.content_encryption_algorithm ≤ limit → NoBags m
+    → ContentFault p limit sum c ContentMalformed (cost d.encrypted_content_info.content_encryption_algorithm)
+content_bad p limit sum c d m is opens le bad =
+    let P : ContentInfo → Type 0 = λ c. ContentFault p limit sum c ContentMalformed (cost d.encrypted_content_info.content_encryption_algorithm) in
+    let a = d.encrypted_content_info.content_encryption_algorithm in
+    subst P (sym is) (lock_holds p limit sum a d.encrypted_content_info.encrypted_content (λ m e n. NoBags m × (e ≡ ContentMalformed) × (n ≡ cost a)) m ContentMalformed (cost a) opens le (bad, refl, refl))
+
+-- ---- Parts in a row
+
+take_one : {X : Type 0} (xs : List X) (i : ℕ) (x : X) → i < length xs → x ≡ get_or xs i x → take (i + 1) xs ≡ take i xs ++ x ∷ []
+take_one xs i x lt at = take_more xs i x lt ∙ ap (λ y. take i xs ++ y ∷ []) (sym at)
+
+-- The part at a place has the first fault.
+fault_at : {A B : Type 0} (K : Kind A B TransferError) (limit sum now : ℕ) (xs : List A) (i : ℕ) (x : A) (ys : List B) (e : TransferError) (n k : ℕ)
+    → i < length xs → x ≡ get_or xs i x → AreOpen K limit sum (take i xs) ys → now ≡ sum + sum_by K.share (take i xs) → K.Fault now x e n
+    → k ≡ sum_by K.share (take i xs) + n → IsFirstFault K limit sum xs e k
+fault_at K limit sum now xs i x ys e n k lt at opened sums fault steps = record {
+  before = take i xs;
+  part = x;
+  behind = drop (i + 1) xs;
+  split = sym (take-append-drop (i + 1) xs) ∙ ap (λ t. t ++ drop (i + 1) xs) (take_one xs i x lt at) ∙ append_assoc (take i xs) (x ∷ []) (drop (i + 1) xs);
+  made = ys;
+  open_before = opened;
+  own = n;
+  fault = subst (λ s. K.Fault s x e n) sums fault;
+  steps = steps;
+}
+
+pub part_stops : {A B : Type 0} (K : Kind A B TransferError) (limit sum now : ℕ) (xs : List A) (i : ℕ) (x : A) (ys : List B) (old mid new : ℕ) (e : TransferError)
+    → i < length xs → x ≡ get_or xs i x → AreOpen K limit sum (take i xs) ys → now ≡ sum + sum_by K.share (take i xs) → mid ≡ old + sum_by K.share (take i xs)
+    → Stops (K.Fault now x) mid new e → Stops (IsFirstFault K limit sum xs) old new e
+part_stops K limit sum now xs i x ys old mid new e lt at opened sums is h =
+    stops (K.Fault now x) (IsFirstFault K limit sum xs) old mid new (sum_by K.share (take i xs)) is (λ e n f. fault_at K limit sum now xs i x ys e n _ lt at opened sums f refl) e h
+
+open_one : {A B : Type 0} (K : Kind A B TransferError) (limit sum : ℕ) (x : A) (y : B) → K.Opens x y → sum + K.share x ≤ limit → AreOpen K limit sum (x ∷ []) (y ∷ [])
+open_one K limit sum x y h le = record { each = (h, tt); within = omega (arith, le, sum_by-append K.share (x ∷ []) []) }
+
+-- What lies behind parts that are open.
+pub open_append : {A B : Type 0} (K : Kind A B TransferError) (limit sum now : ℕ) (xs : List A) (ys : List B) (zs : List A) (ws : List B)
+    → AreOpen K limit sum xs ys → now ≡ sum + sum_by K.share xs → AreOpen K limit now zs ws → AreOpen K limit sum (xs ++ zs) (ys ++ ws)
+open_append K limit sum now xs ys zs ws a sums b =
+    record { each = each_append K.Opens xs ys zs ws a.each b.each; within = omega (arith, sums, b.within, sum_by-append K.share xs zs) }
+
+-- One part more is open.
+pub open_more : {A B : Type 0} (K : Kind A B TransferError) (limit sum now next : ℕ) (xs : List A) (i : ℕ) (x : A) (ys : List B) (y : B)
+    → i < length xs → x ≡ get_or xs i x → AreOpen K limit sum (take i xs) ys → now ≡ sum + sum_by K.share (take i xs) → K.Opens x y → next ≡ now + K.share x → next ≤ limit
+    → AreOpen K limit sum (take (i + 1) xs) (ys ++ y ∷ [])
+open_more K limit sum now next xs i x ys y lt at opened sums more is le =
+    subst (λ t. AreOpen K limit sum t (ys ++ y ∷ [])) (sym (take_one xs i x lt at))
+    (open_append K limit sum now (take i xs) ys (x ∷ []) (y ∷ []) opened sums (open_one K limit now x y more (omega (arith, is, le))))
+
+pub share_more : {A : Type 0} (f : A → ℕ) (xs : List A) (i : ℕ) (x : A) → i < length xs → x ≡ get_or xs i x → sum_by f (take (i + 1) xs) ≡ sum_by f (take i xs) + f x
+share_more f xs i x lt at = omega (arith, ap (sum_by f) (take_one xs i x lt at), sum_by-append f (take i xs) (x ∷ []))

@@ -1,0 +1,13 @@
+mod Pieces
+mod Decimal
+mod FiveWords
+mod Written
+mod Lines
+mod Lists
+mod Lengths
+mod Faults
+mod Rows
+pub mod Sole
+pub mod Valid
+mod Settling
+mod Answering

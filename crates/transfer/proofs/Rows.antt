@@ -1,0 +1,121 @@
+-- The rows of the table of causes.
+use Rattle.std.proofs.Common.{ℕ, ◌≡◌, ◌+◌, ◌≤◌, ◌<◌, inl, inr, List, length, refl, arith, true, false}
+use Rattle.std.specs.Prelude.{Option, Some, None, Result, Ok, Err, IfOk, IfErr}
+use Rattle.std.specs.List.{sum_by}
+use Rattle.p12.specs.declared.pfx.PFX.{PFX}
+use Rattle.p12.specs.declared.mac_data.MacData.{MacData}
+use Rattle.p12.specs.declared.content_info.ContentInfo.{ContentInfo}
+use Rattle.p12.specs.declared.content_info.ContentInfo.TheVariants as content
+use Rattle.p12.specs.declared.safe_bag.SafeBag.{SafeBag}
+use Rattle.p12.specs.AlgorithmIdentifier.{is_sha1}
+use Rattle.p12.specs.ContentInfo.{IsContents, NoContents}
+use Rattle.p12.specs.MacData.{mac_agrees, mac_steps}
+use Rattle.p12.specs.Password.{bmp_password}
+use Rattle.p12.specs.Pfx.{IsStore, NoStore}
+use Rattle.transfer.specs.declared.error.TransferError.{TransferError}
+use Rattle.transfer.specs.declared.error.TransferError.TheVariants.{TooLong, Malformed, Unsupported, MacMissing, MacUnsupported, ZeroIterations, WorkLimit, MacMismatch, ContentMalformed}
+use Rattle.transfer.specs.Parts.{AreOpen, IsFirstFault}
+use Rattle.transfer.specs.Opening.{Comes, ContentsTable, MacTable, Stops, StoreTable, Verdict, any_shrouded, content_share, of_contents, opened, refused}
+use Rattle.transfer.specs.Verdicts.{IsMacOk}
+use Rattle.transfer.proofs.Faults.{stops, stops_as, true_false}
+
+mac_none : {P : Type 0} (r : Option MacData) (m : MacData) → r ≡ Some m → r ≡ None → P
+mac_none r m h k = grind (arith, h, k)
+
+-- ---- Contents
+
+pub content_fault : (p : List ℕ) (limit sum : ℕ) (cs : List ContentInfo) (e : TransferError) (k : ℕ) → IsFirstFault (of_contents p limit) limit sum cs e k
+    → ContentsTable p limit sum cs (refused e) (sum + k)
+unfolding ContentsTable
+content_fault p limit sum cs e k h = inl (e, k, h, refl, refl)
+
+pub shrouded : (p : List ℕ) (limit sum : ℕ) (cs : List ContentInfo) (gss : List (List SafeBag)) → AreOpen (of_contents p limit) limit sum cs gss → any_shrouded gss ≡ true
+    → ContentsTable p limit sum cs (refused Unsupported) (sum + sum_by content_share cs)
+unfolding ContentsTable
+shrouded p limit sum cs gss a h = inr (gss, a, inl (h, refl, refl))
+
+pub all_open : (p : List ℕ) (limit sum : ℕ) (cs : List ContentInfo) (gss : List (List SafeBag)) → AreOpen (of_contents p limit) limit sum cs gss → any_shrouded gss ≡ false
+    → ContentsTable p limit sum cs (opened gss) (sum + sum_by content_share cs)
+unfolding ContentsTable
+all_open p limit sum cs gss a h = inr (gss, a, inr (λ s. true_false _ s h, (refl, refl)))
+
+-- ---- The MAC
+
+pub mac_unsupported : (p : List ℕ) (limit : ℕ) (v : List ℕ) (m : MacData) → is_sha1 m.mac.digest_algorithm ≡ false → MacTable p limit v m (refused MacUnsupported) 0
+unfolding MacTable
+mac_unsupported p limit v m h = inl (h, refl, refl)
+
+-- the steps of a MAC under SHA-1
+pub mac_counted : (m : MacData) (old new : ℕ) → is_sha1 m.mac.digest_algorithm ≡ true → new ≡ old + mac_steps m → new ≡ old + m.iterations
+mac_counted m old new s h = grind (arith, s, h)
+
+pub no_rounds : (p : List ℕ) (limit : ℕ) (v : List ℕ) (m : MacData) → is_sha1 m.mac.digest_algorithm ≡ true → m.iterations ≡ 0 → MacTable p limit v m (refused ZeroIterations) 0
+unfolding MacTable
+no_rounds p limit v m s h = inr (λ f. true_false _ s f, inl (h, refl, refl))
+
+pub too_much : (p : List ℕ) (limit : ℕ) (v : List ℕ) (m : MacData) → is_sha1 m.mac.digest_algorithm ≡ true → 0 < m.iterations → limit < m.iterations → MacTable p limit v m (refused WorkLimit) 0
+unfolding MacTable
+too_much p limit v m s r h = inr (λ f. true_false _ s f, inr (λ z. omega (arith, z, r), inl (h, refl, refl)))
+
+pub mismatch : (p : List ℕ) (limit : ℕ) (v : List ℕ) (m : MacData) → is_sha1 m.mac.digest_algorithm ≡ true → 0 < m.iterations → m.iterations ≤ limit → mac_agrees m (bmp_password p) v ≡ false
+    → MacTable p limit v m (refused MacMismatch) m.iterations
+unfolding MacTable
+mismatch p limit v m s r l h = inr (λ f. true_false _ s f, inr (λ z. omega (arith, z, r), inr (λ z. omega (arith, z, l), inl (h, refl, refl))))
+
+pub no_contents : (p : List ℕ) (limit : ℕ) (v : List ℕ) (m : MacData) → IsMacOk p v m → m.iterations ≤ limit → NoContents v → MacTable p limit v m (refused ContentMalformed) m.iterations
+unfolding MacTable
+no_contents p limit v m ok l k =
+    inr (λ f. true_false _ ok.of_sha1 f, inr (λ z. omega (arith, z, ok.some_rounds), inr (λ z. omega (arith, z, l), inr (λ f. true_false _ ok.agrees f, inl (k, refl, refl)))))
+
+pub has_contents : (p : List ℕ) (limit : ℕ) (v : List ℕ) (m : MacData) (cs : List ContentInfo) (w : Verdict) (n : ℕ) → IsMacOk p v m → m.iterations ≤ limit → IsContents v cs
+    → ContentsTable p limit m.iterations cs w n → MacTable p limit v m w n
+unfolding MacTable
+has_contents p limit v m cs w n ok l k t =
+    inr (λ f. true_false _ ok.of_sha1 f, inr (λ z. omega (arith, z, ok.some_rounds), inr (λ z. omega (arith, z, l), inr (λ f. true_false _ ok.agrees f, inr (λ none. none cs k, (cs, k, t))))))
+
+-- ---- The store
+
+pub too_long : (b p : List ℕ) (limit : ℕ) → 16777215 < length b → Comes b p limit (refused TooLong) 0
+unfolding Comes
+too_long b p limit h = inl (h, refl, refl)
+
+pub no_store : (b p : List ℕ) (limit : ℕ) → length b ≤ 16777215 → NoStore b → Comes b p limit (refused Malformed) 0
+unfolding Comes
+no_store b p limit h k = inr (λ z. omega (arith, z, h), inl (k, refl, refl))
+
+pub has_store : (b p : List ℕ) (limit : ℕ) (s : PFX) (w : Verdict) (n : ℕ) → length b ≤ 16777215 → IsStore b s → StoreTable p limit s w n → Comes b p limit w n
+unfolding Comes
+has_store b p limit s w n h k t = inr (λ z. omega (arith, z, h), inr (λ none. none s k, (s, k, t)))
+
+pub no_data : (p : List ℕ) (limit : ℕ) (s : PFX) → ((v : List ℕ) → s.auth_safe ≡ content.Data v → ⊥) → StoreTable p limit s (refused Unsupported) 0
+no_data p limit s h = inl (h, refl, refl)
+
+pub no_mac : (p : List ℕ) (limit : ℕ) (s : PFX) (v : List ℕ) → s.auth_safe ≡ content.Data v → s.mac_data ≡ None → StoreTable p limit s (refused MacMissing) 0
+no_mac p limit s v h k = inr (λ none. none v h, (v, h, inl (k, refl, refl)))
+
+pub has_mac : (p : List ℕ) (limit : ℕ) (s : PFX) (v : List ℕ) (m : MacData) (w : Verdict) (n : ℕ) → s.auth_safe ≡ content.Data v → s.mac_data ≡ Some m → MacTable p limit v m w n → StoreTable p limit s w n
+has_mac p limit s v m w n h k t = inr (λ none. none v h, (v, h, inr (λ z. mac_none _ m k z, (m, k, t))))
+
+-- ---- A part of the opening is what the whole comes to
+
+-- F of what follows after k steps is G of the whole.
+pub opened_as : {T : Type 0} (r : Result T TransferError) (F G : T → ℕ → Type 0) (old mid new k : ℕ) → mid ≡ old + k → ((v : T) (n : ℕ) → F v n → G v (k + n))
+    → IfOk r (λ v. (n : ℕ) × F v n × (new ≡ mid + n)) → IfOk r (λ v. (n : ℕ) × G v n × (new ≡ old + n))
+opened_as (Ok v) F G old mid new k is f h = (k + h.0, f v h.0 h.1, omega (arith, is, h.2))
+opened_as (Err e) F G old mid new k is f h = tt
+
+pub refused_by : {T : Type 0} (r : Result T TransferError) (F G : TransferError → ℕ → Type 0) (old mid new k : ℕ) → mid ≡ old + k → ((e : TransferError) (n : ℕ) → F e n → G e (k + n))
+    → IfErr r (Stops F mid new) → IfErr r (Stops G old new)
+refused_by (Ok v) F G old mid new k is f h = tt
+refused_by (Err e) F G old mid new k is f h = stops F G old mid new k is f e h
+
+-- The same where no step was taken before.
+pub opened_still : {T : Type 0} (r : Result T TransferError) (F G : T → ℕ → Type 0) (old new : ℕ) → ((v : T) (n : ℕ) → F v n → G v n) → IfOk r (λ v. (n : ℕ) × F v n × (new ≡ old + n))
+    → IfOk r (λ v. (n : ℕ) × G v n × (new ≡ old + n))
+opened_still (Ok v) F G old new f h = (h.0, f v h.0 h.1, h.2)
+opened_still (Err e) F G old new f h = tt
+
+pub refused_still : {T : Type 0} (r : Result T TransferError) (F G : TransferError → ℕ → Type 0) (old new : ℕ) → ((e : TransferError) (n : ℕ) → F e n → G e n) → IfErr r (Stops F old new)
+    → IfErr r (Stops G old new)
+refused_still (Ok v) F G old new f h = tt
+refused_still (Err e) F G old new f h = stops_as F G old new f e h

@@ -1,0 +1,15 @@
+pub mod Outside
+pub mod Memory
+pub mod Input
+pub mod Words
+pub mod Asked
+pub mod InputText
+pub mod TextCause
+pub mod DueText
+pub mod TransferError
+pub mod Status
+pub mod Parts
+pub mod Opening
+pub mod Verdicts
+pub mod Transferred
+pub mod Answers

@@ -1,0 +1,144 @@
+-- What a store is opened to, or refused for: the causes in their order, each with the steps that were taken by then.
+use Rattle.std.specs.Prelude.{◌⊎◌, ℕ, ◌+◌, ◌<◌, ◌≡◌, Bool, true, false, List, [], ◌∷◌, length, Option, Some, None}
+use Rattle.std.specs.List.{flat_map, list_any, sum_by}
+use Rattle.p12.specs.declared.algorithm_identifier.AlgorithmIdentifier.{AlgorithmIdentifier}
+use Rattle.p12.specs.declared.pfx.PFX.{PFX}
+use Rattle.p12.specs.declared.mac_data.MacData.{MacData}
+use Rattle.p12.specs.declared.content_info.ContentInfo.{ContentInfo}
+use Rattle.p12.specs.declared.content_info.ContentInfo.TheVariants as content
+use Rattle.p12.specs.declared.safe_bag.SafeBag.{SafeBag}
+use Rattle.p12.specs.declared.safe_bag.SafeBagKind.{SafeBagKind}
+use Rattle.p12.specs.declared.safe_bag.SafeBagKind.TheVariants as bag
+use Rattle.p12.specs.declared.cert_bag.CertBag.TheVariants as cert
+use Rattle.p12.specs.AlgorithmIdentifier.{cost, count, is_sha1, openable, taken, unlock}
+use Rattle.p12.specs.ContentInfo.{IsContents, NoContents}
+use Rattle.p12.specs.MacData.{mac_agrees}
+use Rattle.p12.specs.Password.{bmp_password}
+use Rattle.p12.specs.Pfx.{IsStore, NoStore}
+use Rattle.p12.specs.SafeBag.{IsBags, NoBags}
+use Rattle.transfer.specs.declared.error.TransferError.{TransferError}
+use Rattle.transfer.specs.declared.error.TransferError.TheVariants.{TooLong, Malformed, Unsupported, MacMissing, MacUnsupported, ZeroIterations, WorkLimit, MacMismatch, ContentMalformed, DecryptFailed}
+use Rattle.transfer.specs.Parts.{AreOpen, IsFirstFault, Kind, Of, Row}
+use Rattle.transfer.specs.TransferError.{RefusedBy}
+
+-- ---- Locked texts
+
+-- A locked text under a running sum: the first of its faults before it is opened. `rest` says what is wrong with the
+-- opened text. The third column: the steps that were taken at this text.
+abbrev pub LockFault : List ℕ → ℕ → ℕ → AlgorithmIdentifier → List ℕ → (List ℕ → TransferError → ℕ → Type 0) → TransferError → ℕ → Type 0
+LockFault p limit sum a c rest =
+    Row (openable a ≡ false) Unsupported 0
+    (Row (count a ≡ 0) ZeroIterations 0
+    (Row (limit < sum + cost a) WorkLimit 0
+    (Row (unlock a p c ≡ None) DecryptFailed (taken a c)
+    (Of (λ m. unlock a p c ≡ Some m) rest))))
+
+-- ---- Contents
+
+-- the plain octets of a content under a password
+abbrev pub plain : List ℕ → ContentInfo → Option (List ℕ)
+plain p (content.Data v) = Some v
+plain p (content.EncryptedData d) = unlock d.encrypted_content_info.content_encryption_algorithm p d.encrypted_content_info.encrypted_content
+plain p (content.OtherContext o) = None
+
+-- the share of the work that a content has
+abbrev pub content_share : ContentInfo → ℕ
+content_share (content.Data v) = 0
+content_share (content.EncryptedData d) = cost d.encrypted_content_info.content_encryption_algorithm
+content_share (content.OtherContext o) = 0
+
+-- A content opens to these bags.
+abbrev pub ContentOpens : List ℕ → ContentInfo → List SafeBag → Type 0
+ContentOpens p c gs = (m : List ℕ) × (plain p c ≡ Some m) × IsBags m gs
+
+-- A content under a running sum has this fault, after so many steps of its own.
+abbrev pub ContentFault : List ℕ → ℕ → ℕ → ContentInfo → TransferError → ℕ → Type 0
+ContentFault p limit sum (content.Data v) e n = NoBags v × (e ≡ ContentMalformed) × (n ≡ 0)
+ContentFault p limit sum (content.EncryptedData d) e n =
+    let a = d.encrypted_content_info.content_encryption_algorithm in
+    LockFault p limit sum a d.encrypted_content_info.encrypted_content (λ m e n. NoBags m × (e ≡ ContentMalformed) × (n ≡ cost a)) e n
+ContentFault p limit sum (content.OtherContext o) e n = (e ≡ Unsupported) × (n ≡ 0)
+
+abbrev pub of_contents : List ℕ → ℕ → Kind ContentInfo (List SafeBag) TransferError
+of_contents p limit = record { share = content_share; Opens = ContentOpens p; Fault = ContentFault p limit }
+
+-- ---- Bags
+
+-- the X.509 certificate in a bag, if it has one
+abbrev pub certificate_in : SafeBagKind → List (List ℕ)
+certificate_in (bag.CertBag (cert.X509 v)) = v ∷ []
+certificate_in (bag.CertBag (cert.SDSI t)) = []
+certificate_in (bag.Pkcs8ShroudedKeyBag k) = []
+certificate_in (bag.OtherBagKind o) = []
+
+abbrev pub certificates_in : List SafeBag → List (List ℕ)
+certificates_in gs = flat_map (λ (g : SafeBag). certificate_in g.bag) gs
+
+-- those of all contents, in order
+abbrev pub all_certificates : List (List SafeBag) → List (List ℕ)
+all_certificates gss = flat_map certificates_in gss
+
+abbrev pub is_shrouded : SafeBagKind → Bool
+is_shrouded (bag.Pkcs8ShroudedKeyBag k) = true
+is_shrouded (bag.CertBag c) = false
+is_shrouded (bag.OtherBagKind o) = false
+
+-- whether some bag is a shrouded key
+abbrev pub some_shrouded : List SafeBag → Bool
+some_shrouded gs = list_any (λ (g : SafeBag). is_shrouded g.bag) gs
+
+abbrev pub any_shrouded : List (List SafeBag) → Bool
+any_shrouded gss = list_any some_shrouded gss
+
+-- ---- Stores
+
+-- What a store comes to: a refusal, or the bags of each content.
+pub data Verdict : Type 0 where
+  refused : TransferError → Verdict
+  opened : List (List SafeBag) → Verdict
+
+-- The rows for parts in their order: the first that has a fault, or else what they open to decides further.
+abbrev pub Parts : {A B : Type 0} → Kind A B TransferError → ℕ → ℕ → List A → (List B → Verdict → ℕ → Type 0) → Verdict → ℕ → Type 0
+Parts {A} {B} K limit sum xs rest w n =
+    ((e : TransferError) × (k : ℕ) × IsFirstFault K limit sum xs e k × (w ≡ refused e) × (n ≡ sum + k))
+    ⊎ ((ys : List B) × AreOpen K limit sum xs ys × rest ys w n)
+
+-- The last row: shrouded keys are not transferred.
+abbrev pub BagsTable : ℕ → List (List SafeBag) → Verdict → ℕ → Type 0
+BagsTable sum gss = Row (any_shrouded gss ≡ true) (refused Unsupported) sum (λ w n. (w ≡ opened gss) × (n ≡ sum))
+
+unfoldable pub ContentsTable : List ℕ → ℕ → ℕ → List ContentInfo → Verdict → ℕ → Type 0
+ContentsTable p limit sum cs = Parts (of_contents p limit) limit sum cs (BagsTable (sum + sum_by content_share cs))
+
+unfoldable pub MacTable : List ℕ → ℕ → List ℕ → MacData → Verdict → ℕ → Type 0
+MacTable p limit v m =
+    Row (is_sha1 m.mac.digest_algorithm ≡ false) (refused MacUnsupported) 0
+    (Row (m.iterations ≡ 0) (refused ZeroIterations) 0
+    (Row (limit < m.iterations) (refused WorkLimit) 0
+    (Row (mac_agrees m (bmp_password p) v ≡ false) (refused MacMismatch) m.iterations
+    (Row (NoContents v) (refused ContentMalformed) m.iterations
+    (Of (λ cs. IsContents v cs) (λ cs. ContentsTable p limit m.iterations cs))))))
+
+abbrev pub StoreTable : List ℕ → ℕ → PFX → Verdict → ℕ → Type 0
+StoreTable p limit s =
+    Row ((v : List ℕ) → s.auth_safe ≡ content.Data v → ⊥) (refused Unsupported) 0
+    (Of (λ v. s.auth_safe ≡ content.Data v) (λ v.
+    Row (s.mac_data ≡ None) (refused MacMissing) 0
+    (Of (λ m. s.mac_data ≡ Some m) (λ m. MacTable p limit v m))))
+
+-- The octets b under the password p and the limit: the first row that holds decides what the store comes to, and the
+-- steps that were taken by then.
+unfoldable pub Comes : List ℕ → List ℕ → ℕ → Verdict → ℕ → Type 0
+Comes b p limit =
+    Row (16777215 < length b) (refused TooLong) 0
+    (Row (NoStore b) (refused Malformed) 0
+    (Of (IsStore b) (λ s. StoreTable p limit s)))
+
+-- The first cause to refuse the store, or none.
+abbrev pub FirstCause : List ℕ → List ℕ → ℕ → Option TransferError → Type 0
+FirstCause b p limit (Some e) = (n : ℕ) × Comes b p limit (refused e) n
+FirstCause b p limit None = (gss : List (List SafeBag)) × (n : ℕ) × Comes b p limit (opened gss) n
+
+-- A refusal other than for want of memory has F, with the steps that were taken.
+abbrev pub Stops : (TransferError → ℕ → Type 0) → ℕ → ℕ → TransferError → Type 0
+Stops F old new e = RefusedBy (λ e. (n : ℕ) × F e n × (new ≡ old + n)) e

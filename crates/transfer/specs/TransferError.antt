@@ -1,0 +1,23 @@
+-- The refusals of a store.
+use Rattle.std.specs.Prelude.{ℕ, List, codes, ⊤}
+use Rattle.transfer.specs.declared.error.TransferError.{TransferError}
+use Rattle.transfer.specs.declared.error.TransferError.TheVariants.{TooLong, Malformed, Unsupported, MacMissing, MacUnsupported, ZeroIterations, WorkLimit, MacMismatch, ContentMalformed, DecryptFailed, Memory}
+
+-- the name of a refusal
+unfoldable pub error_name : TransferError → List ℕ
+error_name TooLong = codes "TooLong"
+error_name Malformed = codes "Malformed"
+error_name Unsupported = codes "Unsupported"
+error_name MacMissing = codes "MacMissing"
+error_name MacUnsupported = codes "MacUnsupported"
+error_name ZeroIterations = codes "ZeroIterations"
+error_name WorkLimit = codes "WorkLimit"
+error_name MacMismatch = codes "MacMismatch"
+error_name ContentMalformed = codes "ContentMalformed"
+error_name DecryptFailed = codes "DecryptFailed"
+error_name Memory = codes "Memory"
+
+-- Want of memory may come at any point, and any other refusal e only where P e.
+abbrev pub RefusedBy : (TransferError → Type 0) → TransferError → Type 0
+RefusedBy P Memory = ⊤
+RefusedBy P e = P e

@@ -1,0 +1,65 @@
+-- One store has one verdict, and which stores are valid.
+use Rattle.std.specs.Prelude.{ℕ, ◌+◌, ◌≤◌, ◌≡◌, ◌↔◌, List, length, Some, None, true, false}
+use Rattle.std.specs.List.{sum_by}
+use Rattle.p12.specs.declared.pfx.PFX.{PFX}
+use Rattle.p12.specs.declared.mac_data.MacData.{MacData}
+use Rattle.p12.specs.declared.content_info.ContentInfo.{ContentInfo}
+use Rattle.p12.specs.declared.content_info.ContentInfo.TheVariants as content
+use Rattle.p12.specs.declared.safe_bag.SafeBag.{SafeBag}
+use Rattle.p12.specs.AlgorithmIdentifier.{is_sha1}
+use Rattle.p12.specs.ContentInfo.{IsContents}
+use Rattle.p12.specs.MacData.{mac_agrees}
+use Rattle.p12.specs.Password.{bmp_password}
+use Rattle.p12.specs.Pfx.{IsStore}
+use Rattle.transfer.specs.Parts.{Each}
+use Rattle.transfer.specs.Opening.{Comes, ContentOpens, FirstCause, any_shrouded, content_share, opened}
+
+-- The MAC of a store agrees under a password.
+pub record IsMacOk (p v : List ℕ) (m : MacData) : Type 0 where
+  pub of_sha1 : is_sha1 m.mac.digest_algorithm ≡ true
+  pub some_rounds : 1 ≤ m.iterations
+  pub agrees : mac_agrees m (bmp_password p) v ≡ true
+
+-- The text of a store lists these contents, each opens to these bags, and no bag is shrouded.
+pub record IsOpening (p v : List ℕ) (cs : List ContentInfo) (gss : List (List SafeBag)) : Type 0 where
+  pub contents : IsContents v cs
+  pub bags : Each (ContentOpens p) cs gss
+  pub plain : any_shrouded gss ≡ false
+
+-- the work of a store: the count of its MAC, and then the share of each content
+abbrev pub work : MacData → List ContentInfo → ℕ
+work m cs = m.iterations + sum_by content_share cs
+
+-- A store opens to these bags, by so much work, whatever the limit.
+pub record Opens (b p : List ℕ) (gss : List (List SafeBag)) (n : ℕ) : Type 0 where
+  pub short : length b ≤ 16777215
+  pub store : PFX
+  pub is : IsStore b store
+  pub text : List ℕ
+  pub is_data : store.auth_safe ≡ content.Data text
+  pub mac : MacData
+  pub has : store.mac_data ≡ Some mac
+  pub mac_ok : IsMacOk p text mac
+  pub parts : List ContentInfo
+  pub opening : IsOpening p text parts gss
+  pub work : n ≡ work mac parts
+
+-- A store is valid under a password and a limit.
+abbrev pub IsValid : List ℕ → List ℕ → ℕ → Type 0
+IsValid b p limit = (gss : List (List SafeBag)) × (n : ℕ) × Opens b p gss n × (n ≤ limit)
+
+-- A table gives at most one answer and one number of steps.
+abbrev pub Sole : {V : Type 0} → (V → ℕ → Type 0) → Type 0
+Sole {V} T = (v w : V) (m n : ℕ) → T v m → T w n → (v ≡ w) × (m ≡ n)
+
+-- One store has one verdict, after one number of steps.
+abbrev pub OneVerdict : Type 0
+OneVerdict = (b p : List ℕ) (limit : ℕ) → Sole (Comes b p limit)
+
+-- A store comes to be opened exactly where it opens within the limit, and then its work is the number of steps.
+abbrev pub OpenedExactly : Type 0
+OpenedExactly = (b p : List ℕ) (limit : ℕ) (gss : List (List SafeBag)) (n : ℕ) → Comes b p limit (opened gss) n ↔ (Opens b p gss n × (n ≤ limit))
+
+-- No cause refuses a store exactly where it is valid.
+abbrev pub ValidExactly : Type 0
+ValidExactly = (b p : List ℕ) (limit : ℕ) → FirstCause b p limit None ↔ IsValid b p limit

@@ -1,0 +1,19 @@
+//! Laws of the table of causes: each stands on a function that does nothing.
+ghost use Rattle.transfer.specs.Verdicts.{OneVerdict, OpenedExactly, ValidExactly};
+
+/// One store has one verdict, after one number of steps.
+#[tactic(auto, using(crate::proofs::Sole::comes_sole))]
+pub fn one_verdict()
+    ensures { OneVerdict }
+{}
+
+/// A store is opened exactly where it opens within the limit, and then the steps are its work.
+#[tactic(auto, using(crate::proofs::Valid::opened_exactly))]
+pub fn opened_exactly()
+    ensures { OpenedExactly }
+{}
+
+/// No cause refuses a store exactly where it is valid.
+pub fn valid_exactly()
+    ensures { ValidExactly }
+{}

@@ -1,0 +1,35 @@
+//! The transfer of a PKCS#12 store: the program's top call `run`, and below it `transfer`.
+//!
+//! `run` reads words and an input, opens the store that the input spells, and writes its certificates. What each answer
+//! means stands in the contract of `run`; the causes of a refusal stand in order in `specs/Opening.antt`.
+#![tactic(auto)]
+
+mod certificates;
+mod decision;
+mod due_text;
+mod error;
+mod input;
+mod input_text;
+mod laws;
+mod lock;
+mod mac;
+mod memory;
+mod opening;
+mod outside;
+mod password;
+mod status;
+mod streams;
+#[cfg(test)]
+mod tests;
+mod top_call;
+mod transferred;
+mod words;
+
+pub use error::TransferError;
+pub use laws::{one_verdict, opened_exactly, valid_exactly};
+pub use memory::{MemorySink, MemorySource};
+pub use outside::{Failed, Sink, Source};
+pub use status::Status;
+pub use streams::{ReadSource, WriteSink};
+pub use top_call::run;
+pub use transferred::{Transferred, transfer};

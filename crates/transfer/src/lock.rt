@@ -1,0 +1,83 @@
+//! Locked texts.
+ghost use Rattle.std.specs.Prelude.{◌≡◌, ◌+◌, ◌≤◌, ◌<◌, ◌^◌, ℕ, length, true, false, Some, IfOk, IfErr, IfSome, IfNone, OnOk};
+ghost use Rattle.p12.specs.AlgorithmIdentifier.{cost, count, openable, salt_of, taken, unlock};
+ghost use Rattle.transfer.specs.Opening.{LockFault, Stops};
+
+use crate::error::TransferError;
+use crate::password::StorePassword;
+use asn1_core::{Error, Octets};
+use p12::AlgorithmIdentifier;
+use std::alloc::Global;
+use std::sync::ledger::Ledger;
+use steps::Steps;
+
+/// The count of an algorithm that can be opened, and its share of the work: three digests an iteration, two for the key
+/// and one for the IV.
+fn count_and_cost(algorithm: &AlgorithmIdentifier) -> Option<(u64, u128)>
+    ensures some { IfSome result (λ r. (openable algorithm.now ≡ true) × (r.0 ≡ count algorithm.now) × (r.1 ≡ cost algorithm.now)) }
+    ensures none { IfNone result (openable algorithm.now ≡ false) }
+{
+    match algorithm {
+        AlgorithmIdentifier::PbeWithSHAAnd3KeyTripleDESCBC(parameters) => {
+            Some((parameters.iterations, 3 * u128::from(parameters.iterations)))
+        }
+        _ => None,
+    }
+}
+
+/// The plain octets of a text under the password; None where it does not open. The only refusal is `Memory`.
+#[tactic(auto, unfolding(p12::specs::AlgorithmIdentifier::unlock))]
+fn decrypt<L: Ledger>(
+    alloc: Global,
+    algorithm: &AlgorithmIdentifier,
+    text: &[u8],
+    password: &StorePassword,
+    steps: &mut Steps<L>,
+) -> Result<Option<Octets>, Error>
+    requires text { length text.now < 2 ^ 32 }
+    requires salt { length (salt_of algorithm.now) < 2 ^ 32 }
+    requires password { length password.now < 2 ^ 57 }
+    ensures value { IfOk result (λ m. m ≡ unlock algorithm.now password.now text.now) }
+    ensures err { IfErr result (λ e. e ≡ Error.Memory) }
+    ensures steps { OnOk result (steps.new ≡ steps.old + taken algorithm.now text.now) }
+    ensures at_most { (steps.old ≤ steps.new) × (steps.new ≤ steps.old + taken algorithm.now text.now) }
+{
+    match algorithm.decrypt_pbe_counted(alloc, text, password.units(), steps) {
+        Ok(plain) => Ok(plain),
+        Err(_) => Err(Error::Memory),
+    }
+}
+
+/// Opens a locked text under a running sum of `spent`, and answers the running sum behind it.
+pub(crate) fn open_lock<L: Ledger>(
+    alloc: Global,
+    algorithm: &AlgorithmIdentifier,
+    text: &[u8],
+    password: &StorePassword,
+    limit: u64,
+    spent: u64,
+    steps: &mut Steps<L>,
+) -> Result<(Octets, u64), TransferError>
+    requires text { length text.now < 2 ^ 32 }
+    requires salt { length (salt_of algorithm.now) < 2 ^ 32 }
+    requires password { length password.now < 2 ^ 57 }
+    requires within { spent ≤ limit }
+    ensures opened { IfOk result (λ r. (unlock algorithm.now password.now text.now ≡ Some r.0)
+        × (r.1 ≡ spent + cost algorithm.now) × (r.1 ≤ limit) × (steps.new ≡ steps.old + cost algorithm.now)) }
+    ensures refused { IfErr result (Stops (LockFault password.now limit spent algorithm.now text.now (λ _ _ _. ⊥)) steps.old steps.new) }
+    ensures at_most { (steps.old ≤ steps.new) × (steps.new + spent ≤ steps.old + limit) }
+{
+    let Some((count, cost)) = count_and_cost(algorithm) else {
+        return Err(TransferError::Unsupported);
+    };
+    if count == 0 {
+        return Err(TransferError::ZeroIterations);
+    }
+    if cost > u128::from(limit - spent) {
+        return Err(TransferError::WorkLimit);
+    }
+    match decrypt(alloc, algorithm, text, password, steps)? {
+        Some(plain) => Ok((plain, spent + cost as u64)),
+        None => Err(TransferError::DecryptFailed),
+    }
+}

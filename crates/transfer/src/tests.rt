@@ -1,0 +1,400 @@
+//! What no clause says: that calls come to an answer where memory is ample, and what is written then.
+ghost use Rattle.std.specs.Prelude.{◌≡◌, ◌<◌};
+
+use crate::{Failed, MemorySink, MemorySource, ReadSource, Sink, Source, Status, WriteSink, run};
+use asn1_core::{Items, Octets};
+use std::alloc::Global;
+use std::marker::Brand;
+use std::process::Abort;
+use std::sync::ledger::{Blank, Ledger};
+use std::test::Fail;
+use steps::Steps;
+
+/// The words of a line.
+fn words_of(alloc: Global, line: &str) -> Result<Vec<String>, Fail> {
+    let mut words = Vec::new(alloc);
+    for word in line.split(' ') {
+        words.push(String::from_str(alloc, word)?)?;
+    }
+    Ok(words)
+}
+
+/// A run over memory, in pieces of 3 octets, where the read and the write of these numbers fail.
+fn ran<L: Ledger, R: Abort>(
+    rt: &R,
+    alloc: Global,
+    words: &[String],
+    input: &[u8],
+    failing_read: u64,
+    failing_write: u64,
+    status: Status,
+    written: &[u8],
+    blank: Blank,
+) -> Result<(), Fail>
+    requires name { blank.name ≡ L.name }
+    requires parts { blank.parts ≡ L.parts }
+    requires some { 0 < blank.parts }
+{
+    let mut failing_reads = Items::new(alloc);
+    failing_reads.push(failing_read)?;
+    let mut failing_writes = Items::new(alloc);
+    failing_writes.push(failing_write)?;
+    let mut source = MemorySource::new(Octets::from_slice(alloc, input)?, 3, failing_reads);
+    let mut sink = MemorySink::new(alloc, 1000, failing_writes)?;
+    let mut steps = Steps::<L>::open(blank);
+    let answer = run(alloc, words, &mut source, &mut sink, &mut steps);
+    assert_eq!(rt; answer, status);
+    assert_eq!(rt; sink.octets(), written);
+    Ok(())
+}
+
+const NEVER: u64 = 1000;
+
+#[test]
+fn words_of_another_form_are_usage(rt: HostRuntime) -> Result<(), Fail> {
+    let alloc = rt.alloc();
+    for line in [
+        "transfer p q 1",
+        "transfer p q 1 9 9",
+        "transfer p q 1 09",
+        "transfer p q 1 +9",
+        "transfer p q 0 9",
+        "transfer p q 100000001 9",
+        "transfer p q 1 18446744073709551616",
+        "sample p q 1 9",
+    ] {
+        let words = words_of(alloc, line)?;
+        ran::<Brand, _>(
+            &rt,
+            alloc,
+            words.as_slice(),
+            b"30",
+            NEVER,
+            NEVER,
+            Status::Usage,
+            b"error: Usage\n",
+            Blank::new(1),
+        )?;
+    }
+    Ok(())
+}
+
+#[test]
+fn an_input_that_is_no_line_of_digits_is_malformed(rt: HostRuntime) -> Result<(), Fail> {
+    let alloc = rt.alloc();
+    let words = words_of(alloc, "transfer p q 1 9")?;
+    for text in ["3g", "300", "300\n", "30\n\n", "30\n30\n", " 30"] {
+        ran::<Brand, _>(
+            &rt,
+            alloc,
+            words.as_slice(),
+            text.as_bytes(),
+            NEVER,
+            NEVER,
+            Status::InputMalformed,
+            b"error: InputMalformed\n",
+            Blank::new(1),
+        )?;
+    }
+    Ok(())
+}
+
+#[test]
+fn a_failed_read_and_a_failed_write_are_named(rt: HostRuntime) -> Result<(), Fail> {
+    let alloc = rt.alloc();
+    let words = words_of(alloc, "transfer p q 1 9")?;
+    ran::<Brand, _>(
+        &rt,
+        alloc,
+        words.as_slice(),
+        b"3000",
+        1,
+        NEVER,
+        Status::ReadFault,
+        b"error: ReadFault\n",
+        Blank::new(1),
+    )?;
+    ran::<Brand, _>(
+        &rt,
+        alloc,
+        words.as_slice(),
+        b"3",
+        NEVER,
+        0,
+        Status::WriteFault,
+        b"",
+        Blank::new(1),
+    )
+}
+
+#[test]
+fn a_source_gives_pieces_and_fails_at_the_listed_reads(rt: HostRuntime) -> Result<(), Fail> {
+    let alloc = rt.alloc();
+    let mut failing = Items::new(alloc);
+    failing.push(1)?;
+    let mut source = MemorySource::new(Octets::from_slice(alloc, b"abcde")?, 3, failing);
+    let mut buffer = [0; 4];
+    assert_eq!(rt; source.read(&mut buffer), Ok(3));
+    assert_eq!(rt; source.read(&mut buffer), Err(Failed));
+    assert_eq!(rt; source.read(&mut buffer), Ok(2));
+    assert_eq!(rt; &buffer, b"dec\0");
+    assert_eq!(rt; source.read(&mut buffer), Ok(0));
+    Ok(())
+}
+
+#[test]
+fn a_sink_takes_what_it_has_room_for(rt: HostRuntime) -> Result<(), Fail> {
+    let alloc = rt.alloc();
+    let mut failing = Items::new(alloc);
+    failing.push(0)?;
+    let mut sink = MemorySink::new(alloc, 5, failing)?;
+    assert_eq!(rt; sink.write(b"abc"), Err(Failed));
+    assert_eq!(rt; sink.write(b"abc"), Ok(3));
+    assert_eq!(rt; sink.write(b"def"), Ok(2));
+    assert_eq!(rt; sink.write(b"f"), Err(Failed));
+    assert_eq!(rt; sink.write(b""), Ok(0));
+    assert_eq!(rt; sink.octets(), b"abcde".as_slice());
+    Ok(())
+}
+
+#[test]
+fn a_source_over_a_reader_reads_it(rt: HostRuntime) -> Result<(), Fail> {
+    let octets: &[u8] = b"abc";
+    let mut source = ReadSource::new(octets);
+    let mut buffer = [0; 4];
+    assert_eq!(rt; source.read(&mut buffer), Ok(3));
+    assert_eq!(rt; &buffer, b"abc\0");
+    assert_eq!(rt; source.read(&mut buffer), Ok(0));
+    Ok(())
+}
+
+#[test]
+fn a_sink_over_a_writer_writes_to_it(rt: HostRuntime) -> Result<(), Fail> {
+    let mut sink = WriteSink::new(Vec::new(rt.alloc()));
+    assert_eq!(rt; sink.write(b"abc"), Ok(3));
+    assert_eq!(rt; sink.write(b""), Ok(0));
+    Ok(())
+}
+
+/// One certificate in a plain content, with a MAC of one round under the password `p`.
+const STORE: &str =
+    "308180020103304906092a864886f70d010701a03c043a3038303606092a864886f70d010701a029042730253023060b2a864886f70d010c0a0103a0143012060a2a864886f70d01091601a0040402300030303021300906052b0e03021a050004147da6cea4c0b8de69aea926d01f9ee8c88cc45d2b04080102030405060708020101";
+
+/// The same certificate in a content under Triple DES of two rounds.
+const SEALED_STORE: &str =
+    "3081b0020103307906092a864886f70d010701a06c046a3068306606092a864886f70d010706a0593057020100305206092a864886f70d010701301b060a2a864886f70d010c0103300d0408080706050403020102010280287873788e8e3e60877e5037817e5579ae4a00be95da2efe4da705e184f285071b846962c79482f0c630303021300906052b0e03021a050004145f7379ade122642977f123ae10f9f15cdeb0bcc304080102030405060708020101";
+
+/// An empty store with a MAC of one round under the empty password.
+const EMPTY_STORE: &str =
+    "3048020103301106092a864886f70d010701a0040402300030303021300906052b0e03021a05000414a4a4af5bf30c0ed0d079c4d2a57fdcd230149ec904080102030405060708020101";
+
+/// An empty store whose MAC is zeros.
+const ZERO_MAC_STORE: &str =
+    "3040020103301106092a864886f70d010701a0040402300030283021300906052b0e03021a0500041400000000000000000000000000000000000000000400020101";
+
+#[test]
+fn certificates_are_written(rt: HostRuntime) -> Result<(), Fail> {
+    let alloc = rt.alloc();
+    for (line, digits, text) in [
+        ("transfer p q 1 1", STORE, "cert 3000\n"),
+        ("transfer p q 1 7", SEALED_STORE, "cert 3000\n"),
+        ("transfer  q 1 1", EMPTY_STORE, ""),
+    ] {
+        let words = words_of(alloc, line)?;
+        ran::<Brand, _>(
+            &rt,
+            alloc,
+            words.as_slice(),
+            digits.as_bytes(),
+            NEVER,
+            NEVER,
+            Status::Done,
+            text.as_bytes(),
+            Blank::new(1),
+        )?;
+    }
+    Ok(())
+}
+
+#[test]
+fn stores_with_a_fault_are_refused(rt: HostRuntime) -> Result<(), Fail> {
+    let alloc = rt.alloc();
+    for (line, digits, status, text) in [
+        (
+            "transfer p q 1 9",
+            "3016020103301106092a864886f70d010701a00404023000",
+            Status::MacMissing,
+            "error: MacMissing\n",
+        ),
+        (
+            "transfer p q 1 9",
+            "3040020103301106092a864886f70d010701a0040402300030283021300906052b0e03021a0500041400000000000000000000000000000000000000000400020100",
+            Status::ZeroIterations,
+            "error: ZeroIterations\n",
+        ),
+        (
+            "transfer p q 1 0",
+            "3040020103301106092a864886f70d010701a0040402300030283021300906052b0e03021a0500041400000000000000000000000000000000000000000400020100",
+            Status::ZeroIterations,
+            "error: ZeroIterations\n",
+        ),
+        (
+            "transfer p q 1 0",
+            ZERO_MAC_STORE,
+            Status::WorkLimit,
+            "error: WorkLimit\n",
+        ),
+        (
+            "transfer p q 1 1",
+            ZERO_MAC_STORE,
+            Status::MacMismatch,
+            "error: MacMismatch\n",
+        ),
+        (
+            "transfer x q 1 9",
+            STORE,
+            Status::MacMismatch,
+            "error: MacMismatch\n",
+        ),
+        (
+            "transfer x q 1 9",
+            SEALED_STORE,
+            Status::MacMismatch,
+            "error: MacMismatch\n",
+        ),
+        (
+            "transfer p q 1 6",
+            SEALED_STORE,
+            Status::WorkLimit,
+            "error: WorkLimit\n",
+        ),
+    ] {
+        let words = words_of(alloc, line)?;
+        ran::<Brand, _>(
+            &rt,
+            alloc,
+            words.as_slice(),
+            digits.as_bytes(),
+            NEVER,
+            NEVER,
+            status,
+            text.as_bytes(),
+            Blank::new(1),
+        )?;
+    }
+    Ok(())
+}
+
+#[test]
+fn texts_that_are_no_store_are_malformed(rt: HostRuntime) -> Result<(), Fail> {
+    let alloc = rt.alloc();
+    for (line, digits, status, text) in [
+        (
+            "transfer p q 1 9",
+            "3016020103301106092a864886f70d010701a0040402300000",
+            Status::Malformed,
+            "error: Malformed\n",
+        ),
+        (
+            "transfer p q 1 9",
+            "3016020103301106092a864886f70d010701a004040230",
+            Status::Malformed,
+            "error: Malformed\n",
+        ),
+        (
+            "transfer p q 1 9",
+            "308116020103301106092a864886f70d010701a00404023000",
+            Status::Malformed,
+            "error: Malformed\n",
+        ),
+        (
+            "transfer p q 1 9",
+            "",
+            Status::Malformed,
+            "error: Malformed\n",
+        ),
+    ] {
+        let words = words_of(alloc, line)?;
+        ran::<Brand, _>(
+            &rt,
+            alloc,
+            words.as_slice(),
+            digits.as_bytes(),
+            NEVER,
+            NEVER,
+            status,
+            text.as_bytes(),
+            Blank::new(1),
+        )?;
+    }
+    Ok(())
+}
+
+#[test]
+fn contents_that_do_not_open_are_refused(rt: HostRuntime) -> Result<(), Fail> {
+    let alloc = rt.alloc();
+    for (line, digits, status, text) in [
+        (
+            "transfer p q 1 9",
+            "30818f020103305806092a864886f70d010701a04b04493047304506092a864886f70d010706a0383036020100303106092a864886f70d010701301b060a2a864886f70d010c0103300d0408080706050403020102010280077873788e8e3e6030303021300906052b0e03021a05000414596b85773f9dcc1d05f1eab6d2c7587ccc559da504080102030405060708020101",
+            Status::DecryptFailed,
+            "error: DecryptFailed\n",
+        ),
+        (
+            "transfer p q 1 9",
+            "308188020103305106092a864886f70d010701a04404423040303e06092a864886f70d010706a031302f020100302a06092a864886f70d010701301b060a2a864886f70d010c0103300d04080807060504030201020102800030303021300906052b0e03021a05000414c4dffff6e93e0104b29fb8b8d01ae2cf727553bf04080102030405060708020101",
+            Status::DecryptFailed,
+            "error: DecryptFailed\n",
+        ),
+        (
+            "transfer p q 1 9",
+            "3081b902010330818106092a864886f70d010701a07404723070306e06092a864886f70d010706a061305f020100305a06092a864886f70d010701301b060a2a864886f70d010c0103300d0408080706050403020102010280307873788e8e3e60877e5037817e5579ae4a00be95da2efe4da705e184f285071bfeb8bede6ec9e7472b7dd3421f48607730303021300906052b0e03021a0500041496d04db9fe8ba4b574ca2a5c09f8549c5a10b71e04080102030405060708020101",
+            Status::DecryptFailed,
+            "error: DecryptFailed\n",
+        ),
+        (
+            "transfer p q 1 9",
+            "3081b0020103307906092a864886f70d010701a06c046a3068306606092a864886f70d010706a0593057020100305206092a864886f70d010701301b060a2a864886f70d010c0103300d0408080706050403020102010080287873788e8e3e60877e5037817e5579ae4a00be95da2efe4da705e184f285071b846962c79482f0c630303021300906052b0e03021a05000414f17df4741f6734e71c415fbd046be6e61233a16d04080102030405060708020101",
+            Status::ZeroIterations,
+            "error: ZeroIterations\n",
+        ),
+        (
+            "transfer p q 1 9",
+            "3081b0020103307906092a864886f70d010701a06c046a3068306606092a864886f70d010706a0593057020100305206092a864886f70d010701301b060a2a864886f70d010c0106300d0408080706050403020102010280287873788e8e3e60877e5037817e5579ae4a00be95da2efe4da705e184f285071b846962c79482f0c630303021300906052b0e03021a050004143a5a5d494a1e2bde3f8a39beca7e0021564210f304080102030405060708020101",
+            Status::Unsupported,
+            "error: Unsupported\n",
+        ),
+        (
+            "transfer p q 1 9",
+            "3081b4020103307906092a864886f70d010701a06c046a3068306606092a864886f70d010706a0593057020100305206092a864886f70d010701301b060a2a864886f70d010c0103300d0408080706050403020102010280287873788e8e3e60877e5037817e5579ae4a00be95da2efe4da705e184f285071b846962c79482f0c630343025300d0609608648016503040201050004145f7379ade122642977f123ae10f9f15cdeb0bcc304080102030405060708020101",
+            Status::MacUnsupported,
+            "error: MacUnsupported\n",
+        ),
+        (
+            "transfer p q 1 9",
+            "3081b902010330818106092a864886f70d010701a07404723070306e06092a864886f70d010706a061305f020100305a06092a864886f70d010701301b060a2a864886f70d010c0103300d0408080706050403020102010280307873788e8e3e60877e5037817e5579ae4a00be95da2efe4da705e184f285071b70deca1d898819f1452e1ce8ed6148d430303021300906052b0e03021a050004149980777176dd238bb0439bfe13ade0bed36d5d6d04080102030405060708020101",
+            Status::ContentMalformed,
+            "error: ContentMalformed\n",
+        ),
+        (
+            "transfer p q 1 9",
+            "308201210201033081e906092a864886f70d010701a081db0481d83081d5306606092a864886f70d010706a0593057020100305206092a864886f70d010701301b060a2a864886f70d010c0103300d0408080706050403020102010280287873788e8e3e60877e5037817e5579ae4a00be95da2efe4da705e184f285071b846962c79482f0c6306b06092a864886f70d010701a05e045c305a3058060b2a864886f70d010c0a0102a0493047301b060a2a864886f70d010c0103300d0408080706050403020102010204287873788e8e3e60877e5037817e5579ae4a00be95da2efe4da705e184f285071b846962c79482f0c630303021300906052b0e03021a050004146a221c4f5813789a80c10f82d8c9b0b04320db4b04080102030405060708020101",
+            Status::Unsupported,
+            "error: Unsupported\n",
+        ),
+    ] {
+        let words = words_of(alloc, line)?;
+        ran::<Brand, _>(
+            &rt,
+            alloc,
+            words.as_slice(),
+            digits.as_bytes(),
+            NEVER,
+            NEVER,
+            status,
+            text.as_bytes(),
+            Blank::new(1),
+        )?;
+    }
+    Ok(())
+}

@@ -1,0 +1,94 @@
+//! The top call.
+ghost use Rattle.std.specs.Prelude.{◌≡◌, ◌≢◌, ◌⊎◌, ◌+◌, ◌<◌, ◌≤◌, List, ℕ, [], map, length, IfSome};
+ghost use Rattle.std.specs.String.{string_bytes};
+ghost use Rattle.std.specs.Io.KnownBytes.{Appends};
+ghost use Rattle.transfer.specs.Answers.{Due, IsExact, IsGiven, IsRead, Makes, RefusesInput, TransfersInput, call_of, decided_status, decided_text};
+ghost use Rattle.transfer.specs.DueText.{AppendsPart};
+ghost use Rattle.transfer.specs.Input.{input_limit};
+ghost use Rattle.transfer.specs.InputText.{IsNoInput};
+ghost use Rattle.transfer.specs.Outside.{Rose};
+ghost use Rattle.transfer.specs.Status.{status_of};
+ghost use Rattle.transfer.specs.Words.{Command, IsCommand, IsNoCommand};
+ghost use Rattle.transfer.specs.declared.error.TransferError.{TransferError};
+ghost use Rattle.transfer.specs.declared.status.Status.{Status};
+
+use crate::decision::decide;
+use crate::due_text::{write_lines, write_piece};
+use crate::error::TransferError;
+use crate::outside::{Sink, Source};
+use crate::status::Status;
+use asn1_core::{Items, Octets};
+use std::alloc::Global;
+use std::sync::ledger::Ledger;
+use steps::Steps;
+
+/// Writes what is due for a decision, and answers its status, or that a write failed.
+fn write_decision<O: Sink>(output: &mut O, decision: Result<Items<Octets>, Status>) -> Status
+    requires { decided_status decision ≢ Status.WriteFault }
+    ensures whole { result ≢ Status.WriteFault → (result ≡ decided_status decision) × Appends (O.written output.old) (O.written output.new) (decided_text decision) }
+    ensures part { result ≡ Status.WriteFault → Rose (O.faults output.old) (O.faults output.new) × AppendsPart (O.written output.old) (O.written output.new) (decided_text decision) }
+{
+    match decision {
+        Ok(lines) => match write_lines(output, lines.as_slice()) {
+            Ok(()) => Status::Done,
+            Err(_) => Status::WriteFault,
+        },
+        Err(status) => match write_piece(output, status.error_line().as_bytes()) {
+            Ok(()) => status,
+            Err(_) => Status::WriteFault,
+        },
+    }
+}
+
+/// Does what the words ask for: reads the input to its end, opens the store that it spells, and writes what is due.
+///
+/// `words` are those after the program's name: `transfer`, the password, the new password, the rounds, the limit. The
+/// input is a line of hexadecimal digits. The output is a line `cert ` with lower-case digits for each certificate, and on
+/// another status than Done the line `error: ` with its name.
+pub fn run<I: Source, O: Sink, L: Ledger>(
+    alloc: Global,
+    words: &[String],
+    input: &mut I,
+    output: &mut O,
+    steps: &mut Steps<L>,
+) -> Status
+    // Usage comes exactly where the words are no command's; then nothing is read and no step taken.
+    ensures usage { IsNoCommand (map string_bytes words.now) → (result ≡ Status.Usage) ⊎ (result ≡ Status.WriteFault) }
+    ensures usage_only { result ≡ Status.Usage → IsNoCommand (map string_bytes words.now) }
+    ensures untouched { IsNoCommand (map string_bytes words.now) → (input.new ≡ input.old) × (steps.new ≡ steps.old) }
+    // ReadFault and WriteFault come only where the object's count of faults rose, or stands at its last value.
+    ensures read_fault { result ≡ Status.ReadFault → Rose (I.faults input.old) (I.faults input.new) }
+    ensures write_fault { result ≡ Status.WriteFault → Rose (O.faults output.old) (O.faults output.new) }
+    // InputTooLong comes only where more octets than the limit stand in the input.
+    ensures too_long { result ≡ Status.InputTooLong → IfSome (I.left input.old) (λ x. input_limit < length x) }
+    // InputMalformed comes only where the input was read to its end and spells no store.
+    ensures malformed { let call = call_of (I.left input.old) (I.left input.new) (I.faults input.old) (I.faults input.new) steps.old steps.new in
+        result ≡ Status.InputMalformed → IsRead call IsNoInput }
+
+    // Each refusal of the store comes only where it is the first cause, and after exactly the steps of that cause.
+    ensures refused { let call = call_of (I.left input.old) (I.left input.new) (I.faults input.old) (I.faults input.new) steps.old steps.new in
+        (e : TransferError) → e ≢ TransferError.Memory → result ≡ status_of e → (c : Command) × IsCommand (map string_bytes words.now) c × RefusesInput call c.password c.limit e }
+
+    // Done comes only where the input was read to its end and no cause refuses the store; then the output grew by its
+    // certificates in order, and the steps by exactly its work.
+    ensures done { let call = call_of (I.left input.old) (I.left input.new) (I.faults input.old) (I.faults input.new) steps.old steps.new in
+        result ≡ Status.Done → (text : List ℕ) × (c : Command) × IsCommand (map string_bytes words.now) c × TransfersInput call c.password c.limit text
+        × Appends (O.written output.old) (O.written output.new) text }
+
+    // On each status but WriteFault the text that is due for it was written, and on WriteFault a proper prefix of the
+    // text that is due for a status that this call allows.
+    ensures written { let call = call_of (I.left input.old) (I.left input.new) (I.faults input.old) (I.faults input.new) steps.old steps.new in
+        result ≢ Status.WriteFault → (text : List ℕ) × Due (map string_bytes words.now) call result text × Appends (O.written output.old) (O.written output.new) text }
+    ensures part { let call = call_of (I.left input.old) (I.left input.new) (I.faults input.old) (I.faults input.new) steps.old steps.new in
+        result ≡ Status.WriteFault → (s : Status) × (text : List ℕ) × Due (map string_bytes words.now) call s text × AppendsPart (O.written output.old) (O.written output.new) text }
+
+    // Where no count of faults rose or stands at its last value, each answer comes where its cause holds, or Memory.
+    ensures exact { let call = call_of (I.left input.old) (I.left input.new) (I.faults input.old) (I.faults input.new) steps.old steps.new in
+        (c : Command) (x : List ℕ) → IsGiven (map string_bytes words.now) call c x → (Rose (O.faults output.old) (O.faults output.new) → ⊥) → IsExact c x result }
+
+    // The steps rise by at most the limit.
+    ensures at_most { (c : Command) → IsCommand (map string_bytes words.now) c → (steps.old ≤ steps.new) × (steps.new ≤ steps.old + c.limit) }
+{
+    let decision = decide(alloc, words, input, steps);
+    write_decision(output, decision)
+}

@@ -1,0 +1,73 @@
+#!/bin/sh
+# Runs the built program on every line of vectors/damaged_stores.txt and compares output and exit code with what is due.
+# Prints `ok NAME` or `not ok NAME` for each, and ends with 1 where one differs.
+set -eu
+
+home=$(cd "$(dirname "$0")/.." && pwd)
+program=${PROGRAM:-$home/crates/transfer_app/out/transfer_app}
+work=$(mktemp -d)
+trap 'rm -rf "$work"' EXIT
+failed=0
+
+# ./transfer builds the program where it is missing.
+[ -x "$program" ] || (cd "$work" && "$home/transfer" >/dev/null)
+[ -x "$program" ] || {
+    echo "damaged_stores: the program is not built" >&2
+    exit 1
+}
+
+# The exit code of a status.
+code_of() {
+    case $1 in
+        Done) echo 0 ;;
+        Malformed) echo 10 ;;
+        Unsupported) echo 11 ;;
+        MacMissing) echo 12 ;;
+        MacUnsupported) echo 13 ;;
+        ZeroIterations) echo 14 ;;
+        WorkLimit) echo 15 ;;
+        MacMismatch) echo 16 ;;
+        ContentMalformed) echo 17 ;;
+        DecryptFailed) echo 18 ;;
+        TooLong) echo 21 ;;
+        *) echo none ;;
+    esac
+}
+
+# The text that is due for the status $1 and the certificates $2.
+due_text() {
+    if [ "$1" != Done ]; then
+        echo "error: $1"
+    elif [ "$2" != - ]; then
+        echo "$2" | tr , '\n' | sed 's/^/cert /'
+    fi
+}
+
+# Runs the program with the password $2 and the limit $3 on the line in the file $6; the status $4 and the certificates $5 are due.
+check() {
+    code=0
+    "$program" transfer "$2" unused 1 "$3" <"$6" >"$work/found" || code=$?
+    due_text "$4" "$5" >"$work/due"
+    if [ "$code" = "$(code_of "$4")" ] && cmp -s "$work/due" "$work/found"; then
+        echo "ok $1"
+    else
+        echo "not ok $1: due is $4, found is $code, $(head -n 1 "$work/found" | cut -c 1-60)"
+        failed=1
+    fi
+}
+
+while read -r name password limit status _ certificates store; do
+    case $name in
+        '#'*) continue ;;
+    esac
+    echo "$store" >"$work/line"
+    check "$name" "$password" "$limit" "$status" "$certificates" "$work/line"
+done <"$home/tests/vectors/damaged_stores.txt"
+
+# A store may have 16,777,215 octets; these are zeros, and no store.
+head -c 33554430 /dev/zero | tr '\0' 0 >"$work/line"
+check zeros_16777215 p 1 Malformed - "$work/line"
+printf 00 >>"$work/line"
+check zeros_16777216 p 1 TooLong - "$work/line"
+
+exit "$failed"

@@ -1,0 +1,433 @@
+#!/usr/bin/env python3
+"""An independent reader of PKCS#12 stores, which states what the program has to answer.
+
+It is written from the standards alone: X.690 (DER), RFC 7292 (the store, and the derivation of appendix B.2), RFC 2104 (HMAC).
+SHA-1 and HMAC are those of Python, Triple DES that of the package `cryptography`. It holds the whole store as Python values and
+its numbers as Python integers.
+
+    tests/read_store.py STORE.p12 --password-file FILE [--limit STEPS]
+
+prints `cert HEX` for each X.509 certificate in store order, or `error: NAME`, and on standard error the steps that were taken:
+a step is one SHA-1 digest of the derivation's iterations. It ends with 0 where the store opens and with 1 where it is refused.
+"""
+
+import argparse
+import hashlib
+import hmac
+import sys
+import warnings
+
+MOST_OCTETS = 16_777_215
+
+DATA = "1.2.840.113549.1.7.1"
+ENCRYPTED_DATA = "1.2.840.113549.1.7.6"
+FRIENDLY_NAME = "1.2.840.113549.1.9.20"
+LOCAL_KEY_ID = "1.2.840.113549.1.9.21"
+X509 = "1.2.840.113549.1.9.22.1"
+SDSI = "1.2.840.113549.1.9.22.2"
+TRIPLE_DES = "1.2.840.113549.1.12.1.3"
+RC2_40 = "1.2.840.113549.1.12.1.6"
+SHROUDED_KEY_BAG = "1.2.840.113549.1.12.10.1.2"
+CERT_BAG = "1.2.840.113549.1.12.10.1.3"
+SHA1 = "1.3.14.3.2.26"
+
+
+class Malformed(Exception):
+    """The octets are not in the grammar."""
+
+
+class Refused(Exception):
+    """The store is refused; the argument is the cause."""
+
+
+def expect(condition):
+    if not condition:
+        raise Malformed
+
+
+# DER (X.690): one element is one tag octet, a length in the fewest octets, and the value.
+
+
+class Parts:
+    """The elements that stand one behind the other in some octets."""
+
+    def __init__(self, octets):
+        self.octets = octets
+        self.position = 0
+
+    def more(self):
+        return self.position < len(self.octets)
+
+    def next_tag(self):
+        return self.octets[self.position] if self.more() else None
+
+    def header(self):
+        """The tag of the next element, where its value begins, and where it ends."""
+        octets, at = self.octets, self.position
+        expect(len(octets) - at >= 2)
+        tag, length = octets[at], octets[at + 1]
+        expect(tag & 31 != 31)
+        value = at + 2
+        if length >= 128:
+            count = length - 128
+            expect(1 <= count <= 4 and len(octets) - value >= count)
+            length = int.from_bytes(octets[value : value + count], "big")
+            # In the fewest octets.
+            expect(length >= 128 and octets[value] != 0)
+            value += count
+        end = value + length
+        expect(end <= len(octets) and end - at <= 2**32 - 1)
+        return tag, value, end
+
+    def value(self, wanted):
+        tag, start, end = self.header()
+        expect(tag == wanted)
+        self.position = end
+        return self.octets[start:end]
+
+    def element(self):
+        """The next element whole, whatever it is."""
+        start = self.position
+        self.position = self.header()[2]
+        return self.octets[start : self.position]
+
+    def sequence(self):
+        return Parts(self.value(0x30))
+
+    def context(self, number):
+        return Parts(self.value(0xA0 + number))
+
+    def octet_string(self):
+        return self.value(0x04)
+
+    def number(self, bits):
+        value = self.value(0x02)
+        expect(len(value) >= 1)
+        number = int.from_bytes(value, "big", signed=True)
+        # The shortest two's complement, not negative, within the type.
+        expect(len(value) == 1 or not (value[0] == 0 and value[1] < 128 or value[0] == 255 and value[1] >= 128))
+        expect(0 <= number < 2**bits)
+        return number
+
+    def identifier(self):
+        value = self.value(0x06)
+        expect(1 <= len(value) <= 39 and value[-1] < 128)
+        arcs, number = [], None
+        for octet in value:
+            # No subidentifier begins with 80.
+            expect(not (number is None and octet == 128))
+            number = (number or 0) << 7 | octet & 127
+            expect(number < 2**32)
+            if octet < 128:
+                arcs.append(number)
+                number = None
+        first = min(arcs[0] // 40, 2)
+        return ".".join(str(arc) for arc in [first, arcs[0] - 40 * first] + arcs[1:])
+
+    def end(self):
+        expect(not self.more())
+
+
+def only(octets):
+    """The parts of the one SEQUENCE that the octets are."""
+    outer = Parts(octets)
+    inner = outer.sequence()
+    outer.end()
+    return inner
+
+
+# PKCS#12 (RFC 7292, section 4).
+
+
+def read_algorithm(parts):
+    """The name of an algorithm, with salt and count where it is one of the two schemes."""
+    inner = parts.sequence()
+    name = inner.identifier()
+    if name == SHA1:
+        if inner.more():
+            expect(inner.value(0x05) == b"")
+        result = (name, None, None)
+    elif name in (TRIPLE_DES, RC2_40):
+        parameters = inner.sequence()
+        result = (name, parameters.octet_string(), parameters.number(64))
+        parameters.end()
+    else:
+        if inner.more():
+            inner.element()
+        result = (name, None, None)
+    inner.end()
+    return result
+
+
+def read_content(parts):
+    """(DATA, None, octets), (ENCRYPTED_DATA, algorithm, ciphertext) or (another name, None, one element)."""
+    inner = parts.sequence()
+    name = inner.identifier()
+    explicit = inner.context(0)
+    if name == DATA:
+        result = (name, None, explicit.octet_string())
+    elif name == ENCRYPTED_DATA:
+        encrypted = explicit.sequence()
+        expect(encrypted.number(8) == 0)
+        info = encrypted.sequence()
+        expect(info.identifier() == DATA)
+        algorithm = read_algorithm(info)
+        result = (name, algorithm, info.value(0x80))
+        info.end()
+        encrypted.end()
+    else:
+        result = (name, None, explicit.element())
+    explicit.end()
+    inner.end()
+    return result
+
+
+def read_contents(octets):
+    parts = only(octets)
+    contents = []
+    while parts.more():
+        contents.append(read_content(parts))
+    return contents
+
+
+def read_attribute(parts):
+    inner = parts.sequence()
+    name = inner.identifier()
+    values = Parts(inner.value(0x31))
+    inner.end()
+    expect(values.more() or name not in (FRIENDLY_NAME, LOCAL_KEY_ID))
+    while values.more():
+        if name == FRIENDLY_NAME:
+            try:
+                values.value(0x1E).decode("utf-16-be")
+            except UnicodeDecodeError:
+                raise Malformed from None
+        elif name == LOCAL_KEY_ID:
+            values.octet_string()
+        else:
+            values.element()
+
+
+def read_bag(parts):
+    """(name of the bag, octets of an X.509 certificate or None)."""
+    inner = parts.sequence()
+    name = inner.identifier()
+    explicit = inner.context(0)
+    certificate = None
+    if name == CERT_BAG:
+        bag = explicit.sequence()
+        kind = bag.identifier()
+        value = bag.context(0)
+        if kind == X509:
+            certificate = value.octet_string()
+        else:
+            expect(kind == SDSI)
+            expect(all(octet < 128 for octet in value.value(0x16)))
+        value.end()
+        bag.end()
+    elif name == SHROUDED_KEY_BAG:
+        key = explicit.sequence()
+        read_algorithm(key)
+        key.octet_string()
+        key.end()
+    else:
+        explicit.element()
+    explicit.end()
+    if inner.more():
+        attributes = Parts(inner.value(0x31))
+        while attributes.more():
+            read_attribute(attributes)
+    inner.end()
+    return name, certificate
+
+
+def read_bags(octets):
+    parts = only(octets)
+    bags = []
+    while parts.more():
+        bags.append(read_bag(parts))
+    return bags
+
+
+def read_pfx(octets):
+    """The outer content, and the MAC's algorithm, digest, salt and count, or None."""
+    parts = only(octets)
+    parts.number(8)
+    content = read_content(parts)
+    mac = None
+    if parts.more():
+        data = parts.sequence()
+        info = data.sequence()
+        algorithm = read_algorithm(info)
+        digest = info.octet_string()
+        info.end()
+        salt = data.octet_string()
+        mac = (algorithm, digest, salt, data.number(32))
+        data.end()
+    parts.end()
+    return content, mac
+
+
+# The derivation of RFC 7292, appendix B.2, with SHA-1 (u = 20, v = 64), the MAC and the opening.
+
+
+def bmp_password(password):
+    """The password in UTF-16, and two zero octets (appendix B.1)."""
+    return password.encode("utf-16-be") + b"\0\0"
+
+
+def derive(password, salt, count, purpose, size):
+    """`size` octets for the purpose 1 (a key), 2 (an initial vector) or 3 (a MAC)."""
+
+    def fill(text):
+        blocks = -(-len(text) // 64)
+        return (text * (64 * blocks // len(text) + 1))[: 64 * blocks] if text else b""
+
+    text = fill(salt) + fill(bmp_password(password))
+    numbers = [int.from_bytes(text[at : at + 64], "big") for at in range(0, len(text), 64)]
+    key = b""
+    while len(key) < size:
+        block = bytes([purpose]) * 64 + b"".join(number.to_bytes(64, "big") for number in numbers)
+        for _ in range(count):
+            block = hashlib.sha1(block).digest()
+        key += block
+        step = int.from_bytes((block * 4)[:64], "big") + 1
+        numbers = [(number + step) % 2**512 for number in numbers]
+    return key[:size]
+
+
+def mac_of(password, salt, count, content):
+    return hmac.new(derive(password, salt, count, 3, 20), content, hashlib.sha1).digest()
+
+
+def triple_des(password, salt, count):
+    """Triple DES in CBC mode, without padding, under the derived key and initial vector."""
+    with warnings.catch_warnings():
+        warnings.simplefilter("ignore")
+        from cryptography.hazmat.primitives.ciphers import Cipher, modes
+
+        try:
+            from cryptography.hazmat.decrepit.ciphers.algorithms import TripleDES
+        except ImportError:
+            from cryptography.hazmat.primitives.ciphers.algorithms import TripleDES
+        key, vector = derive(password, salt, count, 1, 24), derive(password, salt, count, 2, 8)
+        return Cipher(TripleDES(key), modes.CBC(vector))
+
+
+def unlock(password, salt, count, ciphertext):
+    """The plaintext, or None where the ciphertext has no right length or padding."""
+    if not ciphertext or len(ciphertext) % 8:
+        return None
+    decryptor = triple_des(password, salt, count).decryptor()
+    padded = decryptor.update(ciphertext) + decryptor.finalize()
+    size = padded[-1]
+    if not 1 <= size <= 8 or padded[-size:] != bytes([size]) * size:
+        return None
+    return padded[:-size]
+
+
+# The whole answer, each cause in its order.
+
+
+class Opening:
+    """One opening: how many steps are allowed, and how many were taken."""
+
+    def __init__(self, password, limit):
+        self.password = password
+        self.limit = limit
+        self.shares = 0
+        self.steps = 0
+
+    def share(self, steps):
+        """A share of the work must fit the limit before any of it is done."""
+        self.shares += steps
+        if self.shares > self.limit:
+            raise Refused("WorkLimit")
+
+    def certificates(self, store):
+        if len(store) > MOST_OCTETS:
+            raise Refused("TooLong")
+        try:
+            (kind, _, content), mac = read_pfx(store)
+        except Malformed:
+            raise Refused("Malformed") from None
+        if kind != DATA:
+            raise Refused("Unsupported")
+        self.check_mac(mac, content)
+        try:
+            contents = read_contents(content)
+        except Malformed:
+            raise Refused("ContentMalformed") from None
+        bags = [bag for part in contents for bag in self.open_content(part)]
+        if any(name == SHROUDED_KEY_BAG for name, _ in bags):
+            raise Refused("Unsupported")
+        return [certificate for _, certificate in bags if certificate is not None]
+
+    def check_mac(self, mac, content):
+        if mac is None:
+            raise Refused("MacMissing")
+        (algorithm, _, _), digest, salt, count = mac
+        if algorithm != SHA1:
+            raise Refused("MacUnsupported")
+        if count == 0:
+            raise Refused("ZeroIterations")
+        self.share(count)
+        self.steps += count
+        if mac_of(self.password, salt, count, content) != digest:
+            raise Refused("MacMismatch")
+
+    def open_content(self, content):
+        kind, algorithm, octets = content
+        if kind == ENCRYPTED_DATA:
+            name, salt, count = algorithm
+            if name != TRIPLE_DES:
+                raise Refused("Unsupported")
+            if count == 0:
+                raise Refused("ZeroIterations")
+            # The key takes two blocks of the derivation, the initial vector one.
+            self.share(3 * count)
+            if octets and len(octets) % 8 == 0:
+                self.steps += 3 * count
+            octets = unlock(self.password, salt, count, octets)
+            if octets is None:
+                raise Refused("DecryptFailed")
+        elif kind != DATA:
+            raise Refused("Unsupported")
+        try:
+            return read_bags(octets)
+        except Malformed:
+            raise Refused("ContentMalformed") from None
+
+
+def answer(store, password, limit):
+    """(status, steps, certificates): what the program has to answer, where there is enough memory."""
+    opening = Opening(password, limit)
+    try:
+        certificates = opening.certificates(store)
+    except Refused as refusal:
+        return refusal.args[0], opening.steps, []
+    return "Done", opening.steps, certificates
+
+
+def main():
+    parser = argparse.ArgumentParser(description="reads a PKCS#12 store and prints its certificates")
+    parser.add_argument("store")
+    parser.add_argument("--password-file", required=True, help="the password is the first line of this file")
+    parser.add_argument("--limit", type=int, default=100_000_000, help="the most steps")
+    arguments = parser.parse_args()
+    with open(arguments.store, "rb") as file:
+        store = file.read()
+    with open(arguments.password_file, encoding="utf-8") as file:
+        password = file.readline().rstrip("\n")
+    status, steps, certificates = answer(store, password, arguments.limit)
+    print(f"steps: {steps}", file=sys.stderr)
+    if status != "Done":
+        print(f"error: {status}")
+        return 1
+    for certificate in certificates:
+        print(f"cert {certificate.hex()}")
+    return 0
+
+
+if __name__ == "__main__":
+    sys.exit(main())

@@ -1,0 +1,82 @@
+#!/bin/sh
+# Runs ./transfer on every store of examples/ and compares what it writes, octet for octet, with the certificates that went in.
+# Prints `ok NAME` or `not ok NAME` for each, and ends with 1 where one differs.
+set -eu
+
+home=$(cd "$(dirname "$0")/.." && pwd)
+examples=$home/examples
+work=$(mktemp -d)
+trap 'rm -rf "$work"' EXIT
+failed=0
+
+report() {
+    if [ "$2" = yes ]; then
+        echo "ok $1"
+    else
+        echo "not ok $1"
+        failed=1
+    fi
+}
+
+# The certificates expected stand in the folder $1, those written in $2: the same names, the same octets.
+same_certificates() {
+    (cd "$1" && ls cert-*.der) >"$work/expected"
+    (cd "$2" && ls) >"$work/found"
+    cmp -s "$work/expected" "$work/found" || return 1
+    while read -r file; do
+        cmp "$1/$file" "$2/$file" >&2 || return 1
+    done <"$work/expected"
+}
+
+# Each certificate written is one that openssl reads, where openssl is there.
+openssl_reads() {
+    command -v openssl >/dev/null || return 0
+    for file in "$1"/*.der; do
+        openssl x509 -inform DER -in "$file" -noout || return 1
+    done
+}
+
+# Opens the store $2 with the password file $3, and compares with the certificates of the folder $4.
+opens() {
+    out=$work/$1
+    good=no
+    if "$home/transfer" --password-file "$3" "$2" "$out" >"$work/written" 2>"$work/told"; then
+        if same_certificates "$4" "$out" && openssl_reads "$out"; then
+            good=yes
+        fi
+    else
+        cat "$work/told" >&2
+    fi
+    report "$1" $good
+}
+
+# The store $2 under the password file $3 and the further words is refused by the name $4, and no folder is left.
+refuses() {
+    name=$1 store=$2 password=$3 cause=$4
+    shift 4
+    good=no
+    if ! "$home/transfer" --password-file "$password" "$@" "$store" "$work/$name" >"$work/written" 2>"$work/told"; then
+        if grep -q "^transfer: $cause " "$work/told" && [ ! -e "$work/$name" ]; then
+            good=yes
+        else
+            cat "$work/told" >&2
+        fi
+    fi
+    report "$name" $good
+}
+
+opens openssl-plain "$examples/openssl-plain.p12" "$examples/password" "$examples"
+for folder in "$examples"/*/; do
+    folder=${folder%/}
+    opens "$(basename "$folder")" "$folder/store.p12" "$folder/password" "$folder"
+done
+
+# The work of each store is the limit that just suffices (examples/README.md).
+for pair in openssl:8192 openssl-unicode:8192 keytool:8192 gnutls:4200000; do
+    folder=$examples/${pair%:*}
+    steps=${pair#*:}
+    refuses "${pair%:*}-limit-too-low" "$folder/store.p12" "$folder/password" WorkLimit --limit "$((steps - 1))"
+    refuses "${pair%:*}-another-password" "$folder/store.p12" "$examples/README.md" MacMismatch
+done
+
+exit "$failed"

@@ -1,0 +1,323 @@
+#!/usr/bin/env python3
+"""Makes damaged_stores.txt: variants of one small sealed store, each with the answer that is due.
+
+The store has one certificate, the two octets `3000`, in a content under Triple DES of count 2, and a MAC of count 1; its password
+is `p`. The due answers are written here by hand. The independent reader `tests/read_store.py` has to agree with each, or nothing
+is written. `tests/vectors/damaged_stores_openssl.sh` asks OpenSSL about the stores that it judges by the same rules.
+
+    tests/vectors/damaged_stores.py >tests/vectors/damaged_stores.txt
+"""
+
+import os
+import sys
+
+sys.dont_write_bytecode = True
+sys.path.insert(0, os.path.join(os.path.dirname(os.path.abspath(__file__)), ".."))
+
+import make_store as make
+import read_store as read
+
+PASSWORD = "p"
+CONTENT_SALT = bytes([8, 7, 6, 5, 4, 3, 2, 1])
+MAC_SALT = bytes([1, 2, 3, 4, 5, 6, 7, 8])
+COUNT, MAC_COUNT = 2, 1
+# What opening the whole store takes.
+WORK = MAC_COUNT + 3 * COUNT
+MOST = 2**64 - 1
+
+CERTIFICATE = bytes.fromhex("3000")
+BAG = make.certificate_bag(CERTIFICATE)
+BAGS = make.sequence(BAG)
+BLOCKS = make.padded(BAGS)
+CIPHERTEXT = make.encrypt(PASSWORD, CONTENT_SALT, COUNT, BLOCKS)
+CONTENT = make.sealed(BAGS, PASSWORD, CONTENT_SALT, COUNT)
+CONTENTS = make.sequence(CONTENT)
+STORE = make.store_with_mac(CONTENTS, PASSWORD, MAC_SALT, MAC_COUNT)
+MAC = make.mac_data(read.mac_of(PASSWORD, MAC_SALT, MAC_COUNT, CONTENTS), MAC_SALT, MAC_COUNT)
+
+SHROUDED_KEY_BAG = make.sequence(
+    make.identifier(read.SHROUDED_KEY_BAG),
+    make.context(0, make.sequence(make.scheme(CONTENT_SALT, COUNT), make.octet_string(CIPHERTEXT))),
+)
+# The private key of RFC 8410 section 10.3.
+ED25519_KEY = bytes.fromhex("302e020100300506032b657004220420d4ee72dbf913584ad5b6d8f1f769f8ad3afe7c28cbf1d4fbe097a88f44755842")
+SHA256 = "2.16.840.1.101.3.4.2.1"
+PBES2 = "1.2.840.113549.1.5.13"
+SECRET_BAG = "1.2.840.113549.1.12.10.1.5"
+UNSTRUCTURED_NAME = "1.2.840.113549.1.9.2"
+ENVELOPED_DATA = "1.2.840.113549.1.7.3"
+
+rows = []
+
+
+def row(name, store, status, steps, certificates=(), password=PASSWORD, limit=MOST):
+    found = read.answer(store, password, limit)
+    due = (status, steps, list(certificates))
+    if found != due:
+        sys.exit(f"{name}: due is {due}, the reader answers {found}")
+    listed = ",".join(certificate.hex() for certificate in certificates) or "-"
+    rows.append(f"{name} {password} {limit} {status} {steps} {listed} {store.hex()}")
+
+
+def flipped(octets, at, bit=0):
+    changed = bytearray(octets)
+    changed[at] ^= 1 << bit
+    return bytes(changed)
+
+
+def with_mac(contents, count=MAC_COUNT):
+    """The contents under a MAC of their own."""
+    return make.store_with_mac(contents, PASSWORD, MAC_SALT, count)
+
+
+def with_content(content):
+    return with_mac(make.sequence(content))
+
+
+def with_old_mac(content):
+    """The content under the MAC of the sound store."""
+    return make.store(make.sequence(content), MAC)
+
+
+def with_ciphertext(ciphertext):
+    return with_content(make.encrypted_data(make.scheme(CONTENT_SALT, COUNT), ciphertext))
+
+
+def with_blocks(blocks):
+    return with_ciphertext(make.encrypt(PASSWORD, CONTENT_SALT, COUNT, blocks))
+
+
+def with_scheme(scheme):
+    return make.encrypted_data(scheme, CIPHERTEXT)
+
+
+def sound_stores():
+    for limit in (WORK, WORK + 1, MOST):
+        row(f"sound_limit_{limit}", STORE, "Done", WORK, [CERTIFICATE], limit=limit)
+    row("sound_limit_6", STORE, "WorkLimit", 1, limit=WORK - 1)
+    row("sound_limit_1", STORE, "WorkLimit", 1, limit=1)
+    row("sound_limit_0", STORE, "WorkLimit", 0, limit=0)
+    row("another_password", STORE, "MacMismatch", 1, password="x")
+    row("another_version", make.sequence(make.number(255), make.data(CONTENTS), MAC), "Done", WORK, [CERTIFICATE])
+    digest = read.mac_of(PASSWORD, MAC_SALT, MAC_COUNT, CONTENTS)
+    short = make.mac_data(digest, MAC_SALT, MAC_COUNT, make.identifier(read.SHA1))
+    row("digest_algorithm_without_null", make.store(CONTENTS, short), "Done", WORK, [CERTIFICATE])
+    for name, parameters in (
+        ("digest_algorithm_with_two_nulls", make.NULL + make.NULL),
+        ("digest_algorithm_with_null_of_a_long_length", bytes.fromhex("058100")),
+        ("digest_algorithm_with_a_number", make.number(0)),
+    ):
+        mac = make.mac_data(digest, MAC_SALT, MAC_COUNT, make.identifier(read.SHA1) + parameters)
+        row(name, make.store(CONTENTS, mac), "Malformed", 0)
+    row("no_bags", with_blocks(make.padded(make.sequence())), "Done", WORK)
+    row("no_contents", with_mac(make.sequence()), "Done", 1)
+    # Certificates of 1 to 8 octets, of which only the length counts here, take each padding once.
+    for size in range(1, 9):
+        certificate = bytes(range(1, size + 1))
+        bags = make.sequence(make.certificate_bag(certificate))
+        store = with_blocks(make.padded(bags))
+        row(f"padding_of_{8 - len(bags) % 8}", store, "Done", WORK, [certificate])
+
+
+def damaged_ciphertexts():
+    for at in (0, 39):
+        content = make.encrypted_data(make.scheme(CONTENT_SALT, COUNT), flipped(CIPHERTEXT, at))
+        row(f"ciphertext_{at}_old_mac", with_old_mac(content), "MacMismatch", 1)
+    # The first block of the plaintext is lost; the padding stands.
+    row("ciphertext_0_new_mac", with_ciphertext(flipped(CIPHERTEXT, 0)), "ContentMalformed", WORK)
+    # The bit is that of the plaintext's last octet, the padding 01.
+    row("ciphertext_31_new_mac", with_ciphertext(flipped(CIPHERTEXT, 31)), "DecryptFailed", WORK)
+    # The last block is lost, and the padding with it.
+    row("ciphertext_39_new_mac", with_ciphertext(flipped(CIPHERTEXT, 39)), "DecryptFailed", WORK)
+
+
+def other_plaintexts():
+    row("padding_of_9", with_blocks(BAGS + bytes([9]) * 9), "DecryptFailed", WORK)
+    row("padding_of_0", with_blocks(BAGS + b"\0"), "DecryptFailed", WORK)
+    row("padding_of_255", with_blocks(BAGS + b"\xff"), "DecryptFailed", WORK)
+    # A padding of three octets, each of which counts.
+    bags = make.sequence(make.certificate_bag(bytes(8)))
+    row("padding_02_03_03", with_blocks(bags + b"\2\3\3"), "DecryptFailed", WORK)
+    row("padding_03_02_03", with_blocks(bags + b"\3\2\3"), "DecryptFailed", WORK)
+    row("padding_03_03_02", with_blocks(bags + b"\3\3\2"), "DecryptFailed", WORK)
+    # A right padding of one octet, and two octets too many before it.
+    row("padding_03_03_01", with_blocks(bags + b"\3\3\1"), "ContentMalformed", WORK)
+    row("plaintext_of_none", with_blocks(make.padded(b"")), "ContentMalformed", WORK)
+    row("plaintext_with_an_octet_more", with_blocks(make.padded(BAGS + b"\0")), "ContentMalformed", WORK)
+    row("plaintext_with_an_octet_less", with_blocks(make.padded(BAGS[:-1])), "ContentMalformed", WORK)
+
+
+def other_lengths():
+    # No digest is computed for a ciphertext that no plaintext has.
+    for size in (0, 7, 39):
+        row(f"ciphertext_of_{size}", with_ciphertext(CIPHERTEXT[:size]), "DecryptFailed", 1)
+    row("ciphertext_of_41", with_ciphertext(CIPHERTEXT + b"\0"), "DecryptFailed", 1)
+    # The limit is tested first.
+    row("ciphertext_of_7_limit_6", with_ciphertext(CIPHERTEXT[:7]), "WorkLimit", 1, limit=WORK - 1)
+
+
+def other_schemes():
+    salt = with_scheme(make.scheme(flipped(CONTENT_SALT, 0), COUNT))
+    row("content_salt_old_mac", with_old_mac(salt), "MacMismatch", 1)
+    row("content_salt_new_mac", with_content(salt), "DecryptFailed", WORK)
+    count = with_scheme(make.scheme(CONTENT_SALT, 3))
+    row("content_count_3_old_mac", with_old_mac(count), "MacMismatch", 1)
+    row("content_count_3_new_mac", with_content(count), "DecryptFailed", 10)
+    row("content_count_3_limit_9", with_content(count), "WorkLimit", 1, limit=9)
+    zero = with_scheme(make.scheme(CONTENT_SALT, 0))
+    row("content_count_0_old_mac", with_old_mac(zero), "MacMismatch", 1)
+    row("content_count_0_new_mac", with_content(zero), "ZeroIterations", 1)
+    row("content_count_0_limit_1", with_content(zero), "ZeroIterations", 1, limit=1)
+    row("content_count_0_limit_0", with_content(zero), "WorkLimit", 0, limit=0)
+    # Three times this count passes 64 bits.
+    row("content_count_most", with_content(with_scheme(make.scheme(CONTENT_SALT, MOST))), "WorkLimit", 1)
+    row("content_count_2_to_64", with_content(with_scheme(make.scheme(CONTENT_SALT, MOST + 1))), "ContentMalformed", 1)
+    padded_count = make.sequence(make.octet_string(CONTENT_SALT), make.element(2, b"\0\2"))
+    padded_scheme = make.sequence(make.identifier(read.TRIPLE_DES), padded_count)
+    row("content_count_with_a_zero_before_it", with_content(with_scheme(padded_scheme)), "ContentMalformed", 1)
+    row("content_under_rc2", with_content(with_scheme(make.scheme(CONTENT_SALT, COUNT, read.RC2_40))), "Unsupported", 1)
+    pbes2 = make.sequence(make.identifier(PBES2), make.sequence())
+    row("content_under_pbes2", with_content(with_scheme(pbes2)), "Unsupported", 1)
+
+
+def other_macs():
+    digest = read.mac_of(PASSWORD, MAC_SALT, MAC_COUNT, CONTENTS)
+
+    def under(digest=digest, salt=MAC_SALT, count=MAC_COUNT, **algorithm):
+        return make.store(CONTENTS, make.mac_data(digest, salt, count, **algorithm))
+
+    row("mac_first_bit", under(digest=flipped(digest, 0, 7)), "MacMismatch", 1)
+    row("mac_last_bit", under(digest=flipped(digest, 19)), "MacMismatch", 1)
+    row("mac_of_19", under(digest=digest[:19]), "MacMismatch", 1)
+    row("mac_of_21", under(digest=digest + b"\0"), "MacMismatch", 1)
+    row("mac_of_none", under(digest=b""), "MacMismatch", 1)
+    row("mac_salt", under(salt=flipped(MAC_SALT, 7)), "MacMismatch", 1)
+    row("mac_count_2", under(count=2), "MacMismatch", 2)
+    row("mac_count_2_limit_1", under(count=2), "WorkLimit", 0, limit=1)
+    row("mac_count_0", under(count=0), "ZeroIterations", 0)
+    row("mac_count_most", under(count=2**32 - 1), "WorkLimit", 0, limit=2**32 - 2)
+    row("mac_count_2_to_32", under(count=2**32), "Malformed", 0)
+    row("mac_under_sha256", under(algorithm=make.identifier(SHA256) + make.NULL), "MacUnsupported", 0)
+    # The algorithm is looked at before the count, and both before the limit.
+    row("mac_under_sha256_count_0", under(count=0, algorithm=make.identifier(SHA256)), "MacUnsupported", 0, limit=0)
+    row("mac_missing", make.store(CONTENTS, b""), "MacMissing", 0)
+
+
+def other_contents():
+    encrypted_outside = make.sequence(make.number(3), CONTENT, MAC)
+    row("outer_content_encrypted", encrypted_outside, "Unsupported", 0)
+    enveloped = make.sequence(make.identifier(ENVELOPED_DATA), make.context(0, make.sequence()))
+    row("content_enveloped", with_content(enveloped), "Unsupported", 1)
+    row("content_enveloped_behind", with_mac(make.sequence(CONTENT, enveloped)), "Unsupported", WORK)
+    key = make.data(make.sequence(SHROUDED_KEY_BAG))
+    row("shrouded_key_before", with_mac(make.sequence(key, CONTENT)), "Unsupported", WORK)
+    row("shrouded_key_behind", with_mac(make.sequence(CONTENT, key)), "Unsupported", WORK)
+    failing = make.encrypted_data(make.scheme(CONTENT_SALT, COUNT), b"")
+    # Contents are opened before keys are looked at.
+    row("shrouded_key_before_a_failing_content", with_mac(make.sequence(key, failing)), "DecryptFailed", 1)
+    # The first content that has a fault decides.
+    zero = with_scheme(make.scheme(CONTENT_SALT, 0))
+    row("two_faults", with_mac(make.sequence(failing, zero)), "DecryptFailed", 1)
+    row("two_faults_exchanged", with_mac(make.sequence(zero, failing)), "ZeroIterations", 1)
+    # The second content's share comes on top of the first one's.
+    twice = with_mac(make.sequence(CONTENT, CONTENT))
+    row("two_contents_limit_13", twice, "Done", 13, [CERTIFICATE, CERTIFICATE], limit=13)
+    row("two_contents_limit_12", twice, "WorkLimit", WORK, limit=12)
+    plain = make.data(make.sequence(make.certificate_bag(bytes.fromhex("3003020101"))))
+    both = with_mac(make.sequence(plain, CONTENT))
+    row("plain_before_sealed", both, "Done", WORK, [bytes.fromhex("3003020101"), CERTIFICATE])
+    row("contents_with_an_octet_more", with_mac(CONTENTS + b"\0"), "ContentMalformed", 1)
+    row("contents_with_an_octet_less", with_mac(CONTENTS[:-1]), "ContentMalformed", 1)
+    row("contents_of_none", with_mac(b""), "ContentMalformed", 1)
+
+
+def other_bags():
+    def with_bag(bag):
+        return with_blocks(make.padded(make.sequence(bag, BAG)))
+
+    def with_attribute(name, *values):
+        attribute = make.sequence(make.identifier(name), make.element(0x31, b"".join(values)))
+        return with_blocks(make.padded(make.sequence(make.certificate_bag(CERTIFICATE, make.element(0x31, attribute)))))
+
+    def certificate_of(kind, value):
+        bag = make.sequence(make.identifier(kind), make.context(0, value))
+        return make.sequence(make.identifier(read.CERT_BAG), make.context(0, bag))
+
+    value = make.sequence(make.identifier(read.DATA), make.context(0, make.octet_string(b"secret")))
+    secret = make.sequence(make.identifier(SECRET_BAG), make.context(0, value))
+    row("secret_bag", with_bag(secret), "Done", WORK, [CERTIFICATE])
+    crl = make.sequence(make.identifier("1.2.840.113549.1.9.23.1"), make.context(0, make.octet_string(b"")))
+    for name, kind, value in (
+        ("plain_key_bag", 1, ED25519_KEY),
+        ("crl_bag", 4, crl),
+        ("nested_bags", 6, make.sequence()),
+        ("bag_of_a_kind_unheard_of", 77, make.NULL),
+    ):
+        other = make.sequence(make.identifier(f"1.2.840.113549.1.12.10.1.{kind}"), make.context(0, value))
+        row(name, with_bag(other), "Done", WORK, [CERTIFICATE])
+    row("sdsi_certificate", with_bag(certificate_of(read.SDSI, make.element(0x16, b"MA=="))), "Done", WORK, [CERTIFICATE])
+    row("sdsi_certificate_past_127", with_bag(certificate_of(read.SDSI, make.element(0x16, b"\x80"))), "ContentMalformed", WORK)
+    row("certificate_of_another_kind", with_bag(certificate_of(read.DATA, make.octet_string(b""))), "ContentMalformed", WORK)
+    row("certificate_bag_with_a_part_more", with_bag(make.certificate_bag(CERTIFICATE, make.NULL)), "ContentMalformed", WORK)
+
+    def bmp(units):
+        return make.element(0x1E, bytes.fromhex(units))
+
+    row("name", with_attribute(read.FRIENDLY_NAME, bmp("0070")), "Done", WORK, [CERTIFICATE])
+    row("name_with_a_pair_of_surrogates", with_attribute(read.FRIENDLY_NAME, bmp("d83dde00")), "Done", WORK, [CERTIFICATE])
+    row("name_with_a_lone_surrogate", with_attribute(read.FRIENDLY_NAME, bmp("d83d0070")), "ContentMalformed", WORK)
+    row("name_with_surrogates_exchanged", with_attribute(read.FRIENDLY_NAME, bmp("de00d83d")), "ContentMalformed", WORK)
+    row("name_of_three_octets", with_attribute(read.FRIENDLY_NAME, bmp("007000")), "ContentMalformed", WORK)
+    row("name_of_no_value", with_attribute(read.FRIENDLY_NAME), "ContentMalformed", WORK)
+    row("name_twice_in_a_set_out_of_order", with_attribute(read.FRIENDLY_NAME, bmp("0071"), bmp("0070")), "Done", WORK, [CERTIFICATE])
+
+    def with_attributes(*attributes):
+        bag = make.certificate_bag(CERTIFICATE, make.element(0x31, b"".join(attributes)))
+        return with_blocks(make.padded(make.sequence(bag)))
+
+    name = make.sequence(make.identifier(read.FRIENDLY_NAME), make.element(0x31, bmp("0070")))
+    key_id = make.sequence(make.identifier(read.LOCAL_KEY_ID), make.element(0x31, make.octet_string(b"\1")))
+    row("name_before_key_id", with_attributes(name, key_id), "Done", WORK, [CERTIFICATE])
+    row("key_id_before_name", with_attributes(key_id, name), "Done", WORK, [CERTIFICATE])
+    row("name_twice", with_attributes(name, name), "Done", WORK, [CERTIFICATE])
+    row("no_attributes", with_attributes(), "Done", WORK, [CERTIFICATE])
+    row("key_id", with_attribute(read.LOCAL_KEY_ID, make.octet_string(b"\1")), "Done", WORK, [CERTIFICATE])
+    row("key_id_of_no_value", with_attribute(read.LOCAL_KEY_ID), "ContentMalformed", WORK)
+    row("another_attribute_of_no_value", with_attribute(UNSTRUCTURED_NAME), "Done", WORK, [CERTIFICATE])
+
+
+def other_texts():
+    row("store_with_an_octet_more", STORE + b"\0", "Malformed", 0)
+    row("store_with_an_octet_less", STORE[:-1], "Malformed", 0)
+    row("store_of_one_octet", STORE[:1], "Malformed", 0)
+    row("store_as_a_set", b"\x31" + STORE[1:], "Malformed", 0)
+    # 3081b0.. with its length in one octet more than it needs, and in the indefinite form of BER.
+    row("store_length_too_long", b"\x30\x82\x00" + STORE[2:], "Malformed", 0)
+    row("store_length_indefinite", b"\x30\x80" + STORE[3:] + b"\0\0", "Malformed", 0)
+    row("version_256", make.sequence(make.number(256), make.data(CONTENTS), MAC), "Malformed", 0)
+    row("version_negative", make.sequence(make.element(2, b"\xff"), make.data(CONTENTS), MAC), "Malformed", 0)
+    row("part_behind_the_mac", make.sequence(make.number(3), make.data(CONTENTS), MAC, make.NULL), "Malformed", 0)
+
+
+HEAD = """\
+# Variants of a small sealed store, and the answer that is due to each. Made by damaged_stores.py, which says how.
+# name password limit status steps certificates store
+# Steps are the SHA-1 digests of the derivation; certificates and store are in hexadecimal, `-` where there is none.
+# `old_mac` has the MAC of the sound store, `new_mac` one of the contents as they are; all other contents have one of their own."""
+
+
+def main():
+    sound_stores()
+    damaged_ciphertexts()
+    other_plaintexts()
+    other_lengths()
+    other_schemes()
+    other_macs()
+    other_contents()
+    other_bags()
+    other_texts()
+    print(HEAD)
+    print("\n".join(rows))
+
+
+main()
