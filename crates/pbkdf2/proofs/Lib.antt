@@ -1,0 +1,5 @@
+pub mod Xors
+pub mod Pieces
+pub mod Written
+pub mod Counts
+pub mod OneReading

@@ -1,0 +1,5 @@
+pub mod Pbkdf2
+pub mod Settings
+pub mod Algorithm
+pub mod Params
+pub mod Hashes

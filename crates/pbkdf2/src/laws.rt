@@ -1,0 +1,14 @@
+//! Laws of PBKDF2, each stated by the contract of a function that does nothing.
+ghost use Rattle.pbkdf2.specs.Pbkdf2.{ShorterIsPrefix, ZeroIsOne};
+
+/// For one function, salt and number of rounds a shorter output is a prefix of a longer one.
+#[tactic(auto, using(crate::proofs::Xors::shorter_is_prefix))]
+pub fn shorter_output_is_a_prefix()
+    ensures { ShorterIsPrefix }
+{}
+
+/// PBKDF2 with zero rounds is that with one round.
+#[tactic(auto, using(crate::proofs::Xors::zero_is_one))]
+pub fn zero_rounds_is_one_round()
+    ensures { ZeroIsOne }
+{}

@@ -1,0 +1,5 @@
+use Rattle.phc_core.proofs.Ascii.{ident_utf8}
+use Rattle.phc_core.proofs.ident.Ident.as_str.Goals as goal
+
+pub returns-in-Err-clause-value : goal.returns-in-Err-clause-value
+returns-in-Err-clause-value c = absurd (c.in-Err.ensures.cases.0 (ident_utf8 _ c.self.invariant.1))
