@@ -1,0 +1,95 @@
+#!/usr/bin/env python3
+"""Makes the stores that are measured, all with the password `p`.
+
+    make_bench_store.py KIND NUMBER STORE
+
+writes the store to STORE and its hexadecimal line to STORE.hex. The kinds:
+
+    plain NUMBER          a store of NUMBER octets: one certificate with a long extension, not encrypted
+    smallest 1            a store of 131 octets: one certificate bag of two octets, not encrypted
+    bags NUMBER           NUMBER certificate bags of two octets in one content that is not encrypted
+    contents NUMBER       NUMBER contents of one such bag each
+    count NUMBER          a certificate under Triple DES, with NUMBER as the count of the MAC and of the content
+    sealed NUMBER         a certificate of NUMBER octets under Triple DES, counts 1
+"""
+
+import os
+import sys
+
+sys.dont_write_bytecode = True
+HOME = os.path.join(os.path.dirname(os.path.abspath(__file__)), "..")
+sys.path.insert(0, os.path.join(HOME, "tests"))
+
+import make_store as make
+from read_store import only
+
+PASSWORD = "p"
+CONTENT_SALT = bytes([8, 7, 6, 5, 4, 3, 2, 1])
+MAC_SALT = bytes([1, 2, 3, 4, 5, 6, 7, 8])
+SMALL_BAG = make.certificate_bag(bytes.fromhex("3000"))
+
+
+def example_certificate():
+    with open(os.path.join(HOME, "examples", "openssl", "cert-1.der"), "rb") as file:
+        return file.read()
+
+
+def long_certificate(filling):
+    """The example's root certificate with one extension of so many octets in place of its own; the signature is left as it is."""
+    outer = only(example_certificate())
+    inside = outer.sequence()
+    parts = [inside.element() for _ in range(7)]
+    extension = make.sequence(make.identifier("2.999.1"), make.octet_string(bytes(filling)))
+    signed = make.sequence(*parts, make.context(3, make.sequence(extension)))
+    return make.sequence(signed, outer.element(), outer.element())
+
+
+def of_length(wanted, make_octets):
+    """`make_octets` of the number that gives so many octets."""
+    filling = wanted - len(make_octets(wanted)) + wanted
+    octets = make_octets(filling)
+    assert len(octets) == wanted
+    return octets
+
+
+def with_mac(contents, count=1):
+    return make.store_with_mac(contents, PASSWORD, MAC_SALT, count)
+
+
+def plain_store(certificate):
+    return with_mac(make.sequence(make.data(make.sequence(make.certificate_bag(certificate)))))
+
+
+def sealed_store(certificate, count):
+    bags = make.sequence(make.certificate_bag(certificate))
+    return with_mac(make.sequence(make.sealed(bags, PASSWORD, CONTENT_SALT, count)), count)
+
+
+def store_of(kind, number):
+    if kind == "plain":
+        return of_length(number, lambda filling: plain_store(long_certificate(filling)))
+    if kind == "smallest":
+        return plain_store(bytes.fromhex("3000"))
+    if kind == "bags":
+        return with_mac(make.sequence(make.data(make.sequence(*[SMALL_BAG] * number))))
+    if kind == "contents":
+        return with_mac(make.sequence(*[make.data(make.sequence(SMALL_BAG))] * number))
+    if kind == "count":
+        return sealed_store(example_certificate(), number)
+    if kind == "sealed":
+        return sealed_store(of_length(number, long_certificate), 1)
+    sys.exit(__doc__)
+
+
+def main():
+    if len(sys.argv) != 4:
+        sys.exit(__doc__)
+    kind, number, path = sys.argv[1:]
+    store = store_of(kind, int(number))
+    with open(path, "wb") as file:
+        file.write(store)
+    with open(path + ".hex", "w", encoding="ascii") as file:
+        file.write(store.hex() + "\n")
+
+
+main()

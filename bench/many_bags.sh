@@ -1,0 +1,32 @@
+#!/bin/sh
+# How time and memory grow with the number of bags and of contents.
+set -eu
+# shellcheck source=bench/common.sh
+. "$(dirname "$0")/common.sh"
+
+line() {
+    printf '%-10s %8s %10s %10s %12s %8s %20s\n' "$@"
+}
+
+# One row for $2 parts of the kind $1.
+measure() {
+    make_store "$1" "$2" store
+    octets=$(wc -c <"$work/store" | tr -d ' ')
+    result=$(ours store)
+    seconds=${result% *}
+    mebibytes=${result#* }
+    line "$1" "$2" "$octets" "$seconds" "$(awk "BEGIN { printf \"%.2f\", $seconds / $2 * 1e6 }")" "$mebibytes" \
+        "$(awk "BEGIN { printf \"%.1f\", $mebibytes * 1048576 / $octets }")"
+}
+
+# A tenth of the number $2 of parts of the kind $1, and that number.
+pair() {
+    measure "$1" $(($2 / 10))
+    tenth=$seconds
+    measure "$1" "$2"
+    echo "ten times the number of $1 takes $(awk "BEGIN { printf \"%.1f\", $seconds / $tenth }") times the time"
+}
+
+line parts number octets seconds "us per part" MiB "memory per octet"
+pair bags 100000
+pair contents 60000
