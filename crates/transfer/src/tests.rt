@@ -83,7 +83,7 @@ fn words_of_another_form_are_usage(rt: HostRuntime) -> Result<(), Fail> {
 fn an_input_that_is_no_line_of_digits_is_malformed(rt: HostRuntime) -> Result<(), Fail> {
     let alloc = rt.alloc();
     let words = words_of(alloc, "transfer p q 1 9")?;
-    for text in ["3g", "300", "300\n", "30\n\n", "30\n30\n", " 30"] {
+    for text in ["3g", "300", "300\n", "30\r\n", "30\n\n", "30\n30\n", " 30"] {
         ran::<Brand, _>(
             &rt,
             alloc,
