@@ -1,9 +1,10 @@
-//! PHC strings: those that other programs wrote, and those of the format's bounds, read and written back; and one
+//! PHC strings: those in the form of other programs, and those of the format's bounds, read and written back; and one
 //! fault each, refused. Salts and hashes are those of another encoder of Base64.
 use crate::{Error, Ident, Output, ParamsString, PasswordHash, Salt, Value};
 use std::test::Fail;
 
-/// The strings that the reference program of Argon2, the Rust crate `pbkdf2` and the format's own page give.
+/// The third is a test vector of the Rust crate `pbkdf2`. The others are written down from memory of the reference program of
+/// Argon2 and of the format's own page, and were not compared with these.
 const OF_OTHERS: [&str; 6] = [
     "$argon2i$v=19$m=65536,t=2,p=1$c29tZXNhbHQ$wWKIMhR9lyDFvRz9YTZweHKfbftvj+qf+YFY4NeBbtA",
     "$argon2i$m=65536,t=2,p=1$c29tZXNhbHQ$9sTbSlTio3Biev89thdrlKKiCaYsjjYVJxGAL3swxpQ",
