@@ -3,6 +3,7 @@ use Rattle.std.proofs.Common.{◌≡◌, ℕ, zero, suc, ◌+◌, ◌*◌, ◌-�
 use Rattle.std.proofs.lemmas.Bool.{cases_lt, ltb-true, le-ltb, lt-ltb, eqb-true, eq-eqb, cases_Bool}
 use Rattle.asn1_core.specs.Identifier.{high_in, high, sub, subs, AllUnder, IsIdentifier, is_identifier}
 use Rattle.asn1_core.specs.Identifier.{next_state as next, subidentifiers as pass}
+use Rattle.asn1_core.specs.Arcs.{values}
 
 -- ---- the test, in a form that opens only where a proof says so
 
@@ -21,12 +22,6 @@ passes : (n : ℕ) (bs : List ℕ) → pass n bs ≡ subidentifiers n bs
 unfolding subidentifiers
 passes n [] = refl
 passes n (b ∷ bs) = step_passes n b bs (λ m. passes m bs)
-
--- ---- the numbers of octets
-
-unfoldable values : ℕ → List ℕ → List ℕ
-values n [] = []
-values n (b ∷ bs) = elim (nat_lt b 128) [ true ↦ (128 * n + b) ∷ values 0 bs | false ↦ values (128 * n + (b - 128)) bs ]
 
 -- ---- the octets that are not the last
 
@@ -132,15 +127,15 @@ sub_nil : (n : ℕ) → subidentifiers n [] ≡ true → n ≡ 0
 unfolding subidentifiers
 sub_nil n e = eqb-true n 0 e
 
-values_nil : (n : ℕ) → values n [] ≡ []
+pub values_nil : (n : ℕ) → values n [] ≡ []
 unfolding values
 values_nil n = refl
 
-values_end : (n b : ℕ) (bs : List ℕ) → b < 128 → values n (b ∷ bs) ≡ (128 * n + b) ∷ values 0 bs
+pub values_end : (n b : ℕ) (bs : List ℕ) → b < 128 → values n (b ∷ bs) ≡ (128 * n + b) ∷ values 0 bs
 unfolding values
 values_end n b bs h = rw (lt-ltb b 128 h, values) refl
 
-values_more : (n b : ℕ) (bs : List ℕ) → 128 ≤ b → values n (b ∷ bs) ≡ values (128 * n + (b - 128)) bs
+pub values_more : (n b : ℕ) (bs : List ℕ) → 128 ≤ b → values n (b ∷ bs) ≡ values (128 * n + (b - 128)) bs
 unfolding values
 values_more n b bs h = rw (le-ltb b 128 h, values) refl
 
@@ -241,6 +236,10 @@ subs_again (n ∷ ns) h =
     let ih = subs_again ns h.1 in
     (o.0 ∙ ih.0, o.1 ∙ ap (λ (x : List ℕ). n ∷ x) ih.1)
 
+-- the subidentifiers that are read are those that were written
+pub subs_read : (ns : List ℕ) → AllUnder (2 ^ 32) ns → values 0 (subs ns) ≡ ns
+subs_read ns h = (subs_again ns h).1
+
 subs_found : (bs : List ℕ) → subidentifiers 0 bs ≡ true → (bs ≡ subs (values 0 bs)) × AllUnder (2 ^ 32) (values 0 bs)
 subs_found bs e = (sym (ap (λ (x : List ℕ). x ++ bs) high_zero) ∙ found 0 bs e, under 0 bs e)
 
@@ -272,3 +271,20 @@ test_again o (n, ns, u, is, le) =
     let pos : 0 < length o = rw is (sub_length n (subs ns)) in
     let passing : pass 0 o ≡ true = passes 0 o ∙ ap (subidentifiers 0) is ∙ s in
     rw (lt-ltb 0 (length o) pos, lt-ltb (length o) 40 (omega (arith, le)), passing) refl
+
+-- ---- what a step over an octet does, where the test holds
+
+pub record Walked (n b : ℕ) (bs vs : List ℕ) : Type 0 where
+  pub small : n < 2 ^ 25
+  pub ends : b < 128 → (pass 0 bs ≡ true) × (vs ≡ (128 * n + b) ∷ values 0 bs)
+  pub goes_on : 128 ≤ b → (pass (128 * n + (b - 128)) bs ≡ true) × (vs ≡ values (128 * n + (b - 128)) bs)
+
+pub walked : (n b : ℕ) (bs : List ℕ) → pass n (b ∷ bs) ≡ true → Walked n b bs (values n (b ∷ bs))
+walked n b bs e =
+    let s = sub_step n b bs (sym (passes n (b ∷ bs)) ∙ e) in
+    let t = step_of n b s.0 s.1 in
+    record {
+      small = t.small;
+      ends = λ lt. (passes 0 bs ∙ subst (λ (k : ℕ). subidentifiers k bs ≡ true) (next_end n b s.0 lt t.is) s.2, values_end n b bs lt);
+      goes_on = λ ge. (passes (128 * n + (b - 128)) bs ∙ subst (λ (k : ℕ). subidentifiers k bs ≡ true) (next_more n b s.0 ge t.is) s.2, values_more n b bs ge);
+    }

@@ -3,5 +3,12 @@ pub mod PartLoops
 pub mod SetLaws
 pub mod UnicodeLaws
 pub mod Identifiers
+pub mod ArcsRead
+pub mod Made
+pub mod Numerals
+pub mod Words
+pub mod Forms
 pub mod Parted
 pub mod One
+pub mod TextLaws
+pub mod JoinLaws

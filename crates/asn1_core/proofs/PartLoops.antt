@@ -1,7 +1,7 @@
 -- The steps of a loop over the parts of a text.
 use Rattle.std.proofs.Common.{◌≡◌, ℕ, zero, suc, ◌-◌, ◌<◌, List, [], ◌∷◌, ◌++◌, length, Result, Ok, Err, refl, sym, ap, ◌∙◌, append_assoc, arith}
 use Rattle.std.proofs.lemmas.List.{append-nil, nil_from_length}
-use Rattle.asn1_core.specs.Reading.{Fault, Bad, UnknownOid, Front, All, ◌>>=◌, many_in, many}
+use Rattle.asn1_core.specs.Reading.{Fault, Bad, UnknownOid, Front, ◌>>=◌, many_in, many}
 use Rattle.asn1_core.specs.Gives.{Fails}
 use Rattle.asn1_core.specs.declared.error.Error.{Error}
 use Rattle.asn1_core.specs.declared.error.Error.TheVariants as errors

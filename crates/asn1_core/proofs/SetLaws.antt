@@ -1,8 +1,6 @@
 -- Lists up to their order.
-use Rattle.std.proofs.Common.{OnOk, Result, Ok, Err, ◌≡◌, ℕ, suc, ◌+◌, Bool, true, false, cond, List, [], ◌∷◌, ◌++◌, length, set, map, refl, sym, ap, subst, ◌∙◌, inl, inr, ◌⊎◌, arith, get_or, IsPermutation, IsSorted}
+use Rattle.std.proofs.Common.{◌≡◌, ℕ, suc, ◌+◌, Bool, true, false, cond, List, [], ◌∷◌, ◌++◌, length, set, map, refl, sym, ap, subst, ◌∙◌, inl, inr, ◌⊎◌, arith, get_or, IsPermutation, IsSorted}
 use Rattle.std.specs.List.{sum_by}
-use Rattle.std.specs.declared.vec.Vec.{Vec}
-use Rattle.std.specs.declared.alloc.Global.{Global}
 use Rattle.std.specs.Str.{bytes_eq}
 use Rattle.std.specs.Cmp.{upto}
 use Rattle.std.specs.Cmp.Lexicographic.{slice_cmp, nat_list_cmp_total}
@@ -18,7 +16,7 @@ use Rattle.std.proofs.lemmas.List.{map-set, length-map}
 use Rattle.std.proofs.Math.ListN.{get_or-map}
 use Rattle.asn1_core.specs.Texts.{Many}
 use Rattle.asn1_core.specs.Der.{joined}
-use Rattle.asn1_core.specs.Sets.{texts_of, SpellSet, Each, SameSet, put_in, in_order, Decodes, Other}
+use Rattle.asn1_core.specs.Sets.{SpellSet, Each, SameSet, put_in, in_order, Decodes, Other}
 
 abbrev text_cmp : List ℕ → List ℕ → Ordering
 text_cmp = slice_cmp nat_cmp
@@ -283,20 +281,17 @@ pub sorted_is_in_order : (xs ys : List (List ℕ)) → IsPermutation xs ys → I
 sorted_is_in_order xs ys p h =
     ascends_once ys (in_order xs) (λ f. sum_by-IsPermutation f xs ys p ∙ sym (sum_by-IsPermutation f xs (in_order xs) (in_order-permutes xs))) (ascends_of ys h) (in_order-ascends xs)
 
--- ---- vectors of octets, sorted
+-- ---- values that are sorted by the octets that f gives of each
 
-abbrev octets_cmp : Vec ℕ Global → Vec ℕ Global → Ordering
-octets_cmp x y = text_cmp x.items y.items
+module _ {A : Type 0} (f : A → List ℕ) where
+  views_ascend : (xs : List A) → IsSorted (λ x y. text_cmp (f x) (f y)) xs → Ascends (map f xs)
+  views_ascend [] h = tt
+  views_ascend (x ∷ []) h = (tt, tt)
+  views_ascend (x ∷ y ∷ l) h =
+      let first : is_lt (text_cmp (f y) (f x)) ≡ false = h 0 x (omega arith) (omega arith) in
+      let rest = views_ascend (y ∷ l) (λ k d p q. let e : suc k + 1 ≡ suc (k + 1) = omega arith in subst (λ (n : ℕ). is_lt (text_cmp (f (get_or (x ∷ y ∷ l) n d)) (f (get_or (y ∷ l) k d))) ≡ false) e (h (suc k) d (omega arith) (omega arith))) in
+      ((first, least_chain (f x) (f y) (map f l) first rest.0), rest)
 
-vectors_ascend : (xs : List (Vec ℕ Global)) → IsSorted octets_cmp xs → Ascends (texts_of xs)
-vectors_ascend [] h = tt
-vectors_ascend (x ∷ []) h = (tt, tt)
-vectors_ascend (x ∷ y ∷ l) h =
-    let first : is_lt (octets_cmp y x) ≡ false = h 0 x (omega arith) (omega arith) in
-    let rest = vectors_ascend (y ∷ l) (λ k d p q. let e : suc k + 1 ≡ suc (k + 1) = omega arith in subst (λ (n : ℕ). is_lt (octets_cmp (get_or (x ∷ y ∷ l) n d) (get_or (y ∷ l) k d)) ≡ false) e (h (suc k) d (omega arith) (omega arith))) in
-    ((first, least_chain x.items y.items (texts_of l) first rest.0), rest)
-
-pub sorted_vectors : {X E : Type 0} (r : Result X E) (old new : List (Vec ℕ Global)) → IsPermutation old new → OnOk r (IsSorted octets_cmp new) → OnOk r (texts_of new ≡ in_order (texts_of old))
-sorted_vectors (Err e) old new p h = h
-sorted_vectors (Ok x) old new p h =
-    ascends_once (texts_of new) (in_order (texts_of old)) (λ f. sum_by-IsPermutation f (texts_of old) (texts_of new) (IsPermutation-map (λ (t : Vec ℕ Global). t.items) old new p) ∙ sym (sum_by-IsPermutation f (texts_of old) (in_order (texts_of old)) (in_order-permutes (texts_of old)))) (vectors_ascend new h) (in_order-ascends (texts_of old))
+  pub sorted_views : (old new : List A) → IsPermutation old new → IsSorted (λ x y. text_cmp (f x) (f y)) new → map f new ≡ in_order (map f old)
+  sorted_views old new p h =
+      ascends_once (map f new) (in_order (map f old)) (λ g. sum_by-IsPermutation g (map f old) (map f new) (IsPermutation-map f old new p) ∙ sym (sum_by-IsPermutation g (map f old) (in_order (map f old)) (in_order-permutes (map f old)))) (views_ascend new h) (in_order-ascends (map f old))

@@ -1,8 +1,8 @@
 -- lemmas only: nothing to believe here
 -- Numbers in the fewest octets.
-use Rattle.std.proofs.Common.{◌≡◌, ℕ, zero, suc, ◌+◌, ◌*◌, ◌-◌, ◌/◌, ◌%◌, ◌<◌, ◌≤◌, ◌^◌, List, [], ◌∷◌, ◌++◌, length, refl, sym, ap, ◌∙◌, append_assoc, arith, length-append, inl, inr, ◌⊎◌}
+use Rattle.std.proofs.Common.{◌≡◌, ℕ, zero, suc, ◌+◌, ◌*◌, ◌-◌, ◌/◌, ◌%◌, ◌<◌, ◌≤◌, ◌^◌, List, [], ◌∷◌, ◌++◌, length, drop, set, refl, sym, ap, ◌∙◌, append_assoc, arith, length-append, pow-suc, inl, inr, ◌⊎◌}
 use Rattle.std.proofs.lemmas.Bool.{cases_lt, le-ltb, lt-ltb}
-use Rattle.std.proofs.lemmas.List.{append-nil}
+use Rattle.std.proofs.lemmas.List.{append-nil, drop-set}
 use Rattle.asn1_core.specs.OctetLaws.{IsOctets}
 use Rattle.asn1_core.specs.Der.{digits_in, digits, shortest_in, shortest}
 use Rattle.asn1_core.specs.Reading.{number_on}
@@ -182,3 +182,25 @@ front_shortest (suc k) n h le =
           let f = front_shortest k (n / 256) (omega arith) ge in
           record { first = f.first; second = f.second; others = f.others ++ (n % 256) ∷ []; is = shortest_split n le ∙ ap (λ (x : List ℕ). x ++ (n % 256) ∷ []) f.is; below = f.below; least = f.least }
     ]
+
+-- ---- the octets of a shortest two's complement, written from the end of an array
+
+pub shortest_fits : (from m : ℕ) → 128 ≤ m → m < 128 * 256 ^ from → (0 < from) × (m / 256 < 128 * 256 ^ (from - 1))
+shortest_fits zero m h lt = absurd (omega arith)
+shortest_fits (suc k) m h lt =
+    let p = pow-suc 256 k in
+    let r : m / 256 < 128 * 256 ^ k = omega (arith, lt, p) in
+    let q : suc k - 1 ≡ k = omega arith in
+    (omega arith, rw q r)
+
+pub shortest_step : (n m from : ℕ) (octets : List ℕ) → 128 ≤ m → 0 < from → from < length octets
+    → shortest n ≡ shortest m ++ drop (from + 1) octets → shortest n ≡ shortest (m / 256) ++ drop (from - 1 + 1) (set octets from (m % 256))
+shortest_step n m from octets h pos lt is =
+    let k : from - 1 + 1 ≡ from = omega arith in
+    let d : drop (from - 1 + 1) (set octets from (m % 256)) ≡ (m % 256) ∷ drop (from + 1) octets = ap (λ (i : ℕ). drop i (set octets from (m % 256))) k ∙ drop-set octets from (m % 256) lt in
+    is ∙ ap (λ (x : List ℕ). x ++ drop (from + 1) octets) (shortest_split m h) ∙ append_assoc (shortest (m / 256)) ((m % 256) ∷ []) (drop (from + 1) octets) ∙ ap (λ (x : List ℕ). shortest (m / 256) ++ x) (sym d)
+
+pub shortest_done : (n m from : ℕ) (octets : List ℕ) → m < 128 → from < length octets
+    → shortest n ≡ shortest m ++ drop (from + 1) octets → drop from (set octets from m) ≡ shortest n
+shortest_done n m from octets h lt is =
+    drop-set octets from m lt ∙ sym (is ∙ ap (λ (x : List ℕ). x ++ drop (from + 1) octets) (shortest_one m h))

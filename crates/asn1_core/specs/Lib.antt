@@ -1,7 +1,9 @@
 pub mod Padded
 pub mod Identifier
+pub mod Arcs
 pub mod Oid
 pub mod Lending
+pub mod Error
 pub mod Der
 pub mod Reading
 pub mod Texts
@@ -18,3 +20,7 @@ pub mod NumberLaws
 pub mod OptionLaws
 pub mod FieldLaws
 pub mod StandLaws
+pub mod Writing
+pub mod LengthLaws
+pub mod WritingLaws
+pub mod FaultLaws

@@ -1,7 +1,5 @@
 -- Lists up to their order, and texts in ascending order.
-use Rattle.std.specs.Prelude.{◌≡◌, ◌≢◌, ℕ, List, [], ◌∷◌, if◌then◌else◌, IsPermutation, map}
-use Rattle.std.specs.declared.vec.Vec.{Vec}
-use Rattle.std.specs.declared.alloc.Global.{Global}
+use Rattle.std.specs.Prelude.{◌≡◌, ◌≢◌, ℕ, List, [], ◌∷◌, if◌then◌else◌, IsPermutation}
 use Rattle.asn1_core.specs.Der.{joined}
 use Rattle.std.specs.Cmp.Lexicographic.{slice_cmp}
 use Rattle.std.specs.Ordering.{nat_cmp, is_lt}
@@ -44,7 +42,3 @@ Other Spell canon b v = Spell b v × (b ≢ canon v)
 -- some text has the value
 abbrev pub IsRead : {A : Type 0} → (List ℕ → A → Type 0) → A → Type 0
 IsRead R v = (t : List ℕ) × R t v
-
--- the octets of each of the texts
-abbrev pub texts_of : List (Vec ℕ Global) → List (List ℕ)
-texts_of ts = map (λ t. t.items) ts

@@ -3,7 +3,7 @@
 use Rattle.std.proofs.Common.{◌≡◌, ℕ, List, ◌++◌, Result, Ok, Err, sym, ap, subst, ◌∙◌}
 use Rattle.std.proofs.lemmas.List.{append-nil}
 use Rattle.asn1_core.specs.Der.{IsShort}
-use Rattle.asn1_core.specs.Reading.{Fault, Bad, UnknownOid, Front, ◌>>=◌, whole, ended}
+use Rattle.asn1_core.specs.Reading.{Fault, Bad, UnknownOid, Front, whole, ended}
 use Rattle.asn1_core.specs.Texts.{Exact}
 use Rattle.asn1_core.specs.Gives.{ReadsIn, ReadsAs, Reads, NoneStands}
 use Rattle.asn1_core.specs.ExactLaws.{bind_ok, ended_ok, ok_is, whole-exact}

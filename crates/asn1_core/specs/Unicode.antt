@@ -1,6 +1,6 @@
 -- Texts of characters: BMPString and IA5String (X.690 section 8.23).
 use Rattle.std.specs.Prelude.{◌≡◌, ℕ, ◌/◌, ◌%◌, ◌*◌, ◌+◌, List, [], ◌∷◌, IsTrue, Bool, true, nat_lt, Result, Ok, Err, not}
-use Rattle.std.specs.Str.{encode_utf8_all, all_scalars}
+use Rattle.std.specs.Str.{encode_utf8_all, all_scalars, chars}
 use Rattle.std.specs.Char.Escape.{encode_utf16}
 use Rattle.std.specs.Char.Utf16.{utf16_lossy_chars, has_unpaired_surrogate}
 use Rattle.std.specs.List.{flat_map, list_all}
@@ -15,6 +15,13 @@ unit_octets (u ∷ us) = u / 256 ∷ u % 256 ∷ unit_octets us
 -- t is the UTF-8 of characters of which b are the units
 abbrev pub Units : List ℕ → List ℕ → Type 0
 Units b t = (cs : List ℕ) × (all_scalars cs ≡ true) × (encode_utf8_all cs ≡ t) × (b ≡ unit_octets (flat_map encode_utf16 cs))
+
+-- the units of one character, and those of a text that is given by its UTF-8
+abbrev pub char_units : ℕ → List ℕ
+char_units c = unit_octets (encode_utf16 c)
+
+abbrev pub text_units : List ℕ → List ℕ
+text_units t = flat_map char_units (chars t)
 
 abbrev pub Bmp : List ℕ → List ℕ → Type 0
 Bmp = Within 0x1e Units

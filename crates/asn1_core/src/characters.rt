@@ -10,7 +10,7 @@ use crate::tag::Tag;
 use crate::text::Text;
 use std::alloc::Global;
 
-fn are_ascii(octets: &[u8]) -> bool
+pub(crate) fn are_ascii(octets: &[u8]) -> bool
     ensures { result ≡ is_ascii_text octets.now }
 {
     for octet in octets {

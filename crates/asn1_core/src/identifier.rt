@@ -1,11 +1,16 @@
 //! Object identifiers.
 ghost use Rattle.asn1_core.specs.Identifier.{Holds};
 
+use crate::arcs;
+use crate::encoding::octets_of;
 use crate::error::Error;
+use crate::identifier_text::{read_arcs, write_arc};
 use crate::padded::pad;
 use crate::subidentifiers::is_identifier;
 use std::cmp::Ordering;
+use std::fmt;
 use std::hash::{Hash, Hasher};
+use std::str::FromStr;
 
 /// An object identifier (X.690 section 8.19): its `size` octets in front, and zeros behind them.
 ///
@@ -18,11 +23,25 @@ pub struct ObjectIdentifier {
 }
 
 impl ObjectIdentifier {
-    ghost use Rattle.std.specs.Prelude.{◌≡◌, ◌↔◌, IsTrue, IsOk, IfOk, IfErr};
+    ghost use Rattle.std.specs.Prelude.{◌≡◌, ◌≤◌, ◌↔◌, length, slice_get, IsTrue, IsOk, IfOk, IfErr};
     ghost use Rattle.asn1_core.specs.Identifier.{is_identifier};
+    ghost use Rattle.asn1_core.specs.Arcs.{HasArcs, NoneHas, IsText, NoneReads, arcs};
     ghost use Rattle.asn1_core.specs.Oid.{oid_octets};
     ghost use Rattle.asn1_core.specs.Reading.{oid_of};
     ghost use Rattle.asn1_core.specs.Gives.{Gives};
+
+    /// The identifier of a text: its arcs in decimal with no leading zeros, and a point between each two, as `1.2.840`.
+    /// `Malformed` exactly where it is the text of none.
+    pub fn new(text: &str) -> Result<ObjectIdentifier, Error>
+        ensures ok { IfOk result (λ o. IsText text.now (oid_octets o)) }
+        ensures err { IfErr result (λ e. (e ≡ Error.Malformed) × NoneReads text.now) }
+    {
+        let mut arcs = [0; 40];
+        match read_arcs(text, &mut arcs) {
+            Some(n) => ObjectIdentifier::from_arcs(&arcs[..n]),
+            None => Err(Error::Malformed),
+        }
+    }
 
     /// The identifier of these octets. `Malformed` exactly where they are the octets of none.
     #[tactic(auto, using(crate::specs::Padded::is_padded, crate::specs::Padded::take_padded, crate::specs::ElementLaws::oid_reads_none))]
@@ -39,6 +58,33 @@ impl ObjectIdentifier {
             octets: pad(octets),
             size: octets.len() as u8,
         })
+    }
+
+    /// The identifier of these arcs (X.690 sections 8.19.4 and 8.19.5). `Malformed` exactly where no identifier has them.
+    pub fn from_arcs(arcs: &[u32]) -> Result<ObjectIdentifier, Error>
+        ensures ok { IfOk result (λ o. HasArcs (oid_octets o) arcs.now) }
+        ensures err { IfErr result (λ e. (e ≡ Error.Malformed) × NoneHas arcs.now) }
+    {
+        if arcs.len() < 2 {
+            return Err(Error::Malformed);
+        }
+        let first = arcs[0];
+        let second = arcs[1];
+        if first > 2 {
+            return Err(Error::Malformed);
+        }
+        if first < 2 && second > 39 {
+            return Err(Error::Malformed);
+        }
+        if second > 0xffff_ffff - 40 * first {
+            return Err(Error::Malformed);
+        }
+        let (_, rest) = arcs.split_at(2);
+        let mut kept = [0; 39];
+        match octets_of(&mut kept, 40 * first + second, rest) {
+            Some(used) => ObjectIdentifier::from_bytes(&kept[..used]),
+            None => Err(Error::Malformed),
+        }
     }
 
     /// The identifier of these octets. Caller: they are the octets of one.
@@ -60,6 +106,54 @@ impl ObjectIdentifier {
     {
         let n = self.size as usize;
         &self.octets[..n]
+    }
+
+    /// The number of arcs: at least 2 and at most 40.
+    pub fn arc_count(&self) -> usize
+        ensures count { result ≡ length (arcs (oid_octets self.now)) }
+        ensures within { (2 ≤ result) × (result ≤ 40) }
+    {
+        arcs::count(self.as_bytes())
+    }
+
+    /// The arc at place `i`, counted from 0. None exactly where `i` is not below `arc_count`.
+    pub fn arc(&self, i: usize) -> Option<u32>
+        ensures { result ≡ slice_get (arcs (oid_octets self.now)) i }
+    {
+        arcs::at(self.as_bytes(), i)
+    }
+}
+
+impl fmt::Display for ObjectIdentifier {
+    ghost use Rattle.std.specs.Prelude.{Some};
+    ghost use Rattle.asn1_core.specs.Arcs.{arcs, arcs_text};
+    ghost use Rattle.asn1_core.specs.Oid.{oid_octets};
+
+    ghost output = { λ o. Some (arcs_text (arcs (oid_octets o))) };
+
+    /// Prints the text.
+    fn fmt<W: fmt::Write>(&self, f: &mut fmt::Formatter<W>) -> fmt::Result {
+        let mut i = 0;
+        while let Some(arc) = self.arc(i) {
+            write_arc(i, arc, f)?;
+            i += 1;
+        }
+        Ok(())
+    }
+}
+
+impl FromStr for ObjectIdentifier {
+    ghost use Rattle.std.specs.Prelude.{◌≡◌, MatchResult};
+    ghost use Rattle.asn1_core.specs.Arcs.{IsText, NoneReads};
+    ghost use Rattle.asn1_core.specs.Oid.{oid_octets};
+    ghost use Rattle.asn1_core.specs.declared.error.Error.TheVariants.{Malformed};
+
+    type Err = Error;
+
+    ghost from_str_gives = { λ t r. MatchResult r (λ o. IsText t (oid_octets o)) (λ e. (e ≡ Malformed) × NoneReads t) };
+
+    fn from_str(text: &str) -> Result<ObjectIdentifier, Error> {
+        ObjectIdentifier::new(text)
     }
 }
 

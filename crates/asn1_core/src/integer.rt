@@ -21,9 +21,10 @@ fn number_up_to(max: u64, octets: &[u8]) -> Option<u64>
     Some(n)
 }
 
-/// The number whose shortest two's complement these octets are, where it is at most `max`.
+/// The number whose shortest two's complement these octets are (X.690 section 8.3), where it is at most `max`. `Malformed`
+/// exactly where they are none, or of a larger or negative number.
 #[tactic(auto, unfolding(crate::specs::Reading::uint_of))]
-pub(crate) fn uint_value(max: u64, octets: &[u8]) -> Result<u64, Error>
+pub fn uint_value(max: u64, octets: &[u8]) -> Result<u64, Error>
     ensures small { IfOk result (λ n. n ≤ max) }
     ensures exact { Gives (λ n. n) result (uint_of max octets.now) }
 {

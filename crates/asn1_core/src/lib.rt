@@ -2,12 +2,17 @@
 //! readers that take elements from borrowed octets.
 #![tactic(auto)]
 
+mod arcs;
 mod characters;
+mod decimal;
 mod element;
+mod encoding;
 mod error;
 mod front;
 mod header;
 mod identifier;
+mod identifier_laws;
+mod identifier_text;
 mod integer;
 mod items;
 mod laws;
@@ -16,13 +21,25 @@ mod padded;
 mod read;
 mod reader;
 mod slice_reader;
+mod slice_writer;
 mod subidentifiers;
 mod tag;
 mod text;
+mod vec_writer;
+mod write;
+mod write_set;
+mod write_text;
+mod writer;
 
+pub use decimal::decimal_of;
 pub use error::Error;
 pub use header::{Header, Length};
 pub use identifier::ObjectIdentifier;
+pub use identifier_laws::{
+    arcs_have_one_identifier, identifiers_have_one_list_of_arcs, identifiers_have_one_text,
+    octets_have_one_identifier, texts_have_one_identifier,
+};
+pub use integer::uint_value;
 pub use items::Items;
 pub use laws::{elements_are_parted, identifiers_are_tested};
 pub use octets::Octets;
@@ -30,8 +47,19 @@ pub use padded::pad;
 pub use read::{read_bmp, read_ia5, read_identifier, read_inner, read_raw, read_uint};
 pub use reader::Reader;
 pub use slice_reader::SliceReader;
+pub use slice_writer::SliceWriter;
 pub use tag::Tag;
 pub use text::Text;
+pub use vec_writer::VecWriter;
+pub use write::{
+    element_len, number_octets, uint_value_len, write_element, write_header, write_uint,
+    write_uint_value,
+};
+pub use write_set::write_set_of;
+pub use write_text::{write_bmp, write_ia5};
+pub use writer::Writer;
 
 #[cfg(test)]
 mod tests;
+#[cfg(test)]
+mod writing_tests;

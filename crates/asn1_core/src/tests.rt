@@ -3,6 +3,7 @@ use crate::{
     Error, Items, ObjectIdentifier, Octets, Reader, SliceReader, Tag, Text, read_bmp, read_ia5,
     read_identifier, read_inner, read_raw, read_uint,
 };
+use std::alloc::Global;
 
 fn uint(octets: &[u8], max: u64) -> Result<u64, Error> {
     let mut r = SliceReader::new(octets);
@@ -68,6 +69,111 @@ fn identifiers_of_the_standard(rt: HostRuntime) {
     assert!(rt; ObjectIdentifier::from_bytes(&[]) == Err(Error::Malformed));
     assert!(rt; ObjectIdentifier::from_bytes(&[1; 40]) == Err(Error::Malformed));
     assert!(rt; ObjectIdentifier::from_bytes(&[1; 39]).is_ok());
+}
+
+/// Whether the text has these octets, and its identifier prints it again.
+fn is_text_of(alloc: Global, text: &str, octets: &[u8]) -> bool {
+    let Ok(identifier) = ObjectIdentifier::new(text) else {
+        return false;
+    };
+    let Ok(printed) = identifier.to_string(alloc) else {
+        return false;
+    };
+    identifier.as_bytes() == octets && printed.as_str() == text
+}
+
+#[test]
+fn texts_of_identifiers(rt: HostRuntime) {
+    let alloc = rt.alloc();
+    // the octets are those of `openssl asn1parse -genstr OID:..`
+    assert!(rt; is_text_of(alloc, "2.999", &[0x88, 0x37]));
+    assert!(rt; is_text_of(alloc, "0.0", &[0]));
+    assert!(rt; is_text_of(alloc, "1.39", &[0x4f]));
+    assert!(rt; is_text_of(alloc, "2.47", &[0x7f]));
+    assert!(rt; is_text_of(alloc, "1.3.14.3.2.26", &[0x2b, 0x0e, 3, 2, 0x1a]));
+    assert!(rt;
+        is_text_of(
+            alloc,
+            "1.2.840.113549.1.9.22.1",
+            &[0x2a, 0x86, 0x48, 0x86, 0xf7, 0x0d, 1, 9, 0x16, 1]
+        )
+    );
+    assert!(rt;
+        is_text_of(
+            alloc,
+            "1.3.6.1.4.1.11591.4.11",
+            &[0x2b, 6, 1, 4, 1, 0xda, 0x47, 4, 0x0b]
+        )
+    );
+    assert!(rt;
+        is_text_of(
+            alloc,
+            "2.4294967215.1.268435455",
+            &[0x8f, 0xff, 0xff, 0xff, 0x7f, 1, 0xff, 0xff, 0xff, 0x7f]
+        )
+    );
+    let ones = "0.1.1.1.1.1.1.1.1.1.1.1.1.1.1.1.1.1.1.1.1.1.1.1.1.1.1.1.1.1.1.1.1.1.1.1.1.1.1.1";
+    assert!(rt; is_text_of(alloc, ones, &[1; 39]));
+    assert!(rt; "2.999".parse::<ObjectIdentifier>() == ObjectIdentifier::from_arcs(&[2, 999]));
+}
+
+fn is_refused(text: &str) -> bool {
+    ObjectIdentifier::new(text) == Err(Error::Malformed)
+}
+
+#[test]
+fn texts_of_no_identifier(rt: HostRuntime) {
+    assert!(rt; is_refused(""));
+    assert!(rt; is_refused("1"));
+    assert!(rt; is_refused("1.40"));
+    assert!(rt; is_refused("3.1"));
+    assert!(rt; is_refused("01.2"));
+    assert!(rt; is_refused("1.02"));
+    assert!(rt; is_refused("1..2"));
+    assert!(rt; is_refused("1.2."));
+    assert!(rt; is_refused(".1.2"));
+    assert!(rt; is_refused("1.+2"));
+    assert!(rt; is_refused("1.2.4294967296"));
+    // its first subidentifier is 2^32
+    assert!(rt; is_refused("2.4294967216"));
+    // 40 octets, of 41 arcs and of 40
+    let arcs = "0.1.1.1.1.1.1.1.1.1.1.1.1.1.1.1.1.1.1.1.1.1.1.1.1.1.1.1.1.1.1.1.1.1.1.1.1.1.1.1.1";
+    assert!(rt; is_refused(arcs));
+    let octets =
+        "0.1.1.1.1.1.1.1.1.1.1.1.1.1.1.1.1.1.1.1.1.1.1.1.1.1.1.1.1.1.1.1.1.1.1.1.1.1.1.128";
+    assert!(rt; is_refused(octets));
+}
+
+#[test]
+fn arcs_of_identifiers(rt: HostRuntime) {
+    let octets = [0x2a, 0x86, 0x48, 0x86, 0xf7, 0x0d];
+    let rsadsi = ObjectIdentifier::from_bytes(&octets).expect(&rt, "an identifier");
+    assert!(rt; rsadsi.arc_count() == 4);
+    assert!(rt; rsadsi.arc(0) == Some(1));
+    assert!(rt; rsadsi.arc(1) == Some(2));
+    assert!(rt; rsadsi.arc(2) == Some(840));
+    assert!(rt; rsadsi.arc(3) == Some(113549));
+    assert!(rt; rsadsi.arc(4).is_none());
+    assert!(rt; ObjectIdentifier::from_arcs(&[1, 2, 840, 113549]) == Ok(rsadsi));
+    assert!(rt; ObjectIdentifier::from_arcs(&[]) == Err(Error::Malformed));
+    assert!(rt; ObjectIdentifier::from_arcs(&[1]) == Err(Error::Malformed));
+    assert!(rt; ObjectIdentifier::from_arcs(&[1, 40]) == Err(Error::Malformed));
+    assert!(rt; ObjectIdentifier::from_arcs(&[3, 1]) == Err(Error::Malformed));
+    assert!(rt; ObjectIdentifier::from_arcs(&[2, 4294967216]) == Err(Error::Malformed));
+    assert!(rt; ObjectIdentifier::from_arcs(&[2, 4294967215]).is_ok());
+    assert!(rt; ObjectIdentifier::from_arcs(&[1; 41]) == Err(Error::Malformed));
+}
+
+#[test]
+fn texts_of_refusals(rt: HostRuntime) {
+    let alloc = rt.alloc();
+    let unknown = Error::OidUnknown {
+        oid: ObjectIdentifier::constant(&[0x88, 0x37]),
+    };
+    let text = unknown.to_string(alloc).expect(&rt, "a text");
+    assert!(rt; text.as_str() == "unknown OID: 2.999");
+    let malformed = Error::Malformed.to_string(alloc).expect(&rt, "a text");
+    assert!(rt; malformed.as_str() == "malformed DER");
 }
 
 #[test]

@@ -1,5 +1,4 @@
 pub mod Pieces
-pub mod Numerals
 pub mod Symbols
 pub mod Fields
 pub mod Stages

@@ -4,11 +4,12 @@ ghost use Rattle.std.specs.Prelude.{◌≡◌, ◌≢◌, ℕ, ◌∷◌, List, 
 ghost use Rattle.std.specs.Bool.{Decides};
 ghost use Rattle.phc_core.specs.Remainders.{seen, Cuts, HashRest, SaltRest, ParamsRest, VersionRest, NoHashRest, NoSaltRest, NoParamsRest, NoVersionRest};
 
-use crate::decimal::{Decimal, decimal_of};
+use crate::decimal::Decimal;
 use crate::error::Error;
 use crate::output::Output;
 use crate::params_string::ParamsString;
 use crate::salt::Salt;
+use asn1_core::decimal_of;
 
 /// The first field of a text, and what stands behind its `$`.
 pub(crate) fn cut(text: &str) -> (&str, Option<&str>)

@@ -6,9 +6,9 @@ ghost use Rattle.std.specs.Cmp.Rules.{comparing};
 ghost use Rattle.std.proofs.Common.{rules};
 ghost use Rattle.phc_core.specs.Value.{IsValueOctet, IsValue};
 
-use crate::decimal::{Decimal, decimal_of};
+use crate::decimal::Decimal;
 use crate::error::Error;
-use asn1_core::pad;
+use asn1_core::{decimal_of, pad};
 use std::marker::Model;
 
 /// The value of a parameter: 1 to 64 characters of `a-zA-Z0-9/+.-`.

@@ -1,0 +1,41 @@
+//! A writer that keeps what is written.
+ghost use Rattle.std.specs.Prelude.{◌≡◌, [], None};
+
+use crate::error::Error;
+use crate::octets::Octets;
+use crate::writer::Writer;
+use std::alloc::Global;
+
+/// A writer into memory of its own.
+#[derive(Debug, Drop)]
+pub struct VecWriter {
+    octets: Octets,
+}
+
+impl VecWriter {
+    /// A writer that holds nothing. This takes no memory yet.
+    pub fn new(alloc: Global) -> VecWriter
+        ensures { result.octets ≡ [] }
+    {
+        VecWriter {
+            octets: Octets::new(alloc),
+        }
+    }
+
+    /// What was written, with no copy.
+    pub fn into_octets(self) -> Octets
+        ensures { result ≡ self.octets }
+    {
+        let VecWriter { octets } = self;
+        octets
+    }
+}
+
+impl Writer for VecWriter {
+    ghost sink = { record { holds = λ w m. w.octets ≡ m; room = λ w. None; faults = λ w. 0; memory = Unit {0}; Place = Unit {0}; place = λ w. tt } };
+
+    /// The only refusal is `Memory`, and nothing is written then.
+    fn write(&mut self, octets: &[u8]) -> Result<(), Error> {
+        self.octets.extend(octets)
+    }
+}
