@@ -1,0 +1,16 @@
+pub mod Any
+pub mod BitString
+pub mod Null
+pub mod Optional
+pub mod ContextSpecific
+pub mod Tied
+pub mod Document
+pub mod Order
+pub mod SameLaws
+pub mod AnyLaws
+pub mod StringLaws
+pub mod OptionalLaws
+pub mod ContextLaws
+pub mod TiedLaws
+pub mod DocumentLaws
+pub mod OrderLaws

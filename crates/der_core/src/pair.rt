@@ -1,0 +1,34 @@
+//! Two texts, one after the other.
+ghost use Rattle.std.specs.Prelude.{length, ◌++◌, ◌⊎◌, OnOk};
+ghost use Rattle.asn1_core.specs.Writing.{Writes, Measures, IsOverlong};
+
+use crate::encode::Encode;
+use asn1_core::{Error, Length, Writer};
+
+/// How many octets the texts of both values have. `Malformed` exactly where one has none, `Overlength` only where there are more
+/// than 2^32 - 1.
+pub fn pair_len<A: Encode, B: Encode>(first: &A, second: &B) -> Result<Length, Error>
+    ensures measured { Measures ((¬ (A.writable first.now)) ⊎ (¬ (B.writable second.now))) (A.canon first.now ++ B.canon second.now) result }
+    ensures lawful { OnOk result (A.writable first.now × B.writable second.now) }
+{
+    let one = first.encoded_len()?;
+    let two = second.encoded_len()?;
+    match one.value.checked_add(two.value) {
+        Some(value) => Ok(Length { value }),
+        None => Err(Error::Overlength),
+    }
+}
+
+/// Writes the text of one value, and behind it that of the other. Refusals as in `pair_len`, and those of the writer.
+pub fn write_pair<A: Encode, B: Encode, W: Writer>(
+    w: &mut W,
+    first: &A,
+    second: &B,
+) -> Result<(), Error>
+    ensures written { Writes W.sink ((¬ (A.writable first.now)) ⊎ (¬ (B.writable second.now))) (IsOverlong (length (A.canon first.now ++ B.canon second.now)))
+        (A.canon first.now ++ B.canon second.now) w.old result w.new }
+    ensures lawful { OnOk result (A.writable first.now × B.writable second.now) }
+{
+    first.encode(w)?;
+    second.encode(w)
+}
