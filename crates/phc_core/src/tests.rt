@@ -1,2 +1,3 @@
 mod callers;
 mod phc_strings;
+mod program_strings;

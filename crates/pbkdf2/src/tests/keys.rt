@@ -1,11 +1,16 @@
 //! Keys of PBKDF2: the vectors of RFC 6070 and of RFC 7914 section 11, and keys that OpenSSL derives.
+ghost use Rattle.std.specs.Prelude.{◌≡◌, ◌<◌};
+
 use crate::{
-    Algorithm, Params, Pbkdf2, pbkdf2, pbkdf2_array, pbkdf2_hmac, pbkdf2_hmac_array,
-    pbkdf2_hmac_with_params,
+    Algorithm, Params, Pbkdf2, pbkdf2, pbkdf2_array, pbkdf2_counted, pbkdf2_hmac,
+    pbkdf2_hmac_array, pbkdf2_hmac_with_params,
 };
-use mac_modes::{Hmac, Sha1, Sha256};
+use mac_modes::{Hmac, InvalidLength, Sha1, Sha256};
 use phc_core::{Error, Kdf};
+use std::marker::Brand;
+use std::sync::ledger::{Blank, Ledger};
 use std::test::Fail;
+use steps::Steps;
 
 /// The key of 1,000 rounds of HMAC-SHA-256 on `password` and `salt`, as OpenSSL gives it.
 const KEY: [u8; 20] =
@@ -86,6 +91,26 @@ fn every_call_gives_the_same_key(rt: HostRuntime) -> Result<(), Fail> {
     Pbkdf2::from(params).derive_key(b"password", b"salt", &mut derived)?;
     assert_eq!(rt; derived, KEY);
     Ok(())
+}
+
+/// What `pbkdf2_counted` gives, over a counter of its own.
+fn counted_key<L: Ledger>(rounds: u32, blank: Blank) -> Result<[u8; 20], InvalidLength>
+    requires name { blank.name ≡ L.name }
+    requires parts { blank.parts ≡ L.parts }
+    requires some { 0 < blank.parts }
+{
+    let mut steps = Steps::<L>::open(blank);
+    let mut key = [0; 20];
+    pbkdf2_counted::<Hmac<Sha1>, L>(b"password", b"salt", rounds, &mut key, &mut steps)?;
+    Ok(key)
+}
+
+#[test]
+fn a_counted_key_is_the_one_of_the_standard(rt: HostRuntime) {
+    assert_eq!(rt;
+        counted_key::<Brand>(4096, Blank::new(1)),
+        Ok(*b"\x4b\x00\x79\x01\xb7\x65\x48\x9a\xbe\xad\x49\xd9\x26\xf7\x21\xd0\x65\xa4\x29\xc1")
+    );
 }
 
 #[test]

@@ -1,18 +1,8 @@
-//! PHC strings: those in the form of other programs, and those of the format's bounds, read and written back; and one
-//! fault each, refused. Salts and hashes are those of another encoder of Base64.
+//! PHC strings: those that other programs wrote, and those of the format's bounds, read and written back; other programs'
+//! formats, and one fault each, refused. Salts and hashes at the bounds are those of another encoder of Base64.
+use super::program_strings::{IN_OTHER_FORMATS, IN_PHC_STRINGS};
 use crate::{Error, Ident, Output, ParamsString, PasswordHash, Salt, Value};
 use std::test::Fail;
-
-/// The third is a test vector of the Rust crate `pbkdf2`. The others are written down from memory of the reference program of
-/// Argon2 and of the format's own page, and were not compared with these.
-const OF_OTHERS: [&str; 6] = [
-    "$argon2i$v=19$m=65536,t=2,p=1$c29tZXNhbHQ$wWKIMhR9lyDFvRz9YTZweHKfbftvj+qf+YFY4NeBbtA",
-    "$argon2i$m=65536,t=2,p=1$c29tZXNhbHQ$9sTbSlTio3Biev89thdrlKKiCaYsjjYVJxGAL3swxpQ",
-    "$pbkdf2-sha256$i=4096,l=40$c2FsdFNBTFRzYWx0U0FMVHNhbHRTQUxUc2FsdFNBTFRzYWx0$NIyJ28vTKy8y2BS4EW6EzysXNH68GAAYHE4qH7jdU+HGNVGMfaxH6Q",
-    "$argon2i$m=120,t=5000,p=2",
-    "$argon2i$m=120,t=5000,p=2$4fXXG0spB92WPB1NitT8/OH0VKI$BwUgJHHQaynE+a4nZrYRzOllGSjjxuxNXxyNRUtI6Dlw/zlbt6PzOL8Onfqs6TcG",
-    "$argon2i$m=120,t=5000,p=2,keyid=Hj5+dsK0ZQ$4fXXG0spB92WPB1NitT8/OH0VKI$iPBVuORECm5biUsjq33hn9/7BKqy9aPWKhFfK2haEsM",
-];
 
 /// Strings at the bounds of the grammar.
 const AT_THE_BOUNDS: [&str; 11] = [
@@ -30,7 +20,7 @@ const AT_THE_BOUNDS: [&str; 11] = [
 ];
 
 /// Strings with one fault each, and the fault.
-const WITH_A_FAULT: [(&str, &str); 39] = [
+const WITH_A_FAULT: [(&str, &str); 38] = [
     ("", "nothing"),
     ("a$x=1", "no `$` in front"),
     ("$", "no identifier"),
@@ -87,10 +77,6 @@ const WITH_A_FAULT: [(&str, &str); 39] = [
     ),
     ("$a$AAECAwQFBgc$AAECAwQFBgcICR", "trailing bits in a hash"),
     ("$a$AAECAwQFBgc$AAECAwQFBgcICQ$x", "a field behind the hash"),
-    (
-        "$pbkdf2-sha256$6400$0ZrzXitFSGltTQnBWOsdYw$Y11AchqV4b0sUisdZd0Xr97KWoymNE0LNNrnEgY4H9M",
-        "the form of passlib, with rounds in place of parameters",
-    ),
 ];
 
 fn is_written_back(rt: &HostRuntime, text: &str) -> Result<bool, Fail> {
@@ -102,10 +88,21 @@ fn is_written_back(rt: &HostRuntime, text: &str) -> Result<bool, Fail> {
 
 #[test]
 fn strings_of_other_programs_are_written_back(rt: HostRuntime) -> Result<(), Fail> {
-    for text in OF_OTHERS {
+    for text in IN_PHC_STRINGS {
         assert!(rt; is_written_back(&rt, text)?, "{text}");
     }
     Ok(())
+}
+
+#[test]
+fn other_formats_are_refused(rt: HostRuntime) {
+    for text in IN_OTHER_FORMATS {
+        assert_eq!(rt;
+            PasswordHash::new(text),
+            Err(Error::EncodingInvalid),
+            "{text}"
+        );
+    }
 }
 
 #[test]
