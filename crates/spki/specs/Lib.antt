@@ -1,0 +1,14 @@
+pub mod Algorithm
+pub mod AlgorithmLaws
+pub mod SubjectPublicKeyInfo
+pub mod PublicKeyLaws
+pub mod Error
+pub mod AlgorithmOids
+pub mod OidLaws
+pub mod Seen
+pub mod KeyFile
+pub mod AnyLaws
+pub mod KeyLaws
+pub mod Associated
+pub mod SameLaws
+pub mod ConstantLaws

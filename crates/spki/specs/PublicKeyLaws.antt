@@ -1,0 +1,68 @@
+-- lemmas only: nothing to believe here
+-- Public keys are read exactly, and what is written of one is read again.
+use Rattle.std.proofs.Common.{◌≡◌, ℕ, Bool, List, [], ◌++◌, Option, refl, sym, ap, ◌∙◌, inl, inr, ◌⊎◌}
+use Rattle.std.proofs.lemmas.List.{append-nil}
+use Rattle.asn1_core.specs.Der.{el}
+use Rattle.asn1_core.specs.Reading.{Front}
+use Rattle.asn1_core.specs.Texts.{Exact, ExactAll, Whole, On, Ended, seen_option}
+use Rattle.asn1_core.specs.declared.identifier.ObjectIdentifier.{ObjectIdentifier}
+use Rattle.asn1_core.specs.ExactLaws.{on-exact, ended-exact, same-exact}
+use Rattle.asn1_core.specs.ElementLaws.{within-exact}
+use Rattle.der_core.specs.Optional.{writable_option}
+use Rattle.spki.specs.declared.subject_public_key_info.SubjectPublicKeyInfo.{SubjectPublicKeyInfo}
+use Rattle.spki.specs.Algorithm.{algorithm, algorithm_at, AlgorithmText}
+use Rattle.spki.specs.AlgorithmLaws.{algorithm-exact, algorithm_content, algorithm_canonical, algorithm_spelled, other_algorithm}
+use Rattle.spki.specs.SubjectPublicKeyInfo.{public_key, public_key_of, public_key_at, PublicKeyOf, PublicKeyText}
+
+module _ {V W : Type 0} (can : ℕ → Bool) (P : List ℕ → V → Type 0) (p : Front V) (exact : Exact P p) (whole : Whole can P) (K : List ℕ → W → Type 0) (q : Front W) (exact_key : Exact K q) where
+  abbrev Parts : List ℕ → SubjectPublicKeyInfo V W → Type 0
+  Parts = On (AlgorithmText P) (λ a. On K (λ k. Ended (public_key a k)))
+
+  to : (b : List ℕ) (v : SubjectPublicKeyInfo V W) → Parts b v → PublicKeyOf P K b v
+  to b v (a, r, x, h, (k, z, y, g, (none, is), e), f) =
+      rw is (a, k, h, g, f ∙ ap (λ (l : List ℕ). a ++ l) (e ∙ rw none (append-nil k)))
+
+  from : (b : List ℕ) (v : SubjectPublicKeyInfo V W) → PublicKeyOf P K b v → Parts b v
+  from b v (a, k, h, g, is) = (a, k, v.algorithm, h, (k, [], v.subject_public_key, g, (refl, refl), sym (append-nil k)), is)
+
+  pub public_key_of-exact : ExactAll (PublicKeyOf P K) (public_key_of can p q)
+  public_key_of-exact = same-exact Parts (PublicKeyOf P K) (public_key_of can p q) to from
+      (on-exact (AlgorithmText P) (λ a. On K (λ k. Ended (public_key a k))) (algorithm_at can p) _ (algorithm-exact can P p exact whole)
+      (λ a. on-exact K (λ k. Ended (public_key a k)) q _ exact_key (λ k. ended-exact (public_key a k))))
+
+  pub public_key-exact : Exact (PublicKeyText P K) (public_key_at can p q)
+  public_key-exact = within-exact 0x30 (PublicKeyOf P K) (public_key_of can p q) refl public_key_of-exact
+
+-- ---- what is written
+
+abbrev pub public_key_content : {A B : Type 0} → (A → List ℕ) → (B → List ℕ) → ObjectIdentifier → Option A → B → List ℕ
+public_key_content canon canon_key o p k = el 0x30 (algorithm_content canon o p) ++ canon_key k
+
+-- another spelling of a public key: one of its algorithm or of its key
+abbrev pub other_public_key : {A B : Type 0} → (A → List ℕ) → (B → List ℕ) → (List ℕ → A → Type 0) → (List ℕ → B → Type 0) → List ℕ → ObjectIdentifier → Option A → B → Type 0
+other_public_key canon canon_key other other_key b o p k = (a : List ℕ) × (q : List ℕ)
+    × ((other_algorithm other a o p × (q ≡ canon_key k)) ⊎ ((a ≡ el 0x30 (algorithm_content canon o p)) × other_key q k) ⊎ (other_algorithm other a o p × other_key q k))
+    × (b ≡ el 0x30 (a ++ q))
+
+module _ {A V B W : Type 0} (seen : A → V) (P : List ℕ → V → Type 0) (canon : A → List ℕ) (seen_key : B → W) (K : List ℕ → W → Type 0) (canon_key : B → List ℕ) where
+  pub public_key_canonical : (writable : A → Type 0) → ((a : A) → writable a → P (canon a) (seen a)) → (o : ObjectIdentifier) (p : Option A) (k : B) → writable_option writable p → K (canon_key k) (seen_key k)
+      → PublicKeyText P K (el 0x30 (public_key_content canon canon_key o p k)) (public_key (algorithm o (seen_option seen p)) (seen_key k))
+  public_key_canonical writable again o p k h key =
+      (public_key_content canon canon_key o p k, (el 0x30 (algorithm_content canon o p), canon_key k, algorithm_canonical seen P canon writable again o p h, key, refl), refl)
+
+  pub public_key_spelled : (other : List ℕ → A → Type 0) → ((b : List ℕ) (a : A) → P b (seen a) → (b ≡ canon a) ⊎ other b a)
+      → (other_key : List ℕ → B → Type 0) → ((b : List ℕ) (k : B) → K b (seen_key k) → (b ≡ canon_key k) ⊎ other_key b k)
+      → (b : List ℕ) (o : ObjectIdentifier) (p : Option A) (k : B) → PublicKeyText P K b (public_key (algorithm o (seen_option seen p)) (seen_key k))
+      → (b ≡ el 0x30 (public_key_content canon canon_key o p k)) ⊎ other_public_key canon canon_key other other_key b o p k
+  public_key_spelled other spelled other_key spelled_key b o p k (w, (a, q, r, s, is), e) =
+      let here : b ≡ el 0x30 (a ++ q) = e ∙ ap (λ (l : List ℕ). el 0x30 l) is in
+      elim (algorithm_spelled seen P canon other spelled a o p r) [
+        | inl same ↦ elim (spelled_key q k s) [
+          | inl alike ↦ inl (here ∙ ap (λ (l : List ℕ). el 0x30 (l ++ q)) same ∙ ap (λ (l : List ℕ). el 0x30 (el 0x30 (algorithm_content canon o p) ++ l)) alike)
+          | inr x ↦ inr (a, q, inr (inl (same, x)), here)
+        ]
+        | inr y ↦ elim (spelled_key q k s) [
+          | inl alike ↦ inr (a, q, inl (y, alike), here)
+          | inr x ↦ inr (a, q, inr (inr (y, x)), here)
+        ]
+      ]

@@ -1,0 +1,59 @@
+//! Key types that public keys are stored from.
+ghost use Rattle.std.specs.Prelude.{◌≡◌, ◌⊎◌, List, ℕ, IfOk, IfErr};
+ghost use Rattle.asn1_core.specs.declared.error.Error.TheVariants as below;
+ghost use Rattle.der_core.specs.BitString.{seen_bits};
+ghost use Rattle.spki.specs.declared.error.Error.{Error};
+ghost use Rattle.spki.specs.declared.error.Error.TheVariants.{Asn1, Memory};
+ghost use Rattle.spki.specs.Error.{IsNone};
+ghost use Rattle.spki.specs.Seen.{owned_any, seen_public_key, IsPublicKey};
+
+use crate::error::{Error, Result};
+use crate::subject_public_key_info::SubjectPublicKeyInfoOwned;
+use der_core::Document;
+use std::alloc::Global;
+use std::rt::Files;
+
+/// A key type that a public key can be stored from.
+///
+/// `text` says which documents a key may be stored as, and `refuses` which refusals it may meet.
+pub trait EncodePublicKey {
+    ghost text: { Self → List ℕ → Type 0 };
+
+    ghost refuses: { Self → Error → Type 0 };
+
+    /// The key as a SubjectPublicKeyInfo in DER. The refusals are the key type's own.
+    fn to_public_key_der(&self, alloc: Global) -> Result<Document>
+        ensures ok { IfOk result (λ d. text self.now d.octets) }
+        ensures err { IfErr result (λ e. refuses self.now e) };
+
+    /// Writes the key into this file, as a SubjectPublicKeyInfo in DER. Refusals as in `to_public_key_der`, and `Asn1(File)` where a
+    /// call on the file failed.
+    fn write_public_key_der_file<R: Files>(&self, rt: &R, alloc: Global, path: &str) -> Result<()>
+        ensures err { IfErr result (λ e. refuses self.now e ⊎ (e ≡ Asn1 below.File)) }
+    {
+        match self.to_public_key_der(alloc) {
+            Ok(document) => match document.write_der_file(rt, path) {
+                Ok(()) => Ok(()),
+                Err(e) => Err(Error::from(e)),
+            },
+            Err(e) => Err(e),
+        }
+    }
+}
+
+impl SubjectPublicKeyInfoOwned {
+    /// The public key that a key is stored as. Refusals are those of its `to_public_key_der`; `Asn1(Malformed)` exactly where it
+    /// is then no SubjectPublicKeyInfo; and `Memory`.
+    pub fn from_key<T: EncodePublicKey>(
+        alloc: Global,
+        source: &T,
+    ) -> Result<SubjectPublicKeyInfoOwned>
+        ensures ok { IfOk result (λ k. (b : List ℕ) × T.text source.now b × IsPublicKey b (seen_public_key owned_any (λ s. seen_bits s.unused_bits s.octets) k)) }
+        ensures err { IfErr result (λ e. T.refuses source.now e ⊎ (e ≡ Memory) ⊎ ((b : List ℕ) × T.text source.now b × (e ≡ Asn1 below.Malformed) × IsNone IsPublicKey b)) }
+    {
+        match source.to_public_key_der(alloc) {
+            Ok(document) => SubjectPublicKeyInfoOwned::from_der(alloc, document.as_bytes()),
+            Err(e) => Err(e),
+        }
+    }
+}

@@ -1,0 +1,39 @@
+//! Public keys as X.509 has them (RFC 5280 section 4.1): algorithm identifiers, SubjectPublicKeyInfo, and the traits of key types.
+#![tactic(auto)]
+
+mod algorithm;
+mod algorithm_forms;
+mod algorithm_oids;
+mod as_algorithm_identifier_ref;
+mod associated_algorithm;
+mod decode_public_key;
+mod digest_writer;
+mod encode_public_key;
+mod error;
+mod fingerprint;
+mod order;
+mod public_key_forms;
+mod subject_public_key_info;
+
+pub use algorithm::{
+    AlgorithmIdentifier, AlgorithmIdentifierOwned, AlgorithmIdentifierRef,
+    AlgorithmIdentifierWithOid,
+};
+pub use as_algorithm_identifier_ref::AsAlgorithmIdentifierRef;
+pub use asn1_core::ObjectIdentifier;
+pub use associated_algorithm::{
+    AssociatedAlgorithmIdentifier, DynAssociatedAlgorithmIdentifier,
+    DynSignatureAlgorithmIdentifier, SignatureAlgorithmIdentifier, SignatureBitStringEncoding,
+};
+pub use decode_public_key::DecodePublicKey;
+pub use der_core::Document;
+pub use digest_writer::DigestWriter;
+pub use encode_public_key::EncodePublicKey;
+pub use error::{Error, Result};
+pub use fingerprint::FingerprintBytes;
+pub use subject_public_key_info::{
+    SubjectPublicKeyInfo, SubjectPublicKeyInfoOwned, SubjectPublicKeyInfoRef,
+};
+
+#[cfg(test)]
+mod tests;
