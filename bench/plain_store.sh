@@ -15,10 +15,20 @@ openssl_starts() {
 make_store plain 16000000 large
 make_store smallest 1 smallest
 
-row "one plain certificate, store of 16,000,000 octets" seconds MiB
-measured "  this program, hexadecimal on its input" ours large
 if have_openssl; then
-    measured "  openssl pkcs12 -nokeys" openssls large
+    "$home/bench/compare.py" "$runs" "$work/large.hex" "$program" transfer p unused 1 100000000 -- \
+        /dev/null openssl pkcs12 -in "$work/large" -nokeys -passin pass:p >"$work/both"
+    {
+        read -r wall cpu memory
+        read -r other_wall other_cpu other_memory
+    } <"$work/both"
+    printf '%-58s %10s %10s %10s\n' "one plain certificate, store of 16,000,000 octets" seconds processor MiB
+    printf '%-58s %10s %10s %10s\n' "  this program, hexadecimal on its input" "$wall" "$cpu" "$memory"
+    printf '%-58s %10s %10s %10s\n' "  openssl pkcs12 -nokeys" "$other_wall" "$other_cpu" "$other_memory"
+    awk "BEGIN { printf \"%-58s %10.2f %10.2f\\n\", \"  ratio\", $wall / $other_wall, $cpu / $other_cpu }"
+else
+    row "one plain certificate, store of 16,000,000 octets" seconds MiB
+    measured "  this program, hexadecimal on its input" ours large
 fi
 measured "  basenc and tr, which ./transfer runs before this program" to_hexadecimal
 

@@ -13,7 +13,8 @@ use Rattle.transfer.specs.Words.{Command, IsCommand}
 use Rattle.transfer.specs.Input.{IsWhole, input_limit}
 use Rattle.transfer.specs.InputText.{IsInput, IsNoInput}
 use Rattle.transfer.specs.TextCause.{MalformedOnly, kind_unspelled}
-use Rattle.transfer.specs.DueText.{joined}
+use Rattle.transfer.specs.DueText.{out}
+use Rattle.transfer.specs.declared.transferred.Transferred.{Transferred}
 use Rattle.transfer.specs.Opening.{FirstCause}
 use Rattle.transfer.specs.Status.{Kind, done, usage, read_fault, write_fault, too_long, malformed, memory, refused, error_text, kind_of, status_of}
 use Rattle.transfer.specs.Answers.{Call, Due, DueBy, IsExact, IsGiven, Makes, Refuses, RefusesFor, decided_status, decided_text, status_for}
@@ -54,9 +55,9 @@ due_by : (words : List (List ℕ)) (call : Call) (k : Kind) (text : List ℕ) �
 due_by words call done text r = absurd r.2
 due_by words call k text r = (r, refl)
 
-pub decided : (words : List (List ℕ)) (call : Call) (d : Result (List (List ℕ)) Status) → IfOk d (λ lines. Makes words call (joined lines)) → IfErr d (λ s. Refuses words call (kind_of s))
+pub decided : (words : List (List ℕ)) (call : Call) (d : Result Transferred Status) → IfOk d (λ t. Makes words call (out t.certificates t.documents)) → IfErr d (λ s. Refuses words call (kind_of s))
     → Due words call (decided_status d) (decided_text d)
-decided words call (Ok lines) made r = made
+decided words call (Ok t) made r = made
 decided words call (Err s) made r = due_by words call (kind_of s) (error_text s) r
 
 pub due_as : (words : List (List ℕ)) (call : Call) (s t : Status) (text : List ℕ) → s ≡ t → Due words call t text → Due words call s text

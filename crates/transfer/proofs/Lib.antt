@@ -1,4 +1,5 @@
 mod Pieces
+mod Encoded
 mod Decimal
 mod FiveWords
 mod Written

@@ -1,11 +1,12 @@
 -- What writes in a row leave.
 use Rattle.std.proofs.Common.{◌≡◌, ℕ, ◌+◌, ◌-◌, ◌<◌, List, [], ◌∷◌, ◌++◌, length, get_or, take, drop, refl, sym, ap, ◌∙◌, arith, subst}
-use Rattle.std.specs.Prelude.{Option, Some, None, Result, Ok, Err, OnErr}
+use Rattle.std.specs.Prelude.{Option, Some, None, Result, Ok, Err, OnOk, OnErr}
 use Rattle.std.specs.Io.KnownBytes.{Appends, Keeps}
 use Rattle.std.proofs.Math.Seq.{take-add}
-use Rattle.std.proofs.lemmas.List.{take_rest, take-append-drop, length-drop, append_assoc, drop_more}
+use Rattle.std.proofs.lemmas.List.{take_rest, take-append-drop, length-drop, append_assoc, append-nil, drop_more}
 use Rattle.std.proofs.lemmas.Grind.{flat_map-append}
-use Rattle.transfer.specs.DueText.{AppendsPart, joined}
+use Rattle.std.specs.List.{flat_map}
+use Rattle.transfer.specs.DueText.{AppendsPart}
 
 pub on_err : {T E P : Type 0} (r : Result T E) → P → OnErr r P
 on_err (Ok x) p = tt
@@ -40,26 +41,43 @@ written_part a b c piece done lt p q = (
   appends_kept a b c (take done piece) p q,
 )
 
--- A part of one line of several.
-around : (lines : List (List ℕ)) (i : ℕ) (line : List ℕ) → i < length lines → line ≡ get_or lines i line
-    → joined lines ≡ joined (take i lines) ++ (line ++ joined (drop (i + 1) lines))
-around lines i line lt is =
-    ap joined (sym (take-append-drop i lines)) ∙ flat_map-append (λ l. l) (take i lines) (drop i lines)
-    ∙ ap (λ z. joined (take i lines) ++ joined z) (drop_more lines i line lt ∙ ap (λ z. z ∷ drop (i + 1) lines) (sym is))
+pub appends_none : (a : Option (List ℕ)) → Appends a a []
+appends_none None = tt
+appends_none (Some a) = sym (append-nil a)
 
 first_empty : (xs ys : List ℕ) → xs ++ ys ≡ [] → xs ≡ []
 first_empty [] ys e = refl
 first_empty (x ∷ xs) ys e = cc
 
-pub line_part : (a b c : Option (List ℕ)) (lines : List (List ℕ)) (i : ℕ) (line piece : List ℕ) → i < length lines → line ≡ get_or lines i line → piece ≡ line
-    → Appends a b (joined (take i lines)) → AppendsPart b c piece → AppendsPart a c (joined lines)
-line_part a b c lines i line piece lt is same p (part, rest, whole, some, q) =
-    let front = joined (take i lines) in
-    let behind = joined (drop (i + 1) lines) in (
-      front ++ part,
-      rest ++ behind,
-      around lines i line lt is ∙ ap (λ z. front ++ (z ++ behind)) (sym same ∙ whole) ∙ ap (λ z. front ++ z) (append_assoc part rest behind)
-          ∙ sym (append_assoc front part (rest ++ behind)),
-      λ none. some (first_empty rest behind none),
-      appends_more a b c front part p q,
-    )
+-- A part of a piece, behind what was written and before what is to come.
+pub part_within : (a b c : Option (List ℕ)) (front piece behind whole : List ℕ) → Appends a b front → AppendsPart b c piece → whole ≡ (front ++ piece) ++ behind → AppendsPart a c whole
+part_within a b c front piece behind whole p (part, rest, e, some, q) is = (
+  front ++ part,
+  rest ++ behind,
+  is ∙ ap (λ z. z ++ behind) (ap (λ z. front ++ z) e ∙ sym (append_assoc front part rest)) ∙ append_assoc (front ++ part) rest behind,
+  λ none. some (first_empty rest behind none),
+  appends_more a b c front part p q,
+)
+
+-- The last write of a text.
+pub last_whole : {T E : Type 0} (r : Result T E) (a b c : Option (List ℕ)) (front piece whole : List ℕ) → Appends a b front → whole ≡ front ++ piece → OnOk r (Appends b c piece) → OnOk r (Appends a c whole)
+last_whole (Ok x) a b c front piece whole p is q = rw is (appends_more a b c front piece p q)
+last_whole (Err e) a b c front piece whole p is q = tt
+
+pub last_part : {T E : Type 0} (r : Result T E) (a b c : Option (List ℕ)) (front piece whole : List ℕ) → Appends a b front → whole ≡ front ++ piece → OnErr r (AppendsPart b c piece) → OnErr r (AppendsPart a c whole)
+last_part (Ok x) a b c front piece whole p is q = tt
+last_part (Err e) a b c front piece whole p is q = part_within a b c front piece [] whole p q (is ∙ sym (append-nil (front ++ piece)))
+
+around : (f : List ℕ → List ℕ) (items : List (List ℕ)) (i : ℕ) (item : List ℕ) → i < length items → item ≡ get_or items i item
+    → flat_map f items ≡ (flat_map f (take i items) ++ f item) ++ flat_map f (drop (i + 1) items)
+around f items i item lt is =
+    ap (flat_map f) (sym (take-append-drop i items)) ∙ flat_map-append f (take i items) (drop i items)
+    ∙ ap (λ z. flat_map f (take i items) ++ flat_map f z) (drop_more items i item lt ∙ ap (λ z. z ∷ drop (i + 1) items) (sym is))
+    ∙ sym (append_assoc (flat_map f (take i items)) (f item) (flat_map f (drop (i + 1) items)))
+
+-- A part of one line of several.
+pub item_part : (a b c : Option (List ℕ)) (f : List ℕ → List ℕ) (items : List (List ℕ)) (i : ℕ) (item said : List ℕ) → i < length items → item ≡ get_or items i item → said ≡ item
+    → Appends a b (flat_map f (take i items)) → AppendsPart b c (f said) → AppendsPart a c (flat_map f items)
+item_part a b c f items i item said lt is same p q =
+    let P : List ℕ → Type 0 = λ x. AppendsPart b c (f x) in
+    part_within a b c (flat_map f (take i items)) (f item) (flat_map f (drop (i + 1) items)) (flat_map f items) p (subst P same q) (around f items i item lt is)

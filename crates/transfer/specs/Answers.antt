@@ -5,11 +5,12 @@ use Rattle.transfer.specs.declared.error.TransferError.{TransferError}
 use Rattle.transfer.specs.declared.error.TransferError.TheVariants as refusals
 use Rattle.transfer.specs.declared.status.Status.{Status}
 use Rattle.transfer.specs.declared.status.Status.TheVariants.{Done, InputTooLong, InputMalformed, Memory}
+use Rattle.transfer.specs.declared.transferred.Transferred.{Transferred}
 use Rattle.transfer.specs.Outside.{Rose}
 use Rattle.transfer.specs.Words.{Command, IsCommand, IsNoCommand}
 use Rattle.transfer.specs.Input.{input_limit}
 use Rattle.transfer.specs.InputText.{IsInput, IsNoInput}
-use Rattle.transfer.specs.DueText.{joined, out}
+use Rattle.transfer.specs.DueText.{out}
 use Rattle.transfer.specs.Opening.{FirstCause}
 use Rattle.transfer.specs.Status.{Kind, done, usage, read_fault, write_fault, too_long, malformed, memory, refused, error_text, kind_of, status_of}
 use Rattle.transfer.specs.Transferred.{IsRefused, Transfers}
@@ -77,12 +78,12 @@ abbrev pub Due : List (List ℕ) → Call → Status → List ℕ → Type 0
 Due words call s text = DueBy words call (kind_of s) (error_text s) text
 
 -- the status and the text that a decision calls for
-abbrev pub decided_status : Result (List (List ℕ)) Status → Status
-decided_status (Ok lines) = Done
+abbrev pub decided_status : Result Transferred Status → Status
+decided_status (Ok t) = Done
 decided_status (Err s) = s
 
-abbrev pub decided_text : Result (List (List ℕ)) Status → List ℕ
-decided_text (Ok lines) = joined lines
+abbrev pub decided_text : Result Transferred Status → List ℕ
+decided_text (Ok t) = out t.certificates t.documents
 decided_text (Err s) = error_text s
 
 -- ---- Where each answer has to come

@@ -2,20 +2,18 @@
 ghost use Rattle.std.specs.Prelude.{◌≡◌, ◌+◌, ◌≤◌, ◌<◌, ◌^◌, List, ℕ, length, map, Err, IfOk, IfErr};
 ghost use Rattle.std.specs.String.{string_bytes};
 ghost use Rattle.transfer.specs.Answers.{Makes, Refuses, RefusesFor, TransfersInput, call_of};
-ghost use Rattle.transfer.specs.DueText.{joined};
+ghost use Rattle.transfer.specs.DueText.{out};
 ghost use Rattle.transfer.specs.Input.{kind_unread};
 ghost use Rattle.transfer.specs.Status.{kind_of};
 ghost use Rattle.transfer.specs.TextCause.{kind_unspelled};
 ghost use Rattle.transfer.specs.Words.{Command, IsCommand, IsNoCommand};
 
-use crate::due_text::due_lines;
 use crate::input::{InputError, read_input};
 use crate::input_text::{TextError, read_text};
 use crate::outside::Source;
 use crate::status::Status;
-use crate::transferred::transfer;
+use crate::transferred::{Transferred, transfer};
 use crate::words::command_of;
-use asn1_core::{Items, Octets};
 use std::alloc::Global;
 use std::sync::ledger::Ledger;
 use steps::Steps;
@@ -41,17 +39,17 @@ fn text_status(error: TextError) -> Status
     }
 }
 
-/// The lines that are due for the store that the input spells, or the status that is answered in their place.
+/// What the store that the input spells is transferred to, or the status that is answered in its place.
 fn decide_input<I: Source, L: Ledger>(
     alloc: Global,
     password: &str,
     limit: u64,
     input: &mut I,
     steps: &mut Steps<L>,
-) -> Result<Items<Octets>, Status>
+) -> Result<Transferred, Status>
     requires { length password.now < 2 ^ 57 }
     ensures made { let call = call_of (I.left input.old) (I.left input.new) (I.faults input.old) (I.faults input.new) steps.old steps.new in
-        IfOk result (λ lines. TransfersInput call password.now limit (joined lines)) }
+        IfOk result (λ t. TransfersInput call password.now limit (out t.certificates t.documents)) }
     ensures refused { let call = call_of (I.left input.old) (I.left input.new) (I.faults input.old) (I.faults input.new) steps.old steps.new in
         IfErr result (λ s. RefusesFor call password.now limit (kind_of s)) }
     ensures at_most { (steps.old ≤ steps.new) × (steps.new ≤ steps.old + limit) }
@@ -64,29 +62,21 @@ fn decide_input<I: Source, L: Ledger>(
         Ok(store) => store,
         Err(error) => return Err(text_status(error)),
     };
-    let transferred = match transfer(alloc, store.as_slice(), password, limit, steps) {
-        Ok(transferred) => transferred,
-        Err(error) => return Err(Status::from(error)),
-    };
-    match due_lines(
-        alloc,
-        transferred.certificates.as_slice(),
-        transferred.documents.as_slice(),
-    ) {
-        Ok(lines) => Ok(lines),
-        Err(_) => Err(Status::Memory),
+    match transfer(alloc, store.as_slice(), password, limit, steps) {
+        Ok(transferred) => Ok(transferred),
+        Err(error) => Err(Status::from(error)),
     }
 }
 
-/// The lines that are due for what the words ask for, or the status that is answered in their place.
+/// What is due for what the words ask for, or the status that is answered in its place.
 pub(crate) fn decide<I: Source, L: Ledger>(
     alloc: Global,
     words: &[String],
     input: &mut I,
     steps: &mut Steps<L>,
-) -> Result<Items<Octets>, Status>
+) -> Result<Transferred, Status>
     ensures made { let call = call_of (I.left input.old) (I.left input.new) (I.faults input.old) (I.faults input.new) steps.old steps.new in
-        IfOk result (λ lines. Makes (map string_bytes words.now) call (joined lines)) }
+        IfOk result (λ t. Makes (map string_bytes words.now) call (out t.certificates t.documents)) }
     ensures refused { let call = call_of (I.left input.old) (I.left input.new) (I.faults input.old) (I.faults input.new) steps.old steps.new in
         IfErr result (λ s. Refuses (map string_bytes words.now) call (kind_of s)) }
     ensures usage { IsNoCommand (map string_bytes words.now) → result ≡ Err Status.Usage }

@@ -38,7 +38,7 @@ pub(crate) fn read_input<I: Source>(alloc: Global, input: &mut I) -> Result<Vec<
     ensures too_long { IsErrOf result InputError.InputTooLong → IfSome (I.left input.old) (λ x. input_limit < length x) }
 {
     let mut octets = Vec::new(alloc);
-    let mut buffer = [0u8; 4096];
+    let mut buffer = [0u8; 65536];
     loop {
         let count = match input.read(&mut buffer) {
             Ok(count) => count,

@@ -2,9 +2,10 @@
 ghost use Rattle.std.specs.Prelude.{◌≡◌, List, ℕ, length, IfOk, IfErr};
 ghost use Rattle.transfer.specs.InputText.{IsHex, IsInput, IsNoInput, Ends};
 ghost use Rattle.transfer.specs.TextCause.{MalformedOnly};
+ghost use Rattle.transfer.specs.declared.input_text.TextError.TheVariants.{Memory};
 
-use hex::FromHexError;
-use std::alloc::Global;
+use crate::digits::{are_digits, decode_into};
+use std::alloc::{AllocError, Global};
 
 /// Why the input spells no store.
 #[derive(Clone, Copy, Debug, PartialEq, Eq)]
@@ -15,16 +16,25 @@ pub(crate) enum TextError {
     Memory,
 }
 
+impl From<AllocError> for TextError {
+    ghost from_gives = { λ _ e. e ≡ Memory };
+
+    fn from(_refused: AllocError) -> TextError {
+        TextError::Memory
+    }
+}
+
 /// The octets that hexadecimal digits of either case spell.
 fn octets_of(alloc: Global, digits: &[u8]) -> Result<Vec<u8>, TextError>
     ensures found { IfOk result (λ octets. IsHex digits.now octets.items) }
     ensures cause { IfErr result (λ e. MalformedOnly e ((octets : List ℕ) → IsHex digits.now octets → ⊥)) }
 {
-    match hex::decode(alloc, digits) {
-        Ok(octets) => Ok(octets),
-        Err(FromHexError::OutOfMemory) => Err(TextError::Memory),
-        Err(_) => Err(TextError::Malformed),
+    if digits.len() % 2 != 0 || !are_digits(digits) {
+        return Err(TextError::Malformed);
     }
+    let mut octets = vec![in alloc; 0u8; digits.len() / 2]?;
+    decode_into(digits, octets.as_mut_slice());
+    Ok(octets)
 }
 
 /// The line without its line feed, where it has one.

@@ -6,6 +6,7 @@
 
 mod certificates;
 mod decision;
+mod digits;
 mod due_text;
 mod error;
 mod input;

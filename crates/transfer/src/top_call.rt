@@ -17,19 +17,23 @@ use crate::due_text::{write_lines, write_piece};
 use crate::error::TransferError;
 use crate::outside::{Sink, Source};
 use crate::status::Status;
-use asn1_core::{Items, Octets};
+use crate::transferred::Transferred;
 use std::alloc::Global;
 use std::sync::ledger::Ledger;
 use steps::Steps;
 
 /// Writes what is due for a decision, and answers its status, or that a write failed.
-fn write_decision<O: Sink>(output: &mut O, decision: Result<Items<Octets>, Status>) -> Status
+fn write_decision<O: Sink>(output: &mut O, decision: Result<Transferred, Status>) -> Status
     requires { decided_status decision ≢ Status.WriteFault }
     ensures whole { result ≢ Status.WriteFault → (result ≡ decided_status decision) × Appends (O.written output.old) (O.written output.new) (decided_text decision) }
     ensures part { result ≡ Status.WriteFault → Rose (O.faults output.old) (O.faults output.new) × AppendsPart (O.written output.old) (O.written output.new) (decided_text decision) }
 {
     match decision {
-        Ok(lines) => match write_lines(output, lines.as_slice()) {
+        Ok(transferred) => match write_lines(
+            output,
+            transferred.certificates.as_slice(),
+            transferred.documents.as_slice(),
+        ) {
             Ok(()) => Status::Done,
             Err(_) => Status::WriteFault,
         },

@@ -1,7 +1,11 @@
-use Rattle.std.proofs.Common.{arith}
-use Rattle.transfer.proofs.Written.{on_err, line_part}
+use Rattle.std.proofs.Common.{[], refl}
+use Rattle.transfer.proofs.Written.{appends_none, last_part, on_err, part_within}
 use Rattle.transfer.proofs.due_text.write_lines.Goals as goal
 
-pub returns-in_err-write_piece-clause-part : goal.returns-in_err-write_piece-clause-part
-returns-in_err-write_piece-clause-part g c =
-    on_err _ (line_part _ _ _ c.args.lines.now c.loop-line.line-index c.line-item.result _ (omega arith) c.line-item.is c.as_slice.ensures c.loop-line.invariant.taken c.in_err-write_piece.ensures.part)
+pub returns-in_err-write_labelled-clause-part : goal.returns-in_err-write_labelled-clause-part
+returns-in_err-write_labelled-clause-part g c =
+    on_err _ (part_within _ _ _ [] _ _ _ (appends_none _) c.in_err-write_labelled.ensures.part refl)
+
+pub returns-clause-part : goal.returns-clause-part
+returns-clause-part g c =
+    last_part c.write_labelled-2.result _ _ _ _ _ _ c.in_ok-write_labelled.ensures.whole refl c.write_labelled-2.ensures.part

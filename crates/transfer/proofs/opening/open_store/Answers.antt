@@ -1,4 +1,4 @@
-use Rattle.std.proofs.Common.{ℕ, ◌≡◌, ◌+◌, arith, sym}
+use Rattle.std.proofs.Common.{arith, sym}
 use Rattle.transfer.specs.declared.opening.Opened.{Opened}
 use Rattle.transfer.specs.Opening.{Comes, MacTable, opened, refused}
 use Rattle.transfer.proofs.Faults.{malformed_only}
