@@ -12,3 +12,4 @@ pub mod KeyLaws
 pub mod Associated
 pub mod SameLaws
 pub mod ConstantLaws
+pub mod Spelling

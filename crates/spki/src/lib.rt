@@ -11,6 +11,7 @@ mod digest_writer;
 mod encode_public_key;
 mod error;
 mod fingerprint;
+mod laws;
 mod order;
 mod public_key_forms;
 mod subject_public_key_info;
@@ -31,6 +32,10 @@ pub use digest_writer::DigestWriter;
 pub use encode_public_key::EncodePublicKey;
 pub use error::{Error, Result};
 pub use fingerprint::FingerprintBytes;
+pub use laws::{
+    algorithms_have_one_text, public_keys_have_one_text, texts_have_one_algorithm,
+    texts_have_one_public_key,
+};
 pub use subject_public_key_info::{
     SubjectPublicKeyInfo, SubjectPublicKeyInfoOwned, SubjectPublicKeyInfoRef,
 };

@@ -12,7 +12,7 @@ use crate::{
     SubjectPublicKeyInfoRef,
 };
 use asn1_core::ObjectIdentifier;
-use der_core::{AnyRef, Encode, Null};
+use der_core::{AnyRef, Decode, Encode, Null, canon_is_read, texts_are_read, texts_are_spelled};
 use openssl_keys::KEYS;
 use std::alloc::Global;
 use std::collections::HashSet;
@@ -193,4 +193,17 @@ fn algorithms_stand_in_a_set(rt: HostRuntime) {
         assert!(rt; added == is_new);
     }
     assert!(rt; algorithms.len() == 2);
+}
+
+#[test]
+fn the_laws_hold_of_these_types(rt: HostRuntime) {
+    let alloc = rt.alloc();
+    let text = octets(&rt, alloc, P_256_ALGORITHM);
+    let curve = AlgorithmIdentifierWithOid::from_der(text.as_slice()).expect(&rt, "an algorithm");
+    assert!(rt; curve.parameters == Some(oid(&rt, "1.2.840.10045.3.1.7")));
+    texts_are_read::<&[u8], AlgorithmIdentifierWithOid>(text.as_slice());
+    let text = octets(&rt, alloc, EC);
+    let key = SubjectPublicKeyInfoRef::try_from(text.as_slice()).expect(&rt, "a public key");
+    texts_are_spelled::<&[u8], SubjectPublicKeyInfoRef<'_>>(text.as_slice(), &key);
+    canon_is_read::<&[u8], SubjectPublicKeyInfoRef<'_>>(&key);
 }
