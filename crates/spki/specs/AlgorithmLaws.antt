@@ -10,10 +10,10 @@ use Rattle.asn1_core.specs.declared.identifier.ObjectIdentifier.{ObjectIdentifie
 use Rattle.asn1_core.specs.ExactLaws.{on-exact, ended-exact, same-exact}
 use Rattle.asn1_core.specs.ElementLaws.{within-exact, oid_of-exact}
 use Rattle.asn1_core.specs.OptionLaws.{OnOption, on_option-exact}
-use Rattle.der_core.specs.Optional.{canon_option, writable_option, other_option}
+use Rattle.der_core.specs.Optional.{canon_option, writable_option}
 use Rattle.der_core.specs.OptionalLaws.{option_canonical, option_spelled}
 use Rattle.spki.specs.declared.algorithm.AlgorithmIdentifier.{AlgorithmIdentifier}
-use Rattle.spki.specs.Algorithm.{algorithm, algorithm_of, AlgorithmOf, algorithm_at, AlgorithmText}
+use Rattle.spki.specs.Algorithm.{algorithm, algorithm_of, AlgorithmOf, algorithm_at, AlgorithmText, algorithm_content, other_algorithm}
 
 module _ {V : Type 0} (can : ℕ → Bool) (P : List ℕ → V → Type 0) (p : Front V) (exact : Exact P p) (whole : Whole can P) where
   abbrev Parts : List ℕ → AlgorithmIdentifier V → Type 0
@@ -48,13 +48,6 @@ module _ {V : Type 0} (can : ℕ → Bool) (P : List ℕ → V → Type 0) (p : 
   algorithm-exact = within-exact 0x30 (AlgorithmOf P) (algorithm_of can p) refl algorithm_of-exact
 
 -- ---- what is written
-
-abbrev pub algorithm_content : {A : Type 0} → (A → List ℕ) → ObjectIdentifier → Option A → List ℕ
-algorithm_content canon o p = oid (oid_octets o) ++ canon_option canon p
-
--- another spelling of an algorithm: one of its parameters
-abbrev pub other_algorithm : {A : Type 0} → (List ℕ → A → Type 0) → List ℕ → ObjectIdentifier → Option A → Type 0
-other_algorithm other b o p = (q : List ℕ) × other_option other q p × (b ≡ el 0x30 (oid (oid_octets o) ++ q))
 
 module _ {A V : Type 0} (seen : A → V) (P : List ℕ → V → Type 0) (canon : A → List ℕ) where
   pub algorithm_canonical : (writable : A → Type 0) → ((a : A) → writable a → P (canon a) (seen a)) → (o : ObjectIdentifier) (p : Option A) → writable_option writable p

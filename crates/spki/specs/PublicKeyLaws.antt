@@ -10,9 +10,9 @@ use Rattle.asn1_core.specs.ExactLaws.{on-exact, ended-exact, same-exact}
 use Rattle.asn1_core.specs.ElementLaws.{within-exact}
 use Rattle.der_core.specs.Optional.{writable_option}
 use Rattle.spki.specs.declared.subject_public_key_info.SubjectPublicKeyInfo.{SubjectPublicKeyInfo}
-use Rattle.spki.specs.Algorithm.{algorithm, algorithm_at, AlgorithmText}
-use Rattle.spki.specs.AlgorithmLaws.{algorithm-exact, algorithm_content, algorithm_canonical, algorithm_spelled, other_algorithm}
-use Rattle.spki.specs.SubjectPublicKeyInfo.{public_key, public_key_of, public_key_at, PublicKeyOf, PublicKeyText}
+use Rattle.spki.specs.Algorithm.{algorithm, algorithm_at, AlgorithmText, algorithm_content}
+use Rattle.spki.specs.AlgorithmLaws.{algorithm-exact, algorithm_canonical, algorithm_spelled}
+use Rattle.spki.specs.SubjectPublicKeyInfo.{public_key, public_key_of, public_key_at, PublicKeyOf, PublicKeyText, public_key_content, other_public_key}
 
 module _ {V W : Type 0} (can : ℕ → Bool) (P : List ℕ → V → Type 0) (p : Front V) (exact : Exact P p) (whole : Whole can P) (K : List ℕ → W → Type 0) (q : Front W) (exact_key : Exact K q) where
   abbrev Parts : List ℕ → SubjectPublicKeyInfo V W → Type 0
@@ -34,15 +34,6 @@ module _ {V W : Type 0} (can : ℕ → Bool) (P : List ℕ → V → Type 0) (p 
   public_key-exact = within-exact 0x30 (PublicKeyOf P K) (public_key_of can p q) refl public_key_of-exact
 
 -- ---- what is written
-
-abbrev pub public_key_content : {A B : Type 0} → (A → List ℕ) → (B → List ℕ) → ObjectIdentifier → Option A → B → List ℕ
-public_key_content canon canon_key o p k = el 0x30 (algorithm_content canon o p) ++ canon_key k
-
--- another spelling of a public key: one of its algorithm or of its key
-abbrev pub other_public_key : {A B : Type 0} → (A → List ℕ) → (B → List ℕ) → (List ℕ → A → Type 0) → (List ℕ → B → Type 0) → List ℕ → ObjectIdentifier → Option A → B → Type 0
-other_public_key canon canon_key other other_key b o p k = (a : List ℕ) × (q : List ℕ)
-    × ((other_algorithm other a o p × (q ≡ canon_key k)) ⊎ ((a ≡ el 0x30 (algorithm_content canon o p)) × other_key q k) ⊎ (other_algorithm other a o p × other_key q k))
-    × (b ≡ el 0x30 (a ++ q))
 
 module _ {A V B W : Type 0} (seen : A → V) (P : List ℕ → V → Type 0) (canon : A → List ℕ) (seen_key : B → W) (K : List ℕ → W → Type 0) (canon_key : B → List ℕ) where
   pub public_key_canonical : (writable : A → Type 0) → ((a : A) → writable a → P (canon a) (seen a)) → (o : ObjectIdentifier) (p : Option A) (k : B) → writable_option writable p → K (canon_key k) (seen_key k)

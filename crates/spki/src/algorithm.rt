@@ -3,9 +3,9 @@ ghost use Rattle.std.specs.Prelude.{refl};
 ghost use Rattle.asn1_core.specs.Texts.{seen_option};
 ghost use Rattle.der_core.specs.Optional.{canon_option, writable_option};
 ghost use Rattle.spki.specs.declared.algorithm.AlgorithmIdentifier.{AlgorithmIdentifier};
-ghost use Rattle.spki.specs.Algorithm.{algorithm, algorithm_of, AlgorithmOf};
+ghost use Rattle.spki.specs.Algorithm.{algorithm, algorithm_of, AlgorithmOf, algorithm_content, other_algorithm};
 ghost use Rattle.spki.specs.SameLaws.{algorithm_same};
-ghost use Rattle.spki.specs.AlgorithmLaws.{algorithm_of-exact, algorithm_content, algorithm_canonical, algorithm_spelled, other_algorithm};
+ghost use Rattle.spki.specs.AlgorithmLaws.{algorithm_of-exact, algorithm_canonical, algorithm_spelled};
 
 use asn1_core::{Error, Header, Length, ObjectIdentifier, Reader, SliceReader, Tag, Writer};
 use der_core::{

@@ -1,5 +1,5 @@
 //! Key types that public keys are stored from.
-ghost use Rattle.std.specs.Prelude.{◌≡◌, ◌⊎◌, List, ℕ, IfOk, IfErr};
+ghost use Rattle.std.specs.Prelude.{◌≡◌, ◌⊎◌, List, ℕ, IfOk, IfErr, OnOk};
 ghost use Rattle.asn1_core.specs.declared.error.Error.TheVariants as below;
 ghost use Rattle.der_core.specs.BitString.{seen_bits};
 ghost use Rattle.spki.specs.declared.error.Error.{Error};
@@ -29,6 +29,7 @@ pub trait EncodePublicKey {
     /// Writes the key into this file, as a SubjectPublicKeyInfo in DER. Refusals as in `to_public_key_der`, and `Asn1(File)` where a
     /// call on the file failed.
     fn write_public_key_der_file<R: Files>(&self, rt: &R, alloc: Global, path: &str) -> Result<()>
+        ensures ok { OnOk result ((b : List ℕ) × text self.now b) }
         ensures err { IfErr result (λ e. refuses self.now e ⊎ (e ≡ Asn1 below.File)) }
     {
         match self.to_public_key_der(alloc) {

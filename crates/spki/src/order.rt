@@ -2,7 +2,7 @@
 ghost use Rattle.std.specs.Ordering.{ordering_then};
 ghost use Rattle.std.specs.Prelude.{◌≡◌, refl};
 ghost use Rattle.der_core.specs.Order.{octet_cmp};
-ghost use Rattle.spki.specs.AlgorithmLaws.{algorithm_content};
+ghost use Rattle.spki.specs.Algorithm.{algorithm_content};
 
 use crate::algorithm::AlgorithmIdentifier;
 use crate::subject_public_key_info::SubjectPublicKeyInfo;

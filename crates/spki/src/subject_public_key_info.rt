@@ -1,9 +1,9 @@
 //! Public keys with their algorithms.
 ghost use Rattle.std.specs.Prelude.{refl};
 ghost use Rattle.spki.specs.declared.subject_public_key_info.SubjectPublicKeyInfo.{SubjectPublicKeyInfo};
-ghost use Rattle.spki.specs.SubjectPublicKeyInfo.{public_key, public_key_of, PublicKeyOf};
+ghost use Rattle.spki.specs.SubjectPublicKeyInfo.{public_key, public_key_of, PublicKeyOf, public_key_content, other_public_key};
 ghost use Rattle.spki.specs.SameLaws.{algorithm_same, public_key_same};
-ghost use Rattle.spki.specs.PublicKeyLaws.{public_key_of-exact, public_key_content, public_key_canonical, public_key_spelled, other_public_key};
+ghost use Rattle.spki.specs.PublicKeyLaws.{public_key_of-exact, public_key_canonical, public_key_spelled};
 
 use crate::algorithm::AlgorithmIdentifier;
 use asn1_core::{Error, Header, Length, Reader, SliceReader, Tag, Writer};
