@@ -1,37 +1,13 @@
 #!/bin/sh
 # Nanoseconds per octet of AES and Triple DES in CBC mode and of HMAC-SHA256, in memory; beside OpenSSL without its hardware paths.
 set -eu
-home=$(cd "$(dirname "$0")/.." && pwd)
-runs=${RUNS:-5}
-work=$(mktemp -d)
-trap 'rm -rf "$work"' EXIT
-program=$work/crates/cipher_speed/out/cipher_speed
-
-# Proves and builds the program in a folder of its own, over what the crates' out/ folders keep of earlier proofs.
-build() {
-    mkdir -p "$work/crates/cipher_speed/src"
-    cp "$home/bench/ciphers/main.rt.txt" "$work/crates/cipher_speed/src/main.rt"
-    for crate in asn1_core block_core mac_modes; do
-        cp -a "$home/crates/$crate" "$work/crates"
-        grep "^$crate:" "$home/crates.txt"
-    done >"$work/crates.txt"
-    echo "cipher_speed: block_core mac_modes" >>"$work/crates.txt"
-    (cd "$work/crates/cipher_speed" && rt run -- hmac-sha256 1) >"$work/build" 2>&1 || {
-        tail -n 20 "$work/build" >&2
-        echo "ciphers: the build failed" >&2
-        exit 1
-    }
-}
-
-# The user time in seconds of the program in the mode $1, with $2 passes over its 1,000,000 octets.
-user_time() {
-    ("$program" "$1" "$2" >/dev/null && times) | awk 'NR == 2 { split($1, part, /[ms]/); print part[1] * 60 + part[2] }'
-}
+# shellcheck source=bench/building.sh
+. "$(dirname "$0")/building.sh"
 
 # A number of passes that takes half a second or more in the mode $1.
 enough_passes() {
     passes=1
-    while awk "BEGIN { exit !($(user_time "$1" "$passes") < 0.5) }"; do
+    while awk "BEGIN { exit !($(user_time "$program" "$1" "$passes") < 0.5) }"; do
         passes=$((passes * 2))
     done
     echo "$passes"
@@ -47,10 +23,6 @@ line() {
     printf '%-24s %12s %12s %8s\n' "$@"
 }
 
-least() {
-    sort -n "$work/$1" | head -n 1
-}
-
 # A row for the label $1, our mode $2 and the further words of `openssl speed`. A single pass is taken off, so that starting falls
 # out. The runs alternate, so that other work on the machine meets both alike.
 row() {
@@ -63,8 +35,8 @@ row() {
     : >"$work/openssl"
     run=0
     while [ "$run" -lt "$runs" ]; do
-        user_time "$mode" "$((passes + 1))" >>"$work/many"
-        user_time "$mode" 1 >>"$work/one"
+        user_time "$program" "$mode" "$((passes + 1))" >>"$work/many"
+        user_time "$program" "$mode" 1 >>"$work/one"
         if command -v openssl >/dev/null; then
             openssls "$@" >>"$work/openssl"
         fi
@@ -79,7 +51,7 @@ row() {
     fi
 }
 
-build
+build ciphers "asn1_core block_core mac_modes" "block_core mac_modes" hmac-sha256 1
 line "nanoseconds per octet" "this program" OpenSSL ratio
 row "AES-128-CBC, encrypting" aes-128-encrypt -evp aes-128-cbc
 row "AES-128-CBC, decrypting" aes-128-decrypt -decrypt -evp aes-128-cbc
