@@ -36,7 +36,7 @@ pub use laws::{
 pub use null::Null;
 pub use octet_string::{OctetString, OctetStringOf, OctetStringRef};
 pub use order::{ContentOrd, DerOrd, ElementText, ValueOrd, pair_cmp};
-pub use pair::{pair_len, write_pair};
+pub use pair::{Pair, pair_len, write_pair};
 pub use secret_document::SecretDocument;
 pub use sequence::Sequence;
 pub use tagged::{FixedTag, Tagged};

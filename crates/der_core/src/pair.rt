@@ -32,3 +32,22 @@ pub fn write_pair<A: Encode, B: Encode, W: Writer>(
     first.encode(w)?;
     second.encode(w)
 }
+
+/// Two values as one that is written: the text of the second behind that of the first. So a container of more than two parts is
+/// written by `pair_len` and `write_pair` too.
+#[derive(Drop)]
+pub struct Pair<'p, A, B>(pub &'p A, pub &'p B);
+
+impl<'p, A: Encode, B: Encode> Encode for Pair<'p, A, B> {
+    ghost canon = { λ p. A.canon p.0.now ++ B.canon p.1.now };
+
+    ghost writable = { λ p. A.writable p.0.now × B.writable p.1.now };
+
+    fn encoded_len(&self) -> Result<Length, Error> {
+        pair_len(self.0, self.1)
+    }
+
+    fn encode<W: Writer>(&self, w: &mut W) -> Result<(), Error> {
+        write_pair(w, self.0, self.1)
+    }
+}

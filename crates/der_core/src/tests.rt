@@ -1,7 +1,7 @@
 //! Octets of OpenSSL (`openssl asn1parse -genstr`), and calls of each generic impl at a concrete type.
 use crate::{
     Any, AnyRef, BitString, BitStringRef, ContextSpecific, Decode, DerOrd, Document, Encode, Null,
-    OctetString, OctetStringRef, SecretDocument, TagMode, Tagged, ValueOrd, canon_is_read,
+    OctetString, OctetStringRef, Pair, SecretDocument, TagMode, Tagged, ValueOrd, canon_is_read,
     pair_cmp, pair_len, texts_are_read, texts_are_spelled, write_pair,
 };
 use asn1_core::{Error, ObjectIdentifier, Reader, SliceReader, SliceWriter, Tag};
@@ -165,6 +165,10 @@ fn texts_stand_one_behind_the_other(rt: HostRuntime) {
     assert!(rt; pair_len(&oid, &Some(Null)).expect(&rt, "a length").value == 7);
     assert!(rt; write_pair(&mut w, &oid, &Some(Null)).is_ok());
     assert!(rt; w.finish() == &[6, 3, 0x2b, 0x65, 0x70, 5, 0][..]);
+    let written = Pair(&Pair(&oid, &Null), &5u8)
+        .to_der(rt.alloc())
+        .expect(&rt, "memory");
+    assert!(rt; written.as_slice() == &[6, 3, 0x2b, 0x65, 0x70, 5, 0, 2, 1, 5][..]);
     let mut small = [0; 6];
     let mut w = SliceWriter::new(&mut small);
     assert!(rt; write_pair(&mut w, &oid, &Some(Null)) == Err(Error::NoRoom));

@@ -1,0 +1,4 @@
+pub mod Octets
+pub mod Openings
+pub mod Uniqueness
+pub mod Writings

@@ -1,0 +1,52 @@
+-- The key derivation function of PBES2 (RFC 8018 appendix A.4): an algorithm, PBKDF2 (appendix A.2).
+use Rattle.std.specs.Prelude.{if◌then◌else◌, ◌≡◌, ℕ, List, ◌++◌, Some, None, Result, Ok, Err}
+use Rattle.std.specs.Str.{bytes_eq}
+use Rattle.asn1_core.specs.Der.{oid, seq, el}
+use Rattle.asn1_core.specs.Oid.{oid_octets}
+use Rattle.asn1_core.specs.Reading.{Fault, Bad, UnknownOid, All, Front, ◌>>=◌, any_tag, on, ended, within, oid_at, option_at}
+use Rattle.asn1_core.specs.Texts.{Within}
+use Rattle.asn1_core.specs.declared.identifier.ObjectIdentifier.{ObjectIdentifier}
+use Rattle.der_core.specs.Any.{any_at}
+use Rattle.spki.specs.Algorithm.{algorithm}
+use Rattle.spki.specs.Seen.{AnyAlgorithm}
+use Rattle.pkcs5.specs.Identifiers.{pbkdf2_oid}
+use Rattle.pkcs5.specs.Pbkdf2Params.{Pbkdf2ParamsText, pbkdf2_params_content, ArePbkdf2Params, other_pbkdf2_params, pbkdf2_params_in}
+use Rattle.pkcs5.specs.declared.pbes2.kdf.Kdf.{Kdf}
+use Rattle.pkcs5.specs.declared.pbes2.kdf.Kdf.TheVariants.{Pbkdf2}
+
+-- the value octets: the function's identifier, and its parameters
+abbrev pub KdfOf : List ℕ → Kdf → Type 0
+KdfOf b (Pbkdf2 v) = (p : List ℕ) × Pbkdf2ParamsText p v × (b ≡ oid pbkdf2_oid ++ p)
+
+abbrev pub KdfText : List ℕ → Kdf → Type 0
+KdfText = Within 0x30 KdfOf
+
+-- ---- writing
+
+-- the value octets that are written
+abbrev pub kdf_content : Kdf → List ℕ
+kdf_content (Pbkdf2 v) = oid pbkdf2_oid ++ el 0x30 (pbkdf2_params_content v)
+
+abbrev pub IsKdf : Kdf → Type 0
+IsKdf (Pbkdf2 v) = ArePbkdf2Params v
+
+-- another spelling: one of the parameters
+abbrev pub other_kdf : List ℕ → Kdf → Type 0
+other_kdf b (Pbkdf2 v) = (p : List ℕ) × other_pbkdf2_params p v × (b ≡ seq (oid pbkdf2_oid ++ p))
+
+-- ---- reading
+
+-- by the identifier, which is looked up before the parameters are read
+abbrev pub kdf_with : ObjectIdentifier → ℕ × List ℕ → Result Kdf Fault
+kdf_with o p = if bytes_eq (oid_octets o) pbkdf2_oid then (pbkdf2_params_in p >>= λ v. Ok (Pbkdf2 v)) else Err (UnknownOid o)
+
+-- the function that an algorithm is: it has to have parameters
+unfoldable pub kdf_in : AnyAlgorithm → Result Kdf Fault
+kdf_in a = elim a.parameters [ None ↦ Err Bad | Some p ↦ kdf_with a.oid p ]
+
+-- octets behind the parameters come last
+abbrev pub kdf_of : All Kdf
+kdf_of = on oid_at (λ o. on (option_at any_tag any_at) (λ p rest. kdf_in (algorithm o p) >>= λ k. ended k rest))
+
+abbrev pub kdf_at : Front Kdf
+kdf_at = within 0x30 kdf_of

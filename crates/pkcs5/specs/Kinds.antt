@@ -1,0 +1,43 @@
+-- The identifiers and sizes of the algorithms of PBES2 (RFC 8018 appendix B).
+use Rattle.std.specs.Prelude.{ℕ, List, Option}
+use Rattle.pkcs5.specs.Identifiers.{pbkdf2_oid, hmac_with_sha1_oid, hmac_with_sha224_oid, hmac_with_sha256_oid, hmac_with_sha384_oid, hmac_with_sha512_oid, aes_128_cbc_oid, aes_192_cbc_oid, aes_256_cbc_oid}
+use Rattle.pkcs5.specs.declared.pbes2.kdf.Kdf.{Kdf}
+use Rattle.pkcs5.specs.declared.pbes2.kdf.Kdf.TheVariants.{Pbkdf2}
+use Rattle.pkcs5.specs.declared.pbes2.pbkdf2_prf.Pbkdf2Prf.{Pbkdf2Prf}
+use Rattle.pkcs5.specs.declared.pbes2.pbkdf2_prf.Pbkdf2Prf.TheVariants.{HmacWithSha1, HmacWithSha224, HmacWithSha256, HmacWithSha384, HmacWithSha512}
+use Rattle.pkcs5.specs.declared.pbes2.encryption_scheme.EncryptionScheme.{EncryptionScheme}
+use Rattle.pkcs5.specs.declared.pbes2.encryption_scheme.EncryptionScheme.TheVariants.{Aes128Cbc, Aes192Cbc, Aes256Cbc}
+
+-- the identifier of a pseudorandom function
+abbrev pub prf_oid : Pbkdf2Prf → List ℕ
+prf_oid HmacWithSha1 = hmac_with_sha1_oid
+prf_oid HmacWithSha224 = hmac_with_sha224_oid
+prf_oid HmacWithSha256 = hmac_with_sha256_oid
+prf_oid HmacWithSha384 = hmac_with_sha384_oid
+prf_oid HmacWithSha512 = hmac_with_sha512_oid
+
+-- the identifier of a key derivation function
+abbrev pub kdf_oid : Kdf → List ℕ
+kdf_oid (Pbkdf2 p) = pbkdf2_oid
+
+-- the length of the derived key in octets, where it is stated
+abbrev pub stated_length : Kdf → Option ℕ
+stated_length (Pbkdf2 p) = p.key_length
+
+-- the identifier of a cipher
+abbrev pub cipher_oid : EncryptionScheme → List ℕ
+cipher_oid (Aes128Cbc iv) = aes_128_cbc_oid
+cipher_oid (Aes192Cbc iv) = aes_192_cbc_oid
+cipher_oid (Aes256Cbc iv) = aes_256_cbc_oid
+
+-- the length of a cipher's key in octets
+abbrev pub key_size : EncryptionScheme → ℕ
+key_size (Aes128Cbc iv) = 16
+key_size (Aes192Cbc iv) = 24
+key_size (Aes256Cbc iv) = 32
+
+-- its initialization vector
+abbrev pub iv_of : EncryptionScheme → List ℕ
+iv_of (Aes128Cbc iv) = iv
+iv_of (Aes192Cbc iv) = iv
+iv_of (Aes256Cbc iv) = iv

@@ -1,0 +1,49 @@
+-- PBES2-params (RFC 8018 appendix A.4): SEQUENCE { keyDerivationFunc, encryptionScheme }.
+use Rattle.std.specs.Prelude.{◌≡◌, ℕ, List, ◌++◌, Result}
+use Rattle.asn1_core.specs.Der.{seq, el}
+use Rattle.asn1_core.specs.Reading.{Fault, All, Front, ◌>>=◌, any_tag, on, ended, whole, within}
+use Rattle.asn1_core.specs.Texts.{Within}
+use Rattle.der_core.specs.Any.{any_at}
+use Rattle.spki.specs.Algorithm.{algorithm_at}
+use Rattle.pkcs5.specs.Kdf.{KdfText, kdf_content, IsKdf, other_kdf, kdf_in}
+use Rattle.pkcs5.specs.Cipher.{CipherText, cipher_content, IsCipher, cipher_in}
+use Rattle.pkcs5.specs.declared.pbes2.kdf.Kdf.{Kdf}
+use Rattle.pkcs5.specs.declared.pbes2.encryption_scheme.EncryptionScheme.{EncryptionScheme}
+use Rattle.pkcs5.specs.declared.pbes2.parameters.Parameters.{Parameters}
+
+abbrev pub parameters : Kdf → EncryptionScheme → Parameters
+parameters k c = record { kdf = k; encryption = c }
+
+-- the value octets: the function, and the cipher
+abbrev pub ParametersOf : List ℕ → Parameters → Type 0
+ParametersOf b v = (k : List ℕ) × (c : List ℕ) × KdfText k v.kdf × CipherText c v.encryption × (b ≡ k ++ c)
+
+abbrev pub ParametersText : List ℕ → Parameters → Type 0
+ParametersText = Within 0x30 ParametersOf
+
+-- ---- writing
+
+-- the value octets that are written
+abbrev pub parameters_content : Parameters → List ℕ
+parameters_content v = el 0x30 (kdf_content v.kdf) ++ el 0x30 (cipher_content v.encryption)
+
+abbrev pub AreParameters : Parameters → Type 0
+AreParameters v = IsKdf v.kdf × IsCipher v.encryption
+
+-- another spelling: one of the function
+abbrev pub other_parameters : List ℕ → Parameters → Type 0
+other_parameters b v = (k : List ℕ) × other_kdf k v.kdf × (b ≡ seq (k ++ el 0x30 (cipher_content v.encryption)))
+
+-- ---- reading
+
+-- both are read as algorithms with any parameters before one of them is judged
+abbrev pub parameters_of : All Parameters
+parameters_of = on (algorithm_at any_tag any_at) (λ f. on (algorithm_at any_tag any_at) (λ e rest.
+    kdf_in f >>= λ k. cipher_in e >>= λ c. ended (parameters k c) rest))
+
+abbrev pub parameters_at : Front Parameters
+parameters_at = within 0x30 parameters_of
+
+-- the parameters that an element is, given by its tag octet and its value
+abbrev pub parameters_in : ℕ × List ℕ → Result Parameters Fault
+parameters_in p = whole parameters_at (el p.0 p.1)

@@ -1,0 +1,75 @@
+-- PBKDF2-params (RFC 8018 appendix A.2): SEQUENCE { salt, iterationCount, keyLength OPTIONAL, prf DEFAULT algid-hmacWithSHA1 }.
+use Rattle.std.specs.Prelude.{◌≡◌, ◌≢◌, ◌⊎◌, ◌≤◌, ℕ, List, ◌++◌, Option, Some, None, Result, ◌==◌}
+use Rattle.asn1_core.specs.Der.{octets, uint, seq, el}
+use Rattle.asn1_core.specs.Fields.{OrNothing}
+use Rattle.asn1_core.specs.Reading.{Fault, All, Front, whole, on, ended, within, option_at, uint_at}
+use Rattle.asn1_core.specs.Texts.{Within, Uint, Perhaps}
+use Rattle.der_core.specs.Optional.{canon_option, writable_option}
+use Rattle.pkcs5.specs.Salt.{IsSalt, SaltOf, salt_of}
+use Rattle.pkcs5.specs.Pbkdf2Prf.{PrfText, prf_content, prf_without_null, prf_of}
+use Rattle.pkcs5.specs.declared.pbes2.pbkdf2_params.Pbkdf2Params.{Pbkdf2Params}
+use Rattle.pkcs5.specs.declared.pbes2.pbkdf2_prf.Pbkdf2Prf.{Pbkdf2Prf}
+use Rattle.pkcs5.specs.declared.pbes2.pbkdf2_prf.Pbkdf2Prf.TheVariants.{HmacWithSha1, HmacWithSha224, HmacWithSha256, HmacWithSha384, HmacWithSha512}
+
+abbrev pub pbkdf2_params : List ℕ → ℕ → Option ℕ → Pbkdf2Prf → Pbkdf2Params
+pbkdf2_params s n k f = record { salt = s; iteration_count = n; key_length = k; prf = f }
+
+-- the value octets: the four parts; HMAC over SHA-1 may be left out
+abbrev pub Pbkdf2ParamsOf : List ℕ → Pbkdf2Params → Type 0
+Pbkdf2ParamsOf b v = (s : List ℕ) × (n : List ℕ) × (k : List ℕ) × (f : List ℕ)
+    × Within 0x04 SaltOf s v.salt × Uint 4294967295 n v.iteration_count × Perhaps (Uint 65535) k v.key_length × OrNothing HmacWithSha1 PrfText f v.prf
+    × (b ≡ s ++ n ++ k ++ f)
+
+abbrev pub Pbkdf2ParamsText : List ℕ → Pbkdf2Params → Type 0
+Pbkdf2ParamsText = Within 0x30 Pbkdf2ParamsOf
+
+-- ---- writing
+
+-- the function that is written: HMAC over SHA-1 is left out
+abbrev pub stated_prf : Pbkdf2Prf → Option Pbkdf2Prf
+stated_prf HmacWithSha1 = None
+stated_prf HmacWithSha224 = Some HmacWithSha224
+stated_prf HmacWithSha256 = Some HmacWithSha256
+stated_prf HmacWithSha384 = Some HmacWithSha384
+stated_prf HmacWithSha512 = Some HmacWithSha512
+
+-- what stands before the function
+abbrev pub before_prf : Pbkdf2Params → List ℕ
+before_prf v = octets v.salt ++ uint v.iteration_count ++ canon_option uint v.key_length
+
+-- the value octets that are written
+abbrev pub pbkdf2_params_content : Pbkdf2Params → List ℕ
+pbkdf2_params_content v = before_prf v ++ canon_option (λ f. el 0x30 (prf_content f)) (stated_prf v.prf)
+
+-- each number fits its type, and the salt is not too long
+abbrev pub ArePbkdf2Params : Pbkdf2Params → Type 0
+ArePbkdf2Params v = IsSalt v.salt × (v.iteration_count ≤ 4294967295) × writable_option (λ n. n ≤ 65535) v.key_length
+
+-- HMAC over SHA-1 is written, with NULL or without
+abbrev pub written_prf : List ℕ → Pbkdf2Prf → Type 0
+written_prf b f = (f ≡ HmacWithSha1) × PrfText b f
+
+-- another spelling of the function in parameters: HMAC over SHA-1 is written, or another function has no NULL
+abbrev pub other_prf : List ℕ → Pbkdf2Prf → Type 0
+other_prf b f = written_prf b f ⊎ ((f ≢ HmacWithSha1) × prf_without_null b f)
+
+-- another spelling: one of the function
+abbrev pub other_pbkdf2_params : List ℕ → Pbkdf2Params → Type 0
+other_pbkdf2_params b v = (f : List ℕ) × other_prf f v.prf × (b ≡ seq (before_prf v ++ f))
+
+-- ---- reading
+
+abbrev pub prf_or_default : Option Pbkdf2Prf → Pbkdf2Prf
+prf_or_default None = HmacWithSha1
+prf_or_default (Some f) = f
+
+abbrev pub pbkdf2_params_of : All Pbkdf2Params
+pbkdf2_params_of = on (within 0x04 salt_of) (λ s. on (uint_at 4294967295) (λ n. on (option_at (λ t. t == 0x02) (uint_at 65535)) (λ k.
+    on (option_at (λ t. t == 0x30) (within 0x30 prf_of)) (λ f. ended (pbkdf2_params s n k (prf_or_default f))))))
+
+abbrev pub pbkdf2_params_at : Front Pbkdf2Params
+pbkdf2_params_at = within 0x30 pbkdf2_params_of
+
+-- the parameters that an element is, given by its tag octet and its value
+abbrev pub pbkdf2_params_in : ℕ × List ℕ → Result Pbkdf2Params Fault
+pbkdf2_params_in p = whole pbkdf2_params_at (el p.0 p.1)

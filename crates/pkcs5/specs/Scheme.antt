@@ -1,0 +1,60 @@
+-- A scheme of encryption under a password (RFC 8018 section 6): an algorithm, PBES2 (appendix A.4).
+use Rattle.std.specs.Prelude.{if◌then◌else◌, ◌≡◌, ℕ, List, ◌++◌, Some, None, Result, Ok, Err}
+use Rattle.std.specs.Str.{bytes_eq}
+use Rattle.asn1_core.specs.Der.{oid, seq, el}
+use Rattle.asn1_core.specs.Oid.{oid_octets}
+use Rattle.asn1_core.specs.Reading.{Fault, Bad, All, Front, ◌>>=◌, any_tag, on, ended, within, oid_at, option_at}
+use Rattle.asn1_core.specs.Texts.{Within}
+use Rattle.asn1_core.specs.declared.identifier.ObjectIdentifier.{ObjectIdentifier}
+use Rattle.der_core.specs.Any.{any_at}
+use Rattle.spki.specs.Algorithm.{algorithm}
+use Rattle.spki.specs.Seen.{AnyAlgorithm}
+use Rattle.pkcs5.specs.Identifiers.{pbes2_oid}
+use Rattle.pkcs5.specs.Parameters.{ParametersText, parameters_content, AreParameters, other_parameters, parameters_in}
+use Rattle.pkcs5.specs.declared.encryption_scheme.EncryptionScheme.{EncryptionScheme}
+use Rattle.pkcs5.specs.declared.encryption_scheme.EncryptionScheme.TheVariants.{Pbes2}
+
+-- the identifier of a scheme
+abbrev pub scheme_oid : EncryptionScheme → List ℕ
+scheme_oid (Pbes2 v) = pbes2_oid
+
+-- the value octets: the scheme's identifier, and its parameters
+abbrev pub SchemeOf : List ℕ → EncryptionScheme → Type 0
+SchemeOf b (Pbes2 v) = (p : List ℕ) × ParametersText p v × (b ≡ oid pbes2_oid ++ p)
+
+abbrev pub SchemeText : List ℕ → EncryptionScheme → Type 0
+SchemeText = Within 0x30 SchemeOf
+
+-- ---- writing
+
+-- the value octets that are written
+abbrev pub scheme_content : EncryptionScheme → List ℕ
+scheme_content (Pbes2 v) = oid pbes2_oid ++ el 0x30 (parameters_content v)
+
+-- the text that is written
+abbrev pub scheme_text : EncryptionScheme → List ℕ
+scheme_text s = seq (scheme_content s)
+
+abbrev pub IsScheme : EncryptionScheme → Type 0
+IsScheme (Pbes2 v) = AreParameters v
+
+-- another spelling: one of the parameters
+abbrev pub other_scheme : List ℕ → EncryptionScheme → Type 0
+other_scheme b (Pbes2 v) = (p : List ℕ) × other_parameters p v × (b ≡ seq (oid pbes2_oid ++ p))
+
+-- ---- reading
+
+-- by the identifier; a scheme of another identifier is none
+abbrev pub scheme_with : ObjectIdentifier → ℕ × List ℕ → Result EncryptionScheme Fault
+scheme_with o p = if bytes_eq (oid_octets o) pbes2_oid then (parameters_in p >>= λ v. Ok (Pbes2 v)) else Err Bad
+
+-- the scheme that an algorithm is: it has to have parameters
+unfoldable pub scheme_in : AnyAlgorithm → Result EncryptionScheme Fault
+scheme_in a = elim a.parameters [ None ↦ Err Bad | Some p ↦ scheme_with a.oid p ]
+
+-- octets behind the parameters come last
+abbrev pub scheme_of : All EncryptionScheme
+scheme_of = on oid_at (λ o. on (option_at any_tag any_at) (λ p rest. scheme_in (algorithm o p) >>= λ s. ended s rest))
+
+abbrev pub scheme_at : Front EncryptionScheme
+scheme_at = within 0x30 scheme_of

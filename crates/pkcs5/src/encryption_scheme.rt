@@ -1,0 +1,169 @@
+//! Encryption schemes.
+ghost use Rattle.std.specs.Prelude.{◌≡◌, IsSomeAnd, refl};
+ghost use Rattle.asn1_core.specs.Gives.{Gives};
+ghost use Rattle.asn1_core.specs.Oid.{oid_octets};
+ghost use Rattle.asn1_core.specs.Reading.{whole};
+ghost use Rattle.spki.specs.Seen.{borrowed_any, borrowed_algorithm};
+ghost use Rattle.pkcs5.specs.Scheme.{scheme_oid, SchemeOf, scheme_content, IsScheme, other_scheme, scheme_with, scheme_in, scheme_of, scheme_at};
+ghost use Rattle.pkcs5.specs.SchemeLaws.{scheme_of-exact, scheme_canonical, scheme_spelled};
+ghost use Rattle.pkcs5.specs.SameLaws.{kdf_same, cipher_same, parameters_same, scheme_same};
+ghost use Rattle.pkcs5.specs.declared.encryption_scheme.EncryptionScheme.{EncryptionScheme};
+ghost use Rattle.pkcs5.specs.declared.encryption_scheme.EncryptionScheme.TheVariants.{Pbes2};
+
+use crate::pbes2::{self, PBES2_OID};
+use asn1_core::{Error, Header, Length, ObjectIdentifier, Reader, SliceReader, Tag, Writer};
+use der_core::{
+    AnyRef, Canonical, Compared, Decode, DecodeValue, EncodeValue, FixedTag, Sequence, Spelled,
+    pair_len, write_pair,
+};
+use spki::{AlgorithmIdentifier, AlgorithmIdentifierRef};
+
+/// A scheme of encryption under a password (RFC 8018 section 6), as an algorithm with its parameters (appendix A.4).
+#[derive(Clone, Copy, Debug, PartialEq, Eq, Drop)]
+pub enum EncryptionScheme {
+    /// PBES2 (RFC 8018 section 6.2).
+    Pbes2(pbes2::Parameters),
+}
+
+impl EncryptionScheme {
+    /// The identifier of the scheme.
+    pub fn oid(&self) -> ObjectIdentifier
+        ensures { oid_octets result ≡ scheme_oid self.now }
+    {
+        match self {
+            Self::Pbes2(_) => PBES2_OID,
+        }
+    }
+
+    /// The parameters of PBES2, where this is that scheme.
+    pub fn pbes2(&self) -> Option<&pbes2::Parameters>
+        ensures { IsSomeAnd result (λ v. Pbes2 v.now ≡ self.now) }
+    {
+        match self {
+            Self::Pbes2(parameters) => Some(parameters),
+        }
+    }
+}
+
+/// PBES2 with these parameters.
+impl From<pbes2::Parameters> for EncryptionScheme {
+    ghost from_gives = { λ v s. s ≡ Pbes2 v };
+
+    fn from(parameters: pbes2::Parameters) -> EncryptionScheme {
+        EncryptionScheme::Pbes2(parameters)
+    }
+}
+
+/// The scheme of this identifier with these parameters. `Malformed` exactly where the identifier is not PBES2; else the refusals of
+/// the parameters.
+fn scheme_with(oid: ObjectIdentifier, parameters: &AnyRef<'_>) -> Result<EncryptionScheme, Error>
+    ensures { Gives (λ s. s) result (scheme_with oid (borrowed_any parameters.now)) }
+{
+    if oid != PBES2_OID {
+        return Err(Error::Malformed);
+    }
+    match pbes2::Parameters::try_from(*parameters) {
+        Ok(parameters) => Ok(EncryptionScheme::Pbes2(parameters)),
+        Err(e) => Err(e),
+    }
+}
+
+impl TryFrom<AlgorithmIdentifierRef<'_>> for EncryptionScheme {
+    type Error = Error;
+
+    ghost try_from_gives = { λ a r. Gives (λ s. s) r (scheme_in (borrowed_algorithm a)) };
+
+    /// The scheme that an algorithm is. `Malformed` exactly where it has no parameters or is not PBES2; else the refusals of the
+    /// parameters.
+    #[tactic(auto, unfolding(crate::specs::Scheme::scheme_in))]
+    fn try_from(algorithm: AlgorithmIdentifierRef<'_>) -> Result<EncryptionScheme, Error> {
+        match &algorithm.parameters {
+            Some(parameters) => scheme_with(algorithm.oid, parameters),
+            None => Err(Error::Malformed),
+        }
+    }
+}
+
+impl TryFrom<&[u8]> for EncryptionScheme {
+    type Error = Error;
+
+    ghost try_from_gives = { λ b r. Gives (λ s. s) r (whole scheme_at b.now) };
+
+    /// The scheme whose text these octets are, as `from_der`.
+    fn try_from(bytes: &[u8]) -> Result<EncryptionScheme, Error> {
+        EncryptionScheme::from_der(bytes)
+    }
+}
+
+impl FixedTag for EncryptionScheme {
+    ghost TAG = { record { first = 0x30; is_tag = refl } };
+
+    const TAG: Tag = Tag::SEQUENCE;
+}
+
+impl<'a> DecodeValue<&'a [u8]> for EncryptionScheme {
+    ghost Seen = { EncryptionScheme };
+
+    ghost seen = { λ s. s };
+
+    ghost value = { λ t. scheme_of };
+
+    ghost text = { λ t. SchemeOf };
+
+    /// Refusals as of the algorithm; octets behind its parameters are `Malformed` last.
+    fn decode_value<R: Reader<&'a [u8]>>(
+        r: &mut R,
+        header: Header,
+    ) -> Result<EncryptionScheme, Error> {
+        let mut ahead = *r;
+        let value = ahead.read_slice(header.length)?;
+        let mut inner = SliceReader::new(value);
+        let oid = ObjectIdentifier::decode(&mut inner)?;
+        let parameters = Option::<AnyRef<'a>>::decode(&mut inner)?;
+        let scheme = EncryptionScheme::try_from(AlgorithmIdentifier { oid, parameters })?;
+        inner.finish()?;
+        *r = ahead;
+        Ok(scheme)
+    }
+
+    ghost exact = { λ t. scheme_of-exact };
+}
+
+impl EncodeValue for EncryptionScheme {
+    ghost content = { scheme_content };
+
+    ghost writable = { IsScheme };
+
+    fn value_len(&self) -> Result<Length, Error> {
+        match self {
+            Self::Pbes2(parameters) => pair_len(&PBES2_OID, parameters),
+        }
+    }
+
+    fn encode_value<W: Writer>(&self, w: &mut W) -> Result<(), Error> {
+        match self {
+            Self::Pbes2(parameters) => write_pair(w, &PBES2_OID, parameters),
+        }
+    }
+}
+
+impl<'a> Sequence<&'a [u8]> for EncryptionScheme {
+    ghost sequence = { refl };
+}
+
+impl<'a> Canonical<&'a [u8]> for EncryptionScheme {
+    ghost canonical = { scheme_canonical };
+}
+
+impl<'a> Spelled<&'a [u8]> for EncryptionScheme {
+    ghost other = { other_scheme };
+
+    ghost spelled = { scheme_spelled };
+}
+
+impl<'a> Compared<&'a [u8]> for EncryptionScheme {
+    ghost compared = { scheme_same ⟦<EncryptionScheme as PartialEq>⟧.eq ⟦<pbes2::Parameters as PartialEq>⟧.eq (λ v w. refl)
+        (parameters_same ⟦<pbes2::Kdf as PartialEq>⟧.eq (kdf_same ⟦<pbes2::Kdf as PartialEq>⟧.eq (λ v w. refl)) ⟦<pbes2::EncryptionScheme as PartialEq>⟧.eq
+        (cipher_same ⟦<pbes2::EncryptionScheme as PartialEq>⟧.eq (λ v w. refl) (λ v w. refl) (λ v w. refl)
+        (λ v w. refl) (λ v w. refl) (λ v w. refl) (λ v w. refl) (λ v w. refl) (λ v w. refl))) };
+}

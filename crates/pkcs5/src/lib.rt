@@ -1,0 +1,17 @@
+//! Encryption under a password (PKCS #5, RFC 8018): PBES2 with PBKDF2 and AES in CBC mode.
+#![tactic(auto)]
+
+mod encryption_scheme;
+mod error;
+mod laws;
+pub mod opening_laws;
+pub mod pbes2;
+mod scheme_encryption;
+#[cfg(test)]
+mod tests;
+
+pub use asn1_core::ObjectIdentifier;
+pub use encryption_scheme::EncryptionScheme;
+pub use error::{Error, Result};
+pub use laws::{schemes_are_read_back, schemes_have_texts, texts_have_one_scheme};
+pub use spki::AlgorithmIdentifierRef;

@@ -1,0 +1,65 @@
+//! Decryption by PBES2 (RFC 8018 section 6.2.2).
+ghost use Rattle.std.specs.Prelude.{◌≡◌, ◌≤◌, length, take, IfOk, IfErr};
+ghost use Rattle.mac_modes.specs.Padding.{padded};
+ghost use Rattle.pkcs5.specs.Opening.{FitsKey, Opens};
+ghost use Rattle.pkcs5.specs.Refusals.{LeftUnopened, RefusesToOpen, RefusesToOpenIn};
+
+use crate::error::Result;
+use crate::pbes2::cipher::decrypt_under;
+use crate::pbes2::encryption_key::EncryptionKey;
+use crate::pbes2::parameters::Parameters;
+use asn1_core::Octets;
+use std::alloc::Global;
+
+impl Parameters {
+    /// The text that a ciphertext opens to under a password, in memory of its own (RFC 8018 section 6.2.2).
+    ///
+    /// `AlgorithmParametersInvalid` with the identifier of the key derivation function exactly where a length of the
+    /// key is stated that is not the cipher's. Then `DecryptFailed` exactly where the ciphertext opens to no text: it is
+    /// empty, not whole blocks of 16 octets, or decrypts to a text with no padding. `Memory` may come at any point.
+    pub fn decrypt(&self, alloc: Global, password: &[u8], ciphertext: &[u8]) -> Result<Octets>
+        ensures ok { IfOk result (λ m. FitsKey self.now × Opens self.now password.now ciphertext.now m) }
+        ensures err { IfErr result (λ e. RefusesToOpenIn self.now password.now ciphertext.now e) }
+    {
+        let mut text = Vec::from_slice(alloc, ciphertext)?;
+        let len = self.decrypt_in_place_len(alloc, password, &mut text)?;
+        text.truncate(len);
+        Ok(Octets::from_vec(text))
+    }
+
+    /// `decrypt_in_place_len` that answers the text.
+    pub fn decrypt_in_place<'a>(
+        &self,
+        alloc: Global,
+        password: &[u8],
+        buffer: &'a mut [u8],
+    ) -> Result<&'a [u8]>
+        ensures ok { IfOk result (λ m. FitsKey self.now × Opens self.now password.now buffer.old m.now) }
+        ensures err { IfErr result (λ e. RefusesToOpen self.now password.now buffer.old e) }
+    {
+        let len = self.decrypt_in_place_len(alloc, password, buffer)?;
+        Ok(&buffer[..len])
+    }
+
+    /// Decrypts the ciphertext `buffer` in place under a password (RFC 8018 section 6.2.2), and answers the length in
+    /// octets of the text that now stands in its front; its padding stands behind it. It takes no memory.
+    ///
+    /// `AlgorithmParametersInvalid` with the identifier of the key derivation function exactly where a length of the
+    /// key is stated that is not the cipher's. Then `DecryptFailed` exactly where the ciphertext opens to no text: it is
+    /// empty or not whole blocks of 16 octets, or it decrypts to a text with no padding, which the buffer then holds.
+    /// Nothing is changed by the other refusals.
+    pub fn decrypt_in_place_len(
+        &self,
+        alloc: Global,
+        password: &[u8],
+        buffer: &mut [u8],
+    ) -> Result<usize>
+        ensures ok { IfOk result (λ len. FitsKey self.now × Opens self.now password.now buffer.old (take len buffer.new)) }
+        ensures padding { IfOk result (λ len. (len ≤ length buffer.old) × (buffer.new ≡ padded (take len buffer.new) 16)) }
+        ensures err { IfErr result (λ e. RefusesToOpen self.now password.now buffer.old e) }
+        ensures left { IfErr result (λ e. LeftUnopened self.now password.now buffer.old buffer.new e) }
+    {
+        let key = EncryptionKey::of_parameters(alloc, password, self)?;
+        decrypt_under(&self.encryption, key.as_slice(), buffer)
+    }
+}

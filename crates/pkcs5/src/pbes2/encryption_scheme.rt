@@ -1,0 +1,213 @@
+//! The ciphers of PBES2.
+ghost use Rattle.std.specs.Prelude.{◌≡◌, ◌≢◌, Some, length, MatchResult, IfOk, refl};
+ghost use Rattle.std.proofs.Common.{inl};
+ghost use Rattle.asn1_core.specs.Gives.{Gives};
+ghost use Rattle.asn1_core.specs.Oid.{oid_octets};
+ghost use Rattle.asn1_core.specs.Texts.{seen_option};
+ghost use Rattle.asn1_core.specs.declared.error.Error.TheVariants.{Malformed};
+ghost use Rattle.spki.specs.Seen.{borrowed_any, borrowed_algorithm};
+ghost use Rattle.pkcs5.specs.Cipher.{IsCipher, cipher_content, CipherOf, cipher_named, cipher_with, cipher_in, cipher_of};
+ghost use Rattle.pkcs5.specs.CipherLaws.{cipher_of-exact, cipher_canonical, cipher_spelled};
+ghost use Rattle.pkcs5.specs.Error.{InvalidOf};
+ghost use Rattle.pkcs5.specs.Kinds.{cipher_oid, key_size, iv_of};
+ghost use Rattle.pkcs5.specs.SameLaws.{cipher_same};
+ghost use Rattle.pkcs5.specs.declared.pbes2.encryption_scheme.EncryptionScheme.{EncryptionScheme};
+
+use crate::error;
+use crate::pbes2::identifiers::{AES_128_CBC_OID, AES_192_CBC_OID, AES_256_CBC_OID};
+use asn1_core::{Error, Header, Length, ObjectIdentifier, Reader, SliceReader, Tag, Writer};
+use der_core::{
+    AnyRef, Canonical, Compared, Decode, DecodeValue, EncodeValue, FixedTag, OctetStringRef,
+    Sequence, Spelled, pair_len, write_pair,
+};
+use spki::{AlgorithmIdentifier, AlgorithmIdentifierRef};
+
+/// A cipher with its initialization vector (RFC 8018 appendix B.2), as an algorithm whose parameters are that OCTET STRING.
+#[derive(Clone, Copy, Debug, PartialEq, Eq, Drop)]
+pub enum EncryptionScheme {
+    /// AES with a key of 128 bits, in CBC mode.
+    Aes128Cbc { iv: [u8; 16] },
+    /// AES with a key of 192 bits, in CBC mode.
+    Aes192Cbc { iv: [u8; 16] },
+    /// AES with a key of 256 bits, in CBC mode.
+    Aes256Cbc { iv: [u8; 16] },
+}
+
+impl EncryptionScheme {
+    /// The length of the key in octets.
+    pub fn key_size(&self) -> usize
+        ensures { result ≡ key_size self.now }
+    {
+        match self {
+            Self::Aes128Cbc { .. } => 16,
+            Self::Aes192Cbc { .. } => 24,
+            Self::Aes256Cbc { .. } => 32,
+        }
+    }
+
+    /// The identifier of the cipher.
+    pub fn oid(&self) -> ObjectIdentifier
+        ensures { oid_octets result ≡ cipher_oid self.now }
+    {
+        match self {
+            Self::Aes128Cbc { .. } => AES_128_CBC_OID,
+            Self::Aes192Cbc { .. } => AES_192_CBC_OID,
+            Self::Aes256Cbc { .. } => AES_256_CBC_OID,
+        }
+    }
+
+    /// The refusal of the cipher's parameters.
+    pub fn to_alg_params_invalid(&self) -> error::Error
+        ensures { InvalidOf (cipher_oid self.now) result }
+    {
+        error::Error::AlgorithmParametersInvalid { oid: self.oid() }
+    }
+
+    /// The initialization vector, of 16 octets.
+    pub(crate) fn iv(&self) -> &[u8]
+        ensures value { result.now ≡ iv_of self.now }
+        ensures long { IsCipher self.now }
+    {
+        match self {
+            Self::Aes128Cbc { iv } | Self::Aes192Cbc { iv } | Self::Aes256Cbc { iv } => iv,
+        }
+    }
+
+    /// The initialization vector as OCTET STRING.
+    #[tactic(auto, using(der_core::specs::StringLaws::small_header))]
+    fn iv_string(&self) -> OctetStringRef<'_>
+        ensures value { result.octets.now ≡ iv_of self.now }
+        ensures long { IsCipher self.now }
+    {
+        OctetStringRef::new(self.iv()).unwrap()
+    }
+}
+
+/// An initialization vector of 16 octets. `Malformed` exactly where there are more or fewer.
+fn iv_from(octets: &[u8]) -> Result<[u8; 16], Error>
+    ensures { MatchResult result (λ iv. (iv ≡ octets.now) × (length octets.now ≡ 16)) (λ e. (e ≡ Malformed) × (length octets.now ≢ 16)) }
+{
+    match <[u8; 16]>::try_from(octets) {
+        Ok(iv) => Ok(iv),
+        Err(_) => Err(Error::Malformed),
+    }
+}
+
+/// The cipher of this identifier with this initialization vector. `OidUnknown` exactly where the identifier names none; else
+/// `Malformed` exactly where the vector has not 16 octets.
+fn cipher_with(oid: ObjectIdentifier, octets: &[u8]) -> Result<EncryptionScheme, Error>
+    ensures { Gives (λ c. c) result (cipher_with oid octets.now) }
+{
+    if oid == AES_128_CBC_OID {
+        let iv = iv_from(octets)?;
+        Ok(EncryptionScheme::Aes128Cbc { iv })
+    } else if oid == AES_192_CBC_OID {
+        let iv = iv_from(octets)?;
+        Ok(EncryptionScheme::Aes192Cbc { iv })
+    } else if oid == AES_256_CBC_OID {
+        let iv = iv_from(octets)?;
+        Ok(EncryptionScheme::Aes256Cbc { iv })
+    } else {
+        Err(Error::OidUnknown { oid })
+    }
+}
+
+impl TryFrom<AlgorithmIdentifierRef<'_>> for EncryptionScheme {
+    type Error = Error;
+
+    ghost try_from_gives = { λ a r. Gives (λ c. c) r (cipher_in (borrowed_algorithm a)) };
+
+    /// The cipher that an algorithm is. `Malformed` exactly where it has no parameters or they are no OCTET STRING; else `OidUnknown`
+    /// with its identifier exactly where that names none; else `Malformed` exactly where the string has not 16 octets.
+    #[tactic(auto, unfolding(crate::specs::Cipher::cipher_in))]
+    fn try_from(algorithm: AlgorithmIdentifierRef<'_>) -> Result<EncryptionScheme, Error> {
+        match algorithm.parameters {
+            Some(parameters) => {
+                let iv = parameters.decode_as::<OctetStringRef<'_>>()?;
+                cipher_with(algorithm.oid, iv.as_bytes())
+            }
+            None => Err(Error::Malformed),
+        }
+    }
+}
+
+impl<'a> TryFrom<&'a EncryptionScheme> for AlgorithmIdentifierRef<'a> {
+    type Error = Error;
+
+    ghost try_from_gives = { λ c r. MatchResult r (λ a. (oid_octets a.oid ≡ cipher_oid c.now) × (seen_option borrowed_any a.parameters ≡ Some (4, iv_of c.now))) (λ e. ⊥) };
+
+    /// The algorithm of a cipher: its identifier, and its initialization vector as OCTET STRING. Nothing is refused.
+    fn try_from(cipher: &'a EncryptionScheme) -> Result<AlgorithmIdentifierRef<'a>, Error> {
+        Ok(AlgorithmIdentifier {
+            oid: cipher.oid(),
+            parameters: Some(AnyRef::from(cipher.iv_string())),
+        })
+    }
+}
+
+impl FixedTag for EncryptionScheme {
+    ghost TAG = { record { first = 0x30; is_tag = refl } };
+
+    const TAG: Tag = Tag::SEQUENCE;
+}
+
+impl<'a> DecodeValue<&'a [u8]> for EncryptionScheme {
+    ghost Seen = { EncryptionScheme };
+
+    ghost seen = { λ c. c };
+
+    ghost value = { λ t. cipher_of };
+
+    ghost text = { λ t. CipherOf };
+
+    /// Refusals as of the algorithm; octets behind its parameters are `Malformed` last.
+    fn decode_value<R: Reader<&'a [u8]>>(
+        r: &mut R,
+        header: Header,
+    ) -> Result<EncryptionScheme, Error> {
+        let mut ahead = *r;
+        let value = ahead.read_slice(header.length)?;
+        let mut inner = SliceReader::new(value);
+        let oid = ObjectIdentifier::decode(&mut inner)?;
+        let parameters = Option::<AnyRef<'a>>::decode(&mut inner)?;
+        let cipher = EncryptionScheme::try_from(AlgorithmIdentifier { oid, parameters })?;
+        inner.finish()?;
+        *r = ahead;
+        Ok(cipher)
+    }
+
+    ghost exact = { λ t. cipher_of-exact };
+}
+
+impl EncodeValue for EncryptionScheme {
+    ghost content = { cipher_content };
+
+    ghost writable = { IsCipher };
+
+    fn value_len(&self) -> Result<Length, Error> {
+        pair_len(&self.oid(), &self.iv_string())
+    }
+
+    fn encode_value<W: Writer>(&self, w: &mut W) -> Result<(), Error> {
+        write_pair(w, &self.oid(), &self.iv_string())
+    }
+}
+
+impl<'a> Sequence<&'a [u8]> for EncryptionScheme {
+    ghost sequence = { refl };
+}
+
+impl<'a> Canonical<&'a [u8]> for EncryptionScheme {
+    ghost canonical = { cipher_canonical };
+}
+
+impl<'a> Spelled<&'a [u8]> for EncryptionScheme {
+    ghost other = { λ b c. ⊥ };
+
+    ghost spelled = { λ b c r. inl (cipher_spelled b c r) };
+}
+
+impl<'a> Compared<&'a [u8]> for EncryptionScheme {
+    ghost compared = { cipher_same ⟦<EncryptionScheme as PartialEq>⟧.eq (λ v w. refl) (λ v w. refl) (λ v w. refl)
+        (λ v w. refl) (λ v w. refl) (λ v w. refl) (λ v w. refl) (λ v w. refl) (λ v w. refl) };
+}

@@ -1,0 +1,162 @@
+//! Salts.
+ghost use Rattle.std.specs.Prelude.{◌≡◌, ◌<◌, ◌≤◌, ℕ, List, length, IfOk, IfErr, MatchResult, nat_eq, refl};
+ghost use Rattle.std.specs.Cmp.Lexicographic.{pointwise};
+ghost use Rattle.std.specs.Cmp.Rules.{comparing};
+ghost use Rattle.std.proofs.Common.{rules, inl};
+ghost use Rattle.der_core.specs.SameLaws.{octets_same};
+ghost use Rattle.pkcs5.specs.Salt.{IsSalt, SaltOf, salt_of};
+ghost use Rattle.pkcs5.specs.Pbkdf2ParamsLaws.{salt_of-exact, salt_canonical, salt_spelled};
+
+use asn1_core::{Error, Header, Length, Reader, Tag, Writer, pad};
+use der_core::{Canonical, Compared, DecodeValue, EncodeValue, FixedTag, Spelled};
+use std::convert::AsSlice;
+use std::marker::Model;
+
+/// A salt (RFC 8018 section 4.1) of at most 32 octets, as OCTET STRING.
+#[derive(Clone, Copy, Debug)]
+pub struct Salt {
+    octets: [u8; 32],
+    size: usize,
+}
+
+impl Model for Salt {
+    ghost use Rattle.std.specs.Prelude.{ℕ, List, length, take, ◌≡◌};
+    ghost use Rattle.asn1_core.specs.Padded.{IsPadded, padded, padded_take, length-take_padded};
+
+    ghost Value = { List ℕ };
+
+    ghost view = { λ s. take s.size s.octets };
+
+    ghost invariant = { λ s. IsPadded 32 s.size s.octets };
+
+    ghost inverse = { λ d. record { octets = padded 32 d; size = length d } };
+
+    ghost inverse_ok = { λ a h i. record { octets = padded_take 32 a.size a.octets h i; size = length-take_padded 32 a.size a.octets h i } };
+}
+
+impl Salt {
+    /// The largest number of octets of a salt.
+    pub const MAX_LEN: usize = 32;
+
+    /// The salt of these octets. `Malformed` exactly where they are more than 32.
+    #[tactic(auto, using(asn1_core::specs::Padded::is_padded, asn1_core::specs::Padded::take_padded))]
+    pub fn new(octets: &[u8]) -> Result<Salt, Error>
+        ensures ok { IfOk result (λ s. (s ≡ octets.now) × (length octets.now ≤ 32)) }
+        ensures err { IfErr result (λ e. (e ≡ Error.Malformed) × (32 < length octets.now)) }
+    {
+        if octets.len() > Self::MAX_LEN {
+            return Err(Error::Malformed);
+        }
+        Ok(Salt {
+            octets: pad(octets),
+            size: octets.len(),
+        })
+    }
+
+    /// The octets.
+    pub fn as_bytes(&self) -> &[u8]
+        ensures value { result.now ≡ self.now }
+        ensures short { length self.now ≤ 32 }
+    {
+        &self.octets[..self.size]
+    }
+
+    /// The number of octets.
+    pub fn len(&self) -> Length
+        ensures value { result.value ≡ length self.now }
+        ensures short { length self.now ≤ 32 }
+    {
+        Length {
+            value: self.size as u32,
+        }
+    }
+}
+
+impl PartialEq for Salt {
+    ghost eq = { pointwise nat_eq };
+
+    ghost laws = { Prim.search (comparing, rules) };
+
+    fn eq(&self, other: &Salt) -> bool {
+        self.octets[..self.size] == other.octets[..other.size]
+    }
+}
+
+impl Eq for Salt {
+    ghost laws = { Prim.search (comparing, rules) };
+}
+
+impl AsSlice<u8> for Salt {
+    ghost items = { λ s. s };
+
+    fn as_slice(&self) -> &[u8] {
+        self.as_bytes()
+    }
+}
+
+/// The salt of these octets. `Malformed` exactly where they are more than 32.
+impl TryFrom<&[u8]> for Salt {
+    type Error = Error;
+
+    ghost use Rattle.asn1_core.specs.declared.error.Error.TheVariants.{Malformed};
+
+    ghost try_from_gives = { λ b r. MatchResult r (λ s. (s ≡ b.now) × (length b.now ≤ 32)) (λ e. (e ≡ Malformed) × (32 < length b.now)) };
+
+    fn try_from(octets: &[u8]) -> Result<Salt, Error> {
+        Salt::new(octets)
+    }
+}
+
+impl FixedTag for Salt {
+    ghost TAG = { record { first = 4; is_tag = refl } };
+
+    const TAG: Tag = Tag::OCTET_STRING;
+}
+
+impl<'a> DecodeValue<&'a [u8]> for Salt {
+    ghost Seen = { List ℕ };
+
+    ghost seen = { λ s. s };
+
+    ghost value = { λ t. salt_of };
+
+    ghost text = { λ t. SaltOf };
+
+    fn decode_value<R: Reader<&'a [u8]>>(r: &mut R, header: Header) -> Result<Salt, Error> {
+        let mut ahead = *r;
+        let octets = ahead.read_slice(header.length)?;
+        let salt = Salt::new(octets)?;
+        *r = ahead;
+        Ok(salt)
+    }
+
+    ghost exact = { λ t. salt_of-exact };
+}
+
+impl EncodeValue for Salt {
+    ghost content = { λ s. s };
+
+    ghost writable = { IsSalt };
+
+    fn value_len(&self) -> Result<Length, Error> {
+        Ok(self.len())
+    }
+
+    fn encode_value<W: Writer>(&self, w: &mut W) -> Result<(), Error> {
+        w.write(self.as_bytes())
+    }
+}
+
+impl<'a> Canonical<&'a [u8]> for Salt {
+    ghost canonical = { salt_canonical };
+}
+
+impl<'a> Spelled<&'a [u8]> for Salt {
+    ghost other = { λ b s. ⊥ };
+
+    ghost spelled = { λ b s r. inl (salt_spelled s b r) };
+}
+
+impl<'a> Compared<&'a [u8]> for Salt {
+    ghost compared = { octets_same };
+}

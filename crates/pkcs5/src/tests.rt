@@ -1,0 +1,18 @@
+//! Texts of schemes, and texts under passwords.
+
+mod encryption;
+mod openssl_schemes;
+mod refused_schemes;
+mod texts;
+
+use asn1_core::ObjectIdentifier;
+use std::alloc::Global;
+use std::process::Abort;
+
+fn octets(rt: &impl Abort, alloc: Global, digits: &str) -> Vec<u8> {
+    hex::decode(alloc, digits.as_bytes()).expect(rt, "hexadecimal digits")
+}
+
+fn oid(rt: &impl Abort, text: &str) -> ObjectIdentifier {
+    ObjectIdentifier::new(text).expect(rt, "an identifier")
+}

@@ -1,0 +1,4 @@
+pub mod Faults
+pub mod FurtherFields
+pub mod Spellings
+pub mod Documents

@@ -1,0 +1,13 @@
+pub mod Error
+pub mod Version
+pub mod VersionLaws
+pub mod PrivateKeyInfo
+pub mod FieldLaws
+pub mod ImplicitLaws
+pub mod PrivateKeyLaws
+pub mod PrivateKeySpellings
+pub mod Seen
+pub mod Spelling
+pub mod EncryptedPrivateKeyInfo
+pub mod EncryptedPrivateKeyInfoLaws
+pub mod Sealing

@@ -1,0 +1,38 @@
+//! Laws of texts, each the contract of a function that does nothing.
+ghost use Rattle.std.specs.Prelude.{◌≡◌, ◌↔◌, ℕ, List};
+ghost use Rattle.asn1_core.specs.Der.{IsShort};
+ghost use Rattle.der_core.specs.BitString.{seen_bits};
+ghost use Rattle.spki.specs.Seen.{borrowed_any};
+ghost use Rattle.spki.specs.Spelling.{AreParameters};
+ghost use Rattle.pkcs8.specs.PrivateKeyInfo.{AreAttributes, AreFurther};
+ghost use Rattle.pkcs8.specs.Seen.{AnyPrivateKey, IsPrivateKey, seen_private_key};
+ghost use Rattle.pkcs8.specs.Spelling.{AreBits, private_key_spelling, private_key_text};
+
+use crate::private_key_info::PrivateKeyInfoRef;
+use der_core::Encode;
+
+/// A text is that of one private key at most.
+pub fn texts_have_one_private_key()
+    ensures { (b : List ℕ) (k l : AnyPrivateKey) → IsPrivateKey b k → IsPrivateKey b l → k ≡ l }
+{}
+
+/// The texts of a private key are its spellings, by the attributes and the further fields that stand in them, and nothing else is
+/// a text of it.
+pub fn private_keys_are_spelled()
+    ensures { (b : List ℕ) (k : AnyPrivateKey) → IsPrivateKey b k
+        ↔ (AreParameters k.algorithm.parameters × AreBits k.public_key
+        × ((x : List ℕ) × (y : List ℕ) × AreAttributes x × AreFurther y × (b ≡ private_key_spelling k x y)) × IsShort b) }
+{}
+
+/// The text that is written of a private key is one of its texts.
+pub fn private_keys_have_a_text()
+    ensures { (k : AnyPrivateKey) → AreParameters k.algorithm.parameters → AreBits k.public_key → IsShort (private_key_text k) → IsPrivateKey (private_key_text k) k }
+{}
+
+/// What is written of a private key is its text without attributes and further fields.
+pub fn private_keys_are_written<'a>(key: &PrivateKeyInfoRef<'a>)
+    ensures { ⟦<PrivateKeyInfoRef<'a> as Encode>⟧.canon key.now
+        ≡ private_key_text (seen_private_key borrowed_any (λ s. s.octets.now) (λ s. seen_bits s.unused_bits s.octets.now) key.now) }
+{
+    let _ = key;
+}

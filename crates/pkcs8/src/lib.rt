@@ -1,0 +1,29 @@
+//! Private keys (PKCS #8): PrivateKeyInfo (RFC 5208) and OneAsymmetricKey (RFC 5958).
+#![tactic(auto)]
+
+mod bit_string_like;
+mod encrypted_private_key_info;
+mod encryption;
+mod error;
+mod fields;
+mod implicit_bit_string;
+mod laws;
+mod private_key_forms;
+mod private_key_info;
+mod version;
+
+pub use asn1_core::ObjectIdentifier;
+pub use bit_string_like::BitStringLike;
+pub use encrypted_private_key_info::{EncryptedPrivateKeyInfo, EncryptedPrivateKeyInfoRef};
+pub use error::{Error, KeyError, Result};
+pub use implicit_bit_string::ImplicitBitString;
+pub use laws::{
+    private_keys_are_spelled, private_keys_are_written, private_keys_have_a_text,
+    texts_have_one_private_key,
+};
+pub use private_key_info::{PrivateKeyInfo, PrivateKeyInfoRef};
+pub use spki::AlgorithmIdentifierRef;
+pub use version::Version;
+
+#[cfg(test)]
+mod tests;
