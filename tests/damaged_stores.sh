@@ -29,25 +29,36 @@ code_of() {
         MacMismatch) echo 16 ;;
         ContentMalformed) echo 17 ;;
         DecryptFailed) echo 18 ;;
+        KeyMalformed) echo 19 ;;
+        Rng) echo 20 ;;
         TooLong) echo 21 ;;
         *) echo none ;;
     esac
 }
 
-# The text that is due for the status $1 and the certificates $2.
-due_text() {
-    if [ "$1" != Done ]; then
-        echo "error: $1"
-    elif [ "$2" != - ]; then
-        echo "$2" | tr , '\n' | sed 's/^/cert /'
+# A line with the label $1 for each of the items $2, which commas part.
+lines() {
+    if [ "$2" != - ]; then
+        echo "$2" | tr , '\n' | sed "s/^/$1 /"
     fi
 }
 
-# Runs the program with the password $2 and the limit $3 on the line in the file $6; the status $4 and the certificates $5 are due.
+# The text that is due for the status $1, the certificates $2 and the documents $3.
+due_text() {
+    if [ "$1" != Done ]; then
+        echo "error: $1"
+    else
+        lines cert "$2"
+        lines key "$3"
+    fi
+}
+
+# Runs the program with the password $2 and the limit $3 on the input in the file $7; the status $4, the certificates $5 and the
+# documents $6 are due.
 check() {
     code=0
-    "$program" transfer "$2" unused 1 "$3" <"$6" >"$work/found" || code=$?
-    due_text "$4" "$5" >"$work/due"
+    "$program" transfer "$2" new 3 "$3" <"$7" >"$work/found" || code=$?
+    due_text "$4" "$5" "$6" >"$work/due"
     if [ "$code" = "$(code_of "$4")" ] && cmp -s "$work/due" "$work/found"; then
         echo "ok $1"
     else
@@ -56,18 +67,23 @@ check() {
     fi
 }
 
-while read -r name password limit status _ certificates store; do
+while read -r name password limit status _ certificates documents line store; do
     case $name in
         '#'*) continue ;;
     esac
-    echo "$store" >"$work/line"
-    check "$name" "$password" "$limit" "$status" "$certificates" "$work/line"
+    echo "$store" >"$work/input"
+    case $line in
+        -) ;;
+        empty) echo >>"$work/input" ;;
+        *) echo "$line" >>"$work/input" ;;
+    esac
+    check "$name" "$password" "$limit" "$status" "$certificates" "$documents" "$work/input"
 done <"$home/tests/vectors/damaged_stores.txt"
 
 # A store may have 16,777,215 octets; these are zeros, and no store.
-head -c 33554430 /dev/zero | tr '\0' 0 >"$work/line"
-check zeros_16777215 p 1 Malformed - "$work/line"
-printf 00 >>"$work/line"
-check zeros_16777216 p 1 TooLong - "$work/line"
+head -c 33554430 /dev/zero | tr '\0' 0 >"$work/input"
+check zeros_16777215 p 1 Malformed - - "$work/input"
+printf 00 >>"$work/input"
+check zeros_16777216 p 1 TooLong - - "$work/input"
 
 exit "$failed"

@@ -1,17 +1,11 @@
-"""Writes PKCS#12 stores part by part, for tests and measurements.
+"""Writes PKCS#12 stores part by part, and documents of private keys, for tests and measurements.
 
 It writes what `read_store.py` reads. A part may be wrong on purpose: nothing here checks what it is given.
 """
 
-from read_store import DATA, ENCRYPTED_DATA, CERT_BAG, SHA1, TRIPLE_DES, X509, mac_of, triple_des
+import hashlib
 
-
-def element(tag, value):
-    size = len(value)
-    if size < 128:
-        return bytes([tag, size]) + value
-    length = size.to_bytes((size.bit_length() + 7) // 8, "big")
-    return bytes([tag, 128 + len(length)]) + length + value
+from read_store import DATA, ENCRYPTED_DATA, CERT_BAG, SHA1, SHROUDED_KEY_BAG, TRIPLE_DES, X509, element, mac_of, triple_des
 
 
 def sequence(*parts):
@@ -50,6 +44,16 @@ def certificate_bag(certificate, attributes=b""):
         context(0, sequence(identifier(X509), context(0, octet_string(certificate)))),
         attributes,
     )
+
+
+def key_bag(algorithm, ciphertext):
+    """A private key that is encrypted."""
+    return sequence(identifier(SHROUDED_KEY_BAG), context(0, sequence(algorithm, octet_string(ciphertext))))
+
+
+def sealed_key(key, password, salt, count):
+    """A private key under Triple DES."""
+    return key_bag(scheme(salt, count), encrypt(password, salt, count, padded(key)))
 
 
 def data(octets):
@@ -93,3 +97,20 @@ def store(contents, mac):
 
 def store_with_mac(contents, password, salt, count):
     return store(contents, mac_data(mac_of(password, salt, count, contents), salt, count))
+
+
+def sealed_document(key, password, rounds, drawn):
+    """The key under PBES2 (RFC 8018 section 6.2): the drawn octets are the initialization vector and then the salt.
+
+    PBKDF2 is Python's, AES that of the package `cryptography`.
+    """
+    from cryptography.hazmat.primitives.ciphers import Cipher, algorithms, modes
+
+    vector, salt = drawn[:16], drawn[16:32]
+    size = 16 - len(key) % 16
+    encryptor = Cipher(algorithms.AES(hashlib.pbkdf2_hmac("sha256", password, salt, rounds, 32)), modes.CBC(vector)).encryptor()
+    ciphertext = encryptor.update(key + bytes([size]) * size) + encryptor.finalize()
+    derivation = sequence(octet_string(salt), number(rounds), sequence(identifier("1.2.840.113549.2.9"), NULL))
+    kdf = sequence(identifier("1.2.840.113549.1.5.12"), derivation)
+    cipher = sequence(identifier("2.16.840.1.101.3.4.1.42"), octet_string(vector))
+    return sequence(sequence(identifier("1.2.840.113549.1.5.13"), sequence(kdf, cipher)), octet_string(ciphertext))

@@ -1,14 +1,15 @@
 #!/usr/bin/env python3
 """An independent reader of PKCS#12 stores, which states what the program has to answer.
 
-It is written from the standards alone: X.690 (DER), RFC 7292 (the store, and the derivation of appendix B.2), RFC 2104 (HMAC).
-SHA-1 and HMAC are those of Python, Triple DES that of the package `cryptography`. It holds the whole store as Python values and
-its numbers as Python integers.
+It is written from the standards alone: X.690 (DER), RFC 7292 (the store, and the derivation of appendix B.2), RFC 2104 (HMAC),
+and RFC 5958 (private keys). SHA-1 and HMAC are those of Python, Triple DES that of the package `cryptography`. It holds the whole store
+as Python values and its numbers as Python integers.
 
     tests/read_store.py STORE.p12 --password-file FILE [--limit STEPS]
 
-prints `cert HEX` for each X.509 certificate in store order, or `error: NAME`, and on standard error the steps that were taken:
-a step is one SHA-1 digest of the derivation's iterations. It ends with 0 where the store opens and with 1 where it is refused.
+prints `cert HEX` for each X.509 certificate in store order and then `key HEX` for each private key, in its canonical encoding, or
+`error: NAME`, and on standard error the steps that were taken: a step is one SHA-1 digest of the derivation's iterations. It ends with 0
+where the store opens and with 1 where it is refused.
 """
 
 import argparse
@@ -209,11 +210,11 @@ def read_attribute(parts):
 
 
 def read_bag(parts):
-    """(name of the bag, octets of an X.509 certificate or None)."""
+    """(name of the bag, octets of an X.509 certificate or None, (algorithm, ciphertext) of a key or None)."""
     inner = parts.sequence()
     name = inner.identifier()
     explicit = inner.context(0)
-    certificate = None
+    certificate = key = None
     if name == CERT_BAG:
         bag = explicit.sequence()
         kind = bag.identifier()
@@ -226,10 +227,9 @@ def read_bag(parts):
         value.end()
         bag.end()
     elif name == SHROUDED_KEY_BAG:
-        key = explicit.sequence()
-        read_algorithm(key)
-        key.octet_string()
-        key.end()
+        bag = explicit.sequence()
+        key = (read_algorithm(bag), bag.octet_string())
+        bag.end()
     else:
         explicit.element()
     explicit.end()
@@ -238,7 +238,7 @@ def read_bag(parts):
         while attributes.more():
             read_attribute(attributes)
     inner.end()
-    return name, certificate
+    return name, certificate, key
 
 
 def read_bags(octets):
@@ -266,6 +266,43 @@ def read_pfx(octets):
         data.end()
     parts.end()
     return content, mac
+
+
+# Private keys (RFC 5958, section 2).
+
+
+def element(tag, value):
+    size = len(value)
+    if size < 128:
+        return bytes([tag, size]) + value
+    length = size.to_bytes((size.bit_length() + 7) // 8, "big")
+    return bytes([tag, 128 + len(length)]) + length + value
+
+
+def canonical_key(octets):
+    """The private key that the octets are, written without attributes and further fields."""
+    parts = only(octets)
+    version = parts.number(8)
+    expect(version <= 1)
+    algorithm = Parts(parts.value(0x30))
+    start = algorithm.position
+    algorithm.identifier()
+    if algorithm.more():
+        algorithm.element()
+    algorithm.end()
+    written = element(0x30, algorithm.octets[start:]) + element(0x04, parts.octet_string())
+    if parts.next_tag() == 0xA0:
+        parts.element()
+    public = parts.next_tag() == 0x81
+    if public:
+        bits = parts.value(0x81)
+        expect(len(bits) >= 1 and bits[0] <= 7 and (bits[0] == 0 or len(bits) > 1))
+        written += element(0x81, bits)
+    expect(public == (version == 1))
+    while parts.more():
+        expect(0x82 <= parts.next_tag() <= 0x9E or 0xA2 <= parts.next_tag() <= 0xBE)
+        parts.element()
+    return element(0x30, element(0x02, bytes([version])) + written)
 
 
 # The derivation of RFC 7292, appendix B.2, with SHA-1 (u = 20, v = 64), the MAC and the opening.
@@ -344,7 +381,8 @@ class Opening:
         if self.shares > self.limit:
             raise Refused("WorkLimit")
 
-    def certificates(self, store):
+    def open(self, store):
+        """The certificates, and the canonical encodings of the private keys."""
         if len(store) > MOST_OCTETS:
             raise Refused("TooLong")
         try:
@@ -359,9 +397,8 @@ class Opening:
         except Malformed:
             raise Refused("ContentMalformed") from None
         bags = [bag for part in contents for bag in self.open_content(part)]
-        if any(name == SHROUDED_KEY_BAG for name, _ in bags):
-            raise Refused("Unsupported")
-        return [certificate for _, certificate in bags if certificate is not None]
+        certificates = [certificate for _, certificate, _ in bags if certificate is not None]
+        return certificates, [self.open_key(key) for _, _, key in bags if key is not None]
 
     def check_mac(self, mac, content):
         if mac is None:
@@ -376,21 +413,32 @@ class Opening:
         if mac_of(self.password, salt, count, content) != digest:
             raise Refused("MacMismatch")
 
+    def unlock(self, algorithm, ciphertext):
+        name, salt, count = algorithm
+        if name != TRIPLE_DES:
+            raise Refused("Unsupported")
+        if count == 0:
+            raise Refused("ZeroIterations")
+        # The key takes two blocks of the derivation, the initial vector one.
+        self.share(3 * count)
+        if ciphertext and len(ciphertext) % 8 == 0:
+            self.steps += 3 * count
+        octets = unlock(self.password, salt, count, ciphertext)
+        if octets is None:
+            raise Refused("DecryptFailed")
+        return octets
+
+    def open_key(self, key):
+        octets = self.unlock(*key)
+        try:
+            return canonical_key(octets)
+        except Malformed:
+            raise Refused("KeyMalformed") from None
+
     def open_content(self, content):
         kind, algorithm, octets = content
         if kind == ENCRYPTED_DATA:
-            name, salt, count = algorithm
-            if name != TRIPLE_DES:
-                raise Refused("Unsupported")
-            if count == 0:
-                raise Refused("ZeroIterations")
-            # The key takes two blocks of the derivation, the initial vector one.
-            self.share(3 * count)
-            if octets and len(octets) % 8 == 0:
-                self.steps += 3 * count
-            octets = unlock(self.password, salt, count, octets)
-            if octets is None:
-                raise Refused("DecryptFailed")
+            octets = self.unlock(algorithm, octets)
         elif kind != DATA:
             raise Refused("Unsupported")
         try:
@@ -399,18 +447,23 @@ class Opening:
             raise Refused("ContentMalformed") from None
 
 
-def answer(store, password, limit):
-    """(status, steps, certificates): what the program has to answer, where there is enough memory."""
+def answer(store, password, limit, drawn=None):
+    """(status, steps, certificates, keys): what the program has to answer, where there is enough memory.
+
+    The keys are in their canonical encoding. They are sealed under the octets `drawn`, where a second line of the input gives them.
+    """
     opening = Opening(password, limit)
     try:
-        certificates = opening.certificates(store)
+        certificates, keys = opening.open(store)
+        if drawn is not None and len(drawn) < 32 * len(keys):
+            raise Refused("Rng")
     except Refused as refusal:
-        return refusal.args[0], opening.steps, []
-    return "Done", opening.steps, certificates
+        return refusal.args[0], opening.steps, [], []
+    return "Done", opening.steps, certificates, keys
 
 
 def main():
-    parser = argparse.ArgumentParser(description="reads a PKCS#12 store and prints its certificates")
+    parser = argparse.ArgumentParser(description="reads a PKCS#12 store and prints its certificates and private keys")
     parser.add_argument("store")
     parser.add_argument("--password-file", required=True, help="the password is the first line of this file")
     parser.add_argument("--limit", type=int, default=100_000_000, help="the most steps")
@@ -419,13 +472,15 @@ def main():
         store = file.read()
     with open(arguments.password_file, encoding="utf-8") as file:
         password = file.readline().rstrip("\n")
-    status, steps, certificates = answer(store, password, arguments.limit)
+    status, steps, certificates, keys = answer(store, password, arguments.limit)
     print(f"steps: {steps}", file=sys.stderr)
     if status != "Done":
         print(f"error: {status}")
         return 1
     for certificate in certificates:
         print(f"cert {certificate.hex()}")
+    for key in keys:
+        print(f"key {key.hex()}")
     return 0
 
 

@@ -1,10 +1,12 @@
 #!/bin/sh
-# Runs ./transfer on every store of examples/ and compares what it writes, octet for octet, with the certificates that went in.
+# Runs ./transfer on every store of examples/ and compares what it writes, octet for octet, with the certificates that went in; and what
+# the documents of private keys open to, by OpenSSL, with the keys that went in.
 # Prints `ok NAME` or `not ok NAME` for each, and ends with 1 where one differs.
 set -eu
 
 home=$(cd "$(dirname "$0")/.." && pwd)
 examples=$home/examples
+new_password=$examples/openssl-key/new-password
 work=$(mktemp -d)
 trap 'rm -rf "$work"' EXIT
 failed=0
@@ -18,10 +20,17 @@ report() {
     fi
 }
 
+# The files of the folder $1 of which the further words hold, by name.
+files() (
+    cd "$1"
+    shift
+    find . -maxdepth 1 -type f "$@" | sort
+)
+
 # The certificates expected stand in the folder $1, those written in $2: the same names, the same octets.
 same_certificates() {
-    (cd "$1" && ls cert-*.der) >"$work/expected"
-    (cd "$2" && ls) >"$work/found"
+    files "$1" -name 'cert-*.der' >"$work/expected"
+    files "$2" ! -name 'key-*.der' >"$work/found"
     cmp -s "$work/expected" "$work/found" || return 1
     while read -r file; do
         cmp "$1/$file" "$2/$file" >&2 || return 1
@@ -31,17 +40,28 @@ same_certificates() {
 # Each certificate written is one that openssl reads, where openssl is there.
 openssl_reads() {
     command -v openssl >/dev/null || return 0
-    for file in "$1"/*.der; do
+    for file in "$1"/cert-*.der; do
         openssl x509 -inform DER -in "$file" -noout || return 1
     done
 }
 
-# Opens the store $2 with the password file $3, and compares with the certificates of the folder $4.
+# The private keys expected stand in the folder $1, documents of them in $2: as many, and each opens to its key, where openssl is there.
+same_keys() {
+    files "$1" -name 'key-*.der' >"$work/expected"
+    files "$2" -name 'key-*.der' >"$work/found"
+    cmp -s "$work/expected" "$work/found" || return 1
+    command -v openssl >/dev/null || return 0
+    while read -r file; do
+        openssl pkcs8 -topk8 -nocrypt -inform DER -in "$2/$file" -passin "file:$new_password" -outform DER | cmp "$1/$file" - >&2 || return 1
+    done <"$work/expected"
+}
+
+# Opens the store $2 with the password file $3, and compares with the certificates and the private keys of the folder $4.
 opens() {
     out=$work/$1
     good=no
-    if "$home/transfer" --password-file "$3" "$2" "$out" >"$work/written" 2>"$work/told"; then
-        if same_certificates "$4" "$out" && openssl_reads "$out"; then
+    if "$home/transfer" --password-file "$3" --new-password-file "$new_password" --rounds 2048 "$2" "$out" >"$work/written" 2>"$work/told"; then
+        if same_certificates "$4" "$out" && openssl_reads "$out" && same_keys "$4" "$out"; then
             good=yes
         fi
     else
@@ -72,7 +92,7 @@ for folder in "$examples"/*/; do
 done
 
 # The work of each store is the limit that just suffices (examples/README.md).
-for pair in openssl:8192 openssl-unicode:8192 keytool:8192 gnutls:4200000; do
+for pair in openssl:8192 openssl-unicode:8192 keytool:8192 gnutls:4200000 openssl-key:14336; do
     folder=$examples/${pair%:*}
     steps=${pair#*:}
     refuses "${pair%:*}-limit-too-low" "$folder/store.p12" "$folder/password" WorkLimit --limit "$((steps - 1))"

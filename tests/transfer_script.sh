@@ -23,6 +23,20 @@ if command -v openssl >/dev/null; then
     done
 fi
 
+# A new password that is asked for, twice: where the store has a key, and both times it is the same.
+printf 'one\none\n' >"$work/answers"
+"$home/transfer" "$home/examples/openssl-key/store.p12" "$work/keys" --password-file "$home/examples/openssl-key/password" --rounds 1 <"$work/answers" >/dev/null 2>"$work/told" ||
+    fail "a store with a key was refused"
+[ -s "$work/keys/key-0.der" ] || fail "there is no document of the key"
+if command -v openssl >/dev/null; then
+    openssl pkcs8 -topk8 -nocrypt -inform DER -in "$work/keys/key-0.der" -passin pass:one -outform DER | cmp "$home/examples/openssl-key/key-0.der" - || fail "the document opens to another key"
+fi
+printf 'one\nother\n' >"$work/answers"
+if "$home/transfer" "$home/examples/openssl-key/store.p12" "$work/none" --password-file "$home/examples/openssl-key/password" <"$work/answers" >/dev/null 2>"$work/told"; then
+    fail "two new passwords that differ are taken"
+fi
+[ ! -e "$work/none" ] || fail "new passwords that differ leave a folder"
+
 # A wrong password: the status, what it means, and no certificate.
 echo wrong >"$work/password"
 status=0

@@ -2,7 +2,7 @@
 """Makes damaged_stores.txt: variants of one small sealed store, each with the answer that is due.
 
 The store has one certificate, the two octets `3000`, in a content under Triple DES of count 2, and a MAC of count 1; its password
-is `p`. The due answers are written here by hand. The independent reader `tests/read_store.py` has to agree with each, or nothing
+is `p`. Some have a private key beside it, under Triple DES of count 2. The due answers are written here by hand. The independent reader `tests/read_store.py` has to agree with each, or nothing
 is written. `tests/vectors/damaged_stores_openssl.sh` asks OpenSSL about the stores that it judges by the same rules.
 
     tests/vectors/damaged_stores.py >tests/vectors/damaged_stores.txt
@@ -35,12 +35,15 @@ CONTENTS = make.sequence(CONTENT)
 STORE = make.store_with_mac(CONTENTS, PASSWORD, MAC_SALT, MAC_COUNT)
 MAC = make.mac_data(read.mac_of(PASSWORD, MAC_SALT, MAC_COUNT, CONTENTS), MAC_SALT, MAC_COUNT)
 
-SHROUDED_KEY_BAG = make.sequence(
-    make.identifier(read.SHROUDED_KEY_BAG),
-    make.context(0, make.sequence(make.scheme(CONTENT_SALT, COUNT), make.octet_string(CIPHERTEXT))),
-)
 # The private key of RFC 8410 section 10.3.
 ED25519_KEY = bytes.fromhex("302e020100300506032b657004220420d4ee72dbf913584ad5b6d8f1f769f8ad3afe7c28cbf1d4fbe097a88f44755842")
+# The same with its public key and with attributes, as that section has it.
+ED25519_PUBLIC = bytes.fromhex("19bf44096984cdfe8541bac167dc3b96c85086aa30b6b6cb0c5c38ad703166e1")
+KEY_SALT = bytes([9, 8, 7, 6, 5, 4, 3, 2])
+KEY_BAG = make.sealed_key(ED25519_KEY, PASSWORD, KEY_SALT, COUNT)
+# Octets for two documents, which a second line of the input gives.
+DRAWN = bytes(range(0xA0, 0xE0))
+NEW_PASSWORD, ROUNDS = b"new", 3
 SHA256 = "2.16.840.1.101.3.4.2.1"
 PBES2 = "1.2.840.113549.1.5.13"
 SECRET_BAG = "1.2.840.113549.1.12.10.1.5"
@@ -50,13 +53,21 @@ ENVELOPED_DATA = "1.2.840.113549.1.7.3"
 rows = []
 
 
-def row(name, store, status, steps, certificates=(), password=PASSWORD, limit=MOST):
-    found = read.answer(store, password, limit)
-    due = (status, steps, list(certificates))
+def row(name, store, status, steps, certificates=(), documents=(), password=PASSWORD, limit=MOST, drawn=None):
+    answered, taken, given, keys = read.answer(store, password, limit, drawn)
+    found = (answered, taken, given, [document(key, at) for at, key in enumerate(keys)])
+    due = (status, steps, list(certificates), list(documents))
     if found != due:
         sys.exit(f"{name}: due is {due}, the reader answers {found}")
     listed = ",".join(certificate.hex() for certificate in certificates) or "-"
-    rows.append(f"{name} {password} {limit} {status} {steps} {listed} {store.hex()}")
+    sealed = ",".join(document.hex() for document in documents) or "-"
+    line = "-" if drawn is None else drawn.hex() or "empty"
+    rows.append(f"{name} {password} {limit} {status} {steps} {listed} {sealed} {line} {store.hex()}")
+
+
+def document(key, at=0):
+    """The document of a key, of which so many others stand before it."""
+    return make.sealed_document(key, NEW_PASSWORD, ROUNDS, DRAWN[32 * at :])
 
 
 def flipped(octets, at, bit=0):
@@ -209,12 +220,10 @@ def other_contents():
     enveloped = make.sequence(make.identifier(ENVELOPED_DATA), make.context(0, make.sequence()))
     row("content_enveloped", with_content(enveloped), "Unsupported", 1)
     row("content_enveloped_behind", with_mac(make.sequence(CONTENT, enveloped)), "Unsupported", WORK)
-    key = make.data(make.sequence(SHROUDED_KEY_BAG))
-    row("shrouded_key_before", with_mac(make.sequence(key, CONTENT)), "Unsupported", WORK)
-    row("shrouded_key_behind", with_mac(make.sequence(CONTENT, key)), "Unsupported", WORK)
     failing = make.encrypted_data(make.scheme(CONTENT_SALT, COUNT), b"")
+    key = make.data(make.sequence(KEY_BAG))
     # Contents are opened before keys are looked at.
-    row("shrouded_key_before_a_failing_content", with_mac(make.sequence(key, failing)), "DecryptFailed", 1)
+    row("key_before_a_failing_content", with_mac(make.sequence(key, failing)), "DecryptFailed", 1, drawn=DRAWN)
     # The first content that has a fault decides.
     zero = with_scheme(make.scheme(CONTENT_SALT, 0))
     row("two_faults", with_mac(make.sequence(failing, zero)), "DecryptFailed", 1)
@@ -299,10 +308,87 @@ def other_texts():
     row("part_behind_the_mac", make.sequence(make.number(3), make.data(CONTENTS), MAC, make.NULL), "Malformed", 0)
 
 
+def with_keys(*bags):
+    """The sealed content, and the bags in a content that is not encrypted."""
+    return with_mac(make.sequence(CONTENT, make.data(make.sequence(*bags))))
+
+
+def keys():
+    work = WORK + 3 * COUNT
+    row("key", with_keys(KEY_BAG), "Done", work, [CERTIFICATE], [document(ED25519_KEY)], drawn=DRAWN)
+    row("key_in_front", with_mac(make.sequence(make.data(make.sequence(KEY_BAG)), CONTENT)), "Done", work, [CERTIFICATE], [document(ED25519_KEY)], drawn=DRAWN)
+    row("key_limit_reached", with_keys(KEY_BAG), "Done", work, [CERTIFICATE], [document(ED25519_KEY)], limit=work, drawn=DRAWN)
+    row("key_limit_passed", with_keys(KEY_BAG), "WorkLimit", WORK, limit=work - 1, drawn=DRAWN)
+    two = with_keys(KEY_BAG, make.sealed_key(ED25519_KEY, PASSWORD, CONTENT_SALT, COUNT))
+    documents = [document(ED25519_KEY), document(ED25519_KEY, 1)]
+    row("two_keys", two, "Done", work + 3 * COUNT, [CERTIFICATE], documents, drawn=DRAWN)
+    # 32 octets are drawn for each key.
+    row("two_keys_63_drawn", two, "Rng", work + 3 * COUNT, drawn=DRAWN[:63])
+    row("key_31_drawn", with_keys(KEY_BAG), "Rng", work, drawn=DRAWN[:31])
+    row("key_none_drawn", with_keys(KEY_BAG), "Rng", work, drawn=b"")
+    row("no_key_none_drawn", STORE, "Done", WORK, [CERTIFICATE], drawn=b"")
+    key_faults(work)
+    key_texts(work)
+
+
+def key_faults(work):
+    rc2 = make.key_bag(make.scheme(KEY_SALT, COUNT, read.RC2_40), CIPHERTEXT)
+    row("key_under_rc2", with_keys(rc2), "Unsupported", WORK, drawn=DRAWN)
+    zero = make.key_bag(make.scheme(KEY_SALT, 0), CIPHERTEXT)
+    row("key_count_0", with_keys(zero), "ZeroIterations", WORK, drawn=DRAWN)
+    row("key_empty", with_keys(make.key_bag(make.scheme(KEY_SALT, COUNT), b"")), "DecryptFailed", WORK, drawn=DRAWN)
+    row("key_of_7_octets", with_keys(make.key_bag(make.scheme(KEY_SALT, COUNT), bytes(7))), "DecryptFailed", WORK, drawn=DRAWN)
+    unpadded = make.encrypt(PASSWORD, KEY_SALT, COUNT, bytes(7) + b"\x09")
+    row("key_ends_in_09", with_keys(make.key_bag(make.scheme(KEY_SALT, COUNT), unpadded)), "DecryptFailed", work, drawn=DRAWN)
+    # The first key that has a fault decides, and before the draw.
+    row("key_before_a_faulty_one", with_keys(KEY_BAG, rc2), "Unsupported", work, drawn=b"")
+    row("two_faulty_keys", with_keys(zero, rc2), "ZeroIterations", WORK, drawn=DRAWN)
+
+
+def key_texts(work):
+    """Private keys in several spellings, and texts that are none."""
+
+    def text(*parts):
+        return make.sequence(*parts)
+
+    zero, one = make.number(0), make.number(1)
+    algorithm = make.sequence(make.identifier("1.3.101.112"))
+    secret = ED25519_KEY[-34:]
+    key = make.octet_string(secret)
+    attributes = make.element(0xA0, make.element(0x30, b""))
+    public = make.element(0x81, b"\0" + ED25519_PUBLIC)
+    further = make.element(0x82, b"\1") + make.element(0xBE, b"")
+
+    def sealed(octets):
+        return with_keys(make.sealed_key(octets, PASSWORD, KEY_SALT, COUNT))
+
+    plain, with_public = text(zero, algorithm, key), text(one, algorithm, key, public)
+    assert plain == ED25519_KEY
+    for name, octets, canonical in [
+        ("key_with_attributes", text(zero, algorithm, key, attributes), plain),
+        ("key_with_public_key", with_public, with_public),
+        ("key_with_both", text(one, algorithm, key, attributes, public), with_public),
+        ("key_with_further_fields", text(one, algorithm, key, public, further), with_public),
+    ]:
+        row(name, sealed(octets), "Done", work, [CERTIFICATE], [document(canonical)], drawn=DRAWN)
+    for name, octets in [
+        ("key_of_version_1_without_public_key", text(one, algorithm, key)),
+        ("key_of_version_0_with_public_key", text(zero, algorithm, key, public)),
+        ("key_of_version_2", text(make.number(2), algorithm, key, public)),
+        ("key_with_public_key_before_attributes", text(one, algorithm, key, public, attributes)),
+        ("key_with_another_element", text(zero, algorithm, key, make.NULL)),
+        ("key_with_an_octet_behind", plain + b"\0"),
+        ("key_of_no_octets", b""),
+        ("key_that_is_a_certificate", CERTIFICATE),
+    ]:
+        row(name, sealed(octets), "KeyMalformed", work, drawn=DRAWN)
+
+
 HEAD = """\
 # Variants of a small sealed store, and the answer that is due to each. Made by damaged_stores.py, which says how.
-# name password limit status steps certificates store
-# Steps are the SHA-1 digests of the derivation; certificates and store are in hexadecimal, `-` where there is none.
+# name password limit status steps certificates documents line store
+# Steps are the SHA-1 digests of the derivation; certificates, documents, the second line and the store are in hexadecimal, `-` where
+# there is none. The documents are under the new password `new` with 3 rounds.
 # `old_mac` has the MAC of the sound store, `new_mac` one of the contents as they are; all other contents have one of their own."""
 
 
@@ -316,6 +402,7 @@ def main():
     other_contents()
     other_bags()
     other_texts()
+    keys()
     print(HEAD)
     print("\n".join(rows))
 

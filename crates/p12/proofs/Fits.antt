@@ -1,7 +1,7 @@
 -- A part of a text is no longer than the whole.
-use Rattle.std.proofs.Common.{◌≡◌, ℕ, zero, suc, ◌≤◌, List, [], ◌∷◌, ◌++◌, length, Option, Some, None, ap, arith, length-append}
+use Rattle.std.proofs.Common.{◌≡◌, ℕ, zero, suc, ◌≤◌, ◌<◌, ◌^◌, List, [], ◌∷◌, ◌++◌, length, Option, Some, None, ap, arith, length-append}
 use Rattle.std.specs.Prelude.{All, IfSome}
-use Rattle.asn1_core.specs.Der.{el, len}
+use Rattle.asn1_core.specs.Der.{IsShort, el, len}
 use Rattle.asn1_core.specs.Texts.{Inside, Many, Raw, Perhaps}
 use Rattle.asn1_core.specs.declared.identifier.ObjectIdentifier.{ObjectIdentifier}
 use Rattle.p12.specs.declared.algorithm_identifier.Pkcs12PbeParams.{Pkcs12PbeParams}
@@ -12,11 +12,17 @@ use Rattle.p12.specs.declared.content_info.ContentInfo.{ContentInfo}
 use Rattle.p12.specs.declared.content_info.ContentInfo.TheVariants as content
 use Rattle.p12.specs.declared.mac_data.MacData.{MacData}
 use Rattle.p12.specs.declared.pfx.PFX.{PFX}
+use Rattle.p12.specs.declared.encrypted_private_key_info.EncryptedPrivateKeyInfo.{EncryptedPrivateKeyInfo}
+use Rattle.p12.specs.declared.safe_bag.SafeBag.{SafeBag}
+use Rattle.p12.specs.declared.safe_bag.SafeBagKind.{SafeBagKind}
+use Rattle.p12.specs.declared.safe_bag.SafeBagKind.TheVariants as kind
 use Rattle.p12.specs.AlgorithmIdentifier.{ParamsText, AlgorithmCase, AlgorithmText, salt_of}
 use Rattle.p12.specs.EncryptedData.{EncryptedDataText}
 use Rattle.p12.specs.ContentInfo.{ContentCase, ContentFits, ContentText, IsContents}
+use Rattle.p12.specs.EncryptedPrivateKeyInfo.{EncryptedKeyText}
 use Rattle.p12.specs.MacData.{MacText}
 use Rattle.p12.specs.Pfx.{IsStore, StoreFits}
+use Rattle.p12.specs.SafeBag.{BagFits, BagText, IsBags, KindCase, KindFits}
 
 abbrev Fits : List ℕ → List ℕ → Type 0
 Fits x b = length x ≤ length b
@@ -98,6 +104,43 @@ all_fit n b (c ∷ cs) h (p, q, r, m, e) =
 pub contents_fit : (b : List ℕ) (cs : List ContentInfo) → IsContents b cs → All (ContentFits (length b)) cs
 unfolding IsContents
 contents_fit b cs p = let r = p.0 in all_fit (length b) r.0 cs (value_fits 0x30 r.0 b r.2) r.1
+
+-- ---- bags
+
+key_fits : (b : List ℕ) (e : EncryptedPrivateKeyInfo) → EncryptedKeyText b e → Fits e.encrypted_data b × Fits (salt_of e.encryption_algorithm) b
+key_fits b e r =
+    let algorithm = r.1 in
+    let text = algorithm.3 in
+    let whole = value_fits 0x30 r.0 b r.2 in (
+      through _ _ _ (inside_fits 0x04 text.0 _ text.2) (through _ _ _ (left_fits text.0 text.1 algorithm.1 text.4) (through _ _ _ (right_fits algorithm.0 algorithm.1 r.0 algorithm.4) whole)),
+      through _ _ _ (salt_fits algorithm.0 _ algorithm.2) (through _ _ _ (left_fits algorithm.0 algorithm.1 r.0 algorithm.4) whole),
+    )
+
+kind_fits : (k : ObjectIdentifier) (q : List ℕ) (v : SafeBagKind) → length q < 2 ^ 32 → KindCase k q v → KindFits v
+kind_fits k q (kind.CertBag c) h r = tt
+kind_fits k q (kind.Pkcs8ShroudedKeyBag e) h r = let f = key_fits q e r.1 in (omega (arith, h, f.0), omega (arith, h, f.1))
+kind_fits k q (kind.OtherBagKind o) h r = tt
+
+bag_fits : (b : List ℕ) (g : SafeBag) → length b < 2 ^ 32 → BagText b g → BagFits g
+bag_fits b g h r =
+    let on = r.1 in
+    let f = on.4 in
+    let w = f.2 in
+    let to_value = through _ _ _ (right_fits on.0 on.1 r.0 on.5) (value_fits 0x30 r.0 b r.2) in
+    let to_kind = through _ _ _ (value_fits 0xa0 w.0 f.0 w.2) (through _ _ _ (left_fits f.0 f.1 on.1 f.4) to_value) in
+    kind_fits on.2 w.0 g.bag (omega (arith, h, to_kind)) w.1
+
+bag_first : (g : SafeBag) (gs : List SafeBag) → BagFits g → All BagFits gs → All BagFits (g ∷ gs)
+bag_first g gs f h zero d lt = f
+bag_first g gs f h (suc k) d lt = h k d (omega (arith, lt))
+
+all_bags_fit : (b : List ℕ) (gs : List SafeBag) → length b < 2 ^ 32 → Many BagText b gs → All BagFits gs
+all_bags_fit b [] h m = λ k d lt. absurd (omega (arith, lt))
+all_bags_fit b (g ∷ gs) h (p, q, r, m, e) = bag_first g gs (bag_fits p g (omega (arith, h, left_fits p q b e)) r) (all_bags_fit q gs (omega (arith, h, right_fits p q b e)) m)
+
+pub bags_fit : (b : List ℕ) (gs : List SafeBag) → IsBags b gs → All BagFits gs
+unfolding IsBags
+bags_fit b gs p = let r = p.0 in all_bags_fit r.0 gs (omega (arith, p.1, value_fits 0x30 r.0 b r.2)) r.1
 
 -- ---- stores
 

@@ -17,7 +17,7 @@ use Rattle.p12.specs.AlgorithmIdentifier.{IsOpened, cost, is_blocks, taken, unlo
 use Rattle.p12.specs.ContentInfo.{ContentFits, ContentText, IsContents}
 use Rattle.p12.specs.Password.{bmp_password, units_of_char}
 use Rattle.p12.specs.Pfx.{IsStore, PfxText, StoreFits}
-use Rattle.p12.specs.SafeBag.{BagText, IsBags}
+use Rattle.p12.specs.SafeBag.{BagFits, BagText, IsBags}
 use Rattle.p12.proofs.BagRows.{bags-exact}
 use Rattle.p12.proofs.ContentRows.{contents-exact, pfx-exact}
 use Rattle.p12.proofs.Fits as fits
@@ -43,6 +43,9 @@ store_fits b s p = fits.store_fits b s p
 
 pub contents_fit : (b : List ℕ) (cs : List ContentInfo) → IsContents b cs → All (ContentFits (length b)) cs
 contents_fit b cs p = fits.contents_fit b cs p
+
+pub bags_fit : (b : List ℕ) (gs : List SafeBag) → IsBags b gs → All BagFits gs
+bags_fit b gs p = fits.bags_fit b gs p
 
 -- ---- opening a text
 

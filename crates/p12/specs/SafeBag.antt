@@ -1,11 +1,12 @@
 -- Bags (RFC 7292 section 4.2).
-use Rattle.std.specs.Prelude.{◌≡◌, ◌≢◌, ℕ, List, [], ◌∷◌, Option, Some, None}
+use Rattle.std.specs.Prelude.{◌≡◌, ◌≢◌, ℕ, ◌<◌, ◌^◌, List, [], ◌∷◌, length, Option, Some, None, ⊤}
 use Rattle.asn1_core.specs.Texts.{On, Within, Many, Raw, Oid}
 use Rattle.asn1_core.specs.Fields.{Field, End, Sequence}
 use Rattle.asn1_core.specs.Oid.{oid_octets}
 use Rattle.asn1_core.specs.declared.identifier.ObjectIdentifier.{ObjectIdentifier}
 use Rattle.asn1_core.specs.Der.{IsShort, IsElement}
 use Rattle.p12.specs.Identifiers.{cert_bag_oid, shrouded_key_bag_oid}
+use Rattle.p12.specs.AlgorithmIdentifier.{salt_of, unlock_pbe}
 use Rattle.p12.specs.CertBag.{CertBagText}
 use Rattle.p12.specs.EncryptedPrivateKeyInfo.{EncryptedKeyText}
 use Rattle.p12.specs.Attribute.{AttributesText}
@@ -52,6 +53,21 @@ x509_of (kind.CertBag (cert.X509 v)) = Some v
 x509_of (kind.CertBag (cert.SDSI t)) = None
 x509_of (kind.Pkcs8ShroudedKeyBag e) = None
 x509_of (kind.OtherBagKind o) = None
+
+-- the plain octets of an encrypted key under a password in UTF-16
+abbrev pub key_of : SafeBagKind → List ℕ → Option (List ℕ)
+key_of (kind.CertBag c) q = None
+key_of (kind.Pkcs8ShroudedKeyBag e) q = unlock_pbe e.encryption_algorithm q e.encrypted_data
+key_of (kind.OtherBagKind o) q = None
+
+-- an encrypted key has fewer than 2 ^ 32 octets, and so has its salt
+abbrev pub KindFits : SafeBagKind → Type 0
+KindFits (kind.CertBag c) = ⊤
+KindFits (kind.Pkcs8ShroudedKeyBag e) = (length e.encrypted_data < 2 ^ 32) × (length (salt_of e.encryption_algorithm) < 2 ^ 32)
+KindFits (kind.OtherBagKind o) = ⊤
+
+abbrev pub BagFits : SafeBag → Type 0
+BagFits g = KindFits g.bag
 
 -- the text of an SDSI certificate
 abbrev pub sdsi_of : SafeBagKind → Option (List ℕ)

@@ -1,6 +1,7 @@
 //! Encrypted private keys of a store.
-ghost use Rattle.std.specs.Prelude.{◌≡◌, ◌<◌, length, OnOk, IfOk, IfErr};
+ghost use Rattle.std.specs.Prelude.{◌≡◌, ◌<◌, ◌^◌, length, OnOk, IfOk, IfErr};
 ghost use Rattle.asn1_core.specs.Gives.{ReadsIn, GivesIn};
+ghost use Rattle.p12.specs.AlgorithmIdentifier.{salt_of, unlock_pbe};
 ghost use Rattle.p12.specs.EncryptedPrivateKeyInfo.{EncryptedKeyText};
 ghost use Rattle.p12.specs.Error.{Reads};
 ghost use Rattle.p12.specs.Reading.{encrypted_key_at};
@@ -60,5 +61,22 @@ impl EncryptedPrivateKeyInfo {
             encryption_algorithm: self.encryption_algorithm.try_clone(alloc)?,
             encrypted_data: self.encrypted_data.try_clone(alloc)?,
         })
+    }
+}
+
+impl EncryptedPrivateKeyInfo {
+    /// The plain octets under a password, which comes as `bmp_string` gives it; None exactly where `decrypt_pbe` gives none. The
+    /// only refusal is `Memory`.
+    ///
+    /// Caller: the encrypted octets are fewer than 2^32, password and salt fewer than 2^59 each.
+    pub fn decrypt(&self, alloc: Global, password: &[u8]) -> Result<Option<Octets>, Error>
+        requires text { length self.now.encrypted_data < 2 ^ 32 }
+        requires salt { length (salt_of self.now.encryption_algorithm) < 2 ^ 59 }
+        requires password { length password.now < 2 ^ 59 }
+        ensures value { IfOk result (λ m. m ≡ unlock_pbe self.now.encryption_algorithm password.now self.now.encrypted_data) }
+        ensures err { IfErr result (λ e. e ≡ Error.Memory) }
+    {
+        let algorithm = &self.encryption_algorithm;
+        algorithm.decrypt_pbe(alloc, self.encrypted_data.as_slice(), password)
     }
 }

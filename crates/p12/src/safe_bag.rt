@@ -1,8 +1,8 @@
 //! Bags.
-ghost use Rattle.std.specs.Prelude.{◌≡◌, ◌<◌, length, OnOk, IfOk, IfErr};
+ghost use Rattle.std.specs.Prelude.{◌≡◌, ◌<◌, ◌^◌, length, OnOk, IfOk, IfErr};
 ghost use Rattle.asn1_core.specs.Gives.{ReadsIn, GivesIn};
 ghost use Rattle.asn1_core.specs.Reading.{many, whole};
-ghost use Rattle.p12.specs.SafeBag.{BagText, KindText, kind_oid, x509_of, sdsi_of, first_name, first_key_id, IsBags, NoBags};
+ghost use Rattle.p12.specs.SafeBag.{BagText, KindText, kind_oid, KindFits, key_of, x509_of, sdsi_of, first_name, first_key_id, IsBags, NoBags};
 ghost use Rattle.p12.specs.Error.{MalformedOnly, Reads};
 ghost use Rattle.p12.specs.Reading.{cert_kind_all, shrouded_all, other_kind_all, kind_all, kind_at, bag_at, bags_at};
 ghost use Rattle.asn1_core.specs.Oid.{oid_octets};
@@ -267,6 +267,22 @@ impl SafeBagKind {
         match self {
             SafeBagKind::CertBag(CertBag::SDSI(text)) => Ok(Some(text.try_clone(alloc)?)),
             _ => Ok(None),
+        }
+    }
+
+    /// The plain octets of an encrypted key under a password, which comes as `bmp_string` gives it. None exactly for another bag,
+    /// and where `decrypt_pbe` gives none. The only refusal is `Memory`.
+    ///
+    /// Caller: an encrypted key and its salt have fewer than 2^32 octets each, the password fewer than 2^59.
+    pub fn get_key(&self, alloc: Global, password: &[u8]) -> Result<Option<Octets>, Error>
+        requires fits { KindFits self.now }
+        requires password { length password.now < 2 ^ 59 }
+        ensures value { IfOk result (λ m. m ≡ key_of self.now password.now) }
+        ensures err { IfErr result (λ e. e ≡ Error.Memory) }
+    {
+        match self {
+            SafeBagKind::Pkcs8ShroudedKeyBag(key) => key.decrypt(alloc, password),
+            SafeBagKind::CertBag(_) | SafeBagKind::OtherBagKind(_) => Ok(None),
         }
     }
 }

@@ -4,7 +4,7 @@ use crate::{
     AlgorithmIdentifier, CertBag, ContentInfo, Error, MacData, PFX, PKCS12Attribute, SafeBag,
     SafeBagKind, bmp_string, pbepkcs12sha1,
 };
-use asn1_core::{Octets, Reader, SliceReader};
+use asn1_core::{ObjectIdentifier, Octets, Reader, SliceReader};
 use std::alloc::Global;
 use std::process::Abort;
 
@@ -135,6 +135,39 @@ fn a_sealed_content_opens(rt: HostRuntime) {
         .decrypt_pbe(alloc, &[0; 8], password.as_slice())
         .expect(&rt, "memory");
     assert!(rt; unpadded.is_none());
+}
+
+/// A private key of OpenSSL, and its EncryptedPrivateKeyInfo under the password `p` (`openssl pkcs8 -topk8 -v1 PBE-SHA1-3DES -iter 1`).
+const KEY: &str =
+    "302e020100300506032b657004220420345010423a87c011c2561f623f4e8132590ac54b0c4be3284db6fcb9c534ff85";
+
+const ENCRYPTED_KEY: &str =
+    "3057301b060a2a864886f70d010c0103300d040826e01ce8a9fe34830201010438b6304f1cddfcdac1698fd1e0f2444ff5bc3b33db6525c7eb41131244e0b9b3df54b3dc4b06034c597d2283735570af9d5ce5c2e18adf3cb8";
+
+#[test]
+fn an_encrypted_key_opens(rt: HostRuntime) {
+    let alloc = rt.alloc();
+    let identifier = octets(&rt, alloc, "2a864886f70d010c0a0102");
+    let identifier = ObjectIdentifier::from_bytes(&identifier).expect(&rt, "an identifier");
+    let text = octets(&rt, alloc, ENCRYPTED_KEY);
+    let mut r = SliceReader::new(&text);
+    let bag = SafeBagKind::parse(alloc, &mut r, identifier).expect(&rt, "a bag");
+    let SafeBagKind::Pkcs8ShroudedKeyBag(key) = &bag else {
+        panic!(rt; "another variant");
+    };
+    let AlgorithmIdentifier::PbeWithSHAAnd3KeyTripleDESCBC(params) = &key.encryption_algorithm
+    else {
+        panic!(rt; "another variant");
+    };
+    assert!(rt; params.salt.len() == 8 && key.encrypted_data.len() == 56);
+    let password = bmp_string(alloc, "p").expect(&rt, "memory");
+    assert!(rt; password.len() == 4);
+    let plain = bag
+        .get_key(alloc, password.as_slice())
+        .expect(&rt, "memory");
+    assert!(rt; is(&plain.expect(&rt, "a key"), &rt, alloc, KEY));
+    let other = key.decrypt(alloc, &[0, 0]).expect(&rt, "memory");
+    assert!(rt; other.is_none());
 }
 
 #[test]

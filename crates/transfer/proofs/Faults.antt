@@ -1,13 +1,17 @@
 -- Faults of parts in their order.
 use Rattle.std.proofs.Common.{ℕ, ◌≡◌, ◌+◌, ◌≤◌, ◌<◌, List, [], ◌∷◌, ◌++◌, length, refl, sym, ap, ◌∙◌, arith, subst, Bool, true, false, inr, take, drop, get_or}
 use Rattle.std.specs.Prelude.{Option, Some, None}
-use Rattle.std.specs.List.{sum_by}
-use Rattle.std.proofs.lemmas.List.{take_more, append_assoc, take-append-drop}
+use Rattle.std.specs.List.{flat_map, sum_by}
+use Rattle.std.proofs.lemmas.List.{take_more, append_assoc, append-nil, take-append-drop}
+use Rattle.std.proofs.lemmas.Grind.{flat_map-append}
 use Rattle.std.proofs.lemmas.List.Sums.{sum_by-append}
 use Rattle.p12.specs.declared.algorithm_identifier.AlgorithmIdentifier.{AlgorithmIdentifier}
 use Rattle.p12.specs.declared.content_info.ContentInfo.{ContentInfo}
 use Rattle.p12.specs.declared.content_info.ContentInfo.TheVariants as content
 use Rattle.p12.specs.declared.encrypted_data.EncryptedData.{EncryptedData}
+use Rattle.p12.specs.declared.encrypted_private_key_info.EncryptedPrivateKeyInfo.{EncryptedPrivateKeyInfo}
+use Rattle.p12.specs.declared.safe_bag.SafeBagKind.{SafeBagKind}
+use Rattle.p12.specs.declared.safe_bag.SafeBagKind.TheVariants as bag
 use Rattle.p12.specs.declared.error.Error.{Error}
 use Rattle.p12.specs.declared.error.Error.TheVariants as errors
 use Rattle.p12.specs.AlgorithmIdentifier.{cost, unlock}
@@ -15,33 +19,38 @@ use Rattle.p12.specs.Error.{MalformedOnly}
 use Rattle.p12.specs.SafeBag.{NoBags}
 use Rattle.p12.proofs.Laws.{unlock_opened}
 use Rattle.transfer.specs.declared.error.TransferError.{TransferError}
-use Rattle.transfer.specs.declared.error.TransferError.TheVariants.{TooLong, Malformed, Unsupported, MacMissing, MacUnsupported, ZeroIterations, WorkLimit, MacMismatch, ContentMalformed, DecryptFailed, Memory}
+use Rattle.transfer.specs.declared.error.TransferError.TheVariants.{TooLong, Malformed, Unsupported, MacMissing, MacUnsupported, ZeroIterations, WorkLimit, MacMismatch, ContentMalformed, DecryptFailed, KeyMalformed, Rng, Memory}
 use Rattle.transfer.specs.TransferError.{RefusedBy}
-use Rattle.transfer.specs.Parts.{AreOpen, IsFirstFault, Kind}
-use Rattle.transfer.specs.Opening.{ContentFault, LockFault, Stops}
+use Rattle.transfer.specs.Parts.{AreOpen, IsFirstFault, Kind, OpensMore}
+use Rattle.transfer.specs.Opening.{ContentFault, KeyFault, LockFault, NoKeyText, Stops, of_keys, shrouded_in}
 use Rattle.transfer.proofs.Lists.{each_append}
 
 -- ---- Causes
 
-pub refused_as : (P Q : TransferError → Type 0) → ((e : TransferError) → P e → Q e) → (e : TransferError) → RefusedBy P e → RefusedBy Q e
-refused_as P Q f TooLong h = f _ h
-refused_as P Q f Malformed h = f _ h
-refused_as P Q f Unsupported h = f _ h
-refused_as P Q f MacMissing h = f _ h
-refused_as P Q f MacUnsupported h = f _ h
-refused_as P Q f ZeroIterations h = f _ h
-refused_as P Q f WorkLimit h = f _ h
-refused_as P Q f MacMismatch h = f _ h
-refused_as P Q f ContentMalformed h = f _ h
-refused_as P Q f DecryptFailed h = f _ h
-refused_as P Q f Memory h = tt
+-- A refusal under other causes.
+pub refused_as : (P Q : TransferError → Type 0) (R S : Type 0) → ((e : TransferError) → P e → Q e) → (R → S) → (e : TransferError) → RefusedBy P R e → RefusedBy Q S e
+refused_as P Q R S f g TooLong h = f _ h
+refused_as P Q R S f g Malformed h = f _ h
+refused_as P Q R S f g Unsupported h = f _ h
+refused_as P Q R S f g MacMissing h = f _ h
+refused_as P Q R S f g MacUnsupported h = f _ h
+refused_as P Q R S f g ZeroIterations h = f _ h
+refused_as P Q R S f g WorkLimit h = f _ h
+refused_as P Q R S f g MacMismatch h = f _ h
+refused_as P Q R S f g ContentMalformed h = f _ h
+refused_as P Q R S f g DecryptFailed h = f _ h
+refused_as P Q R S f g KeyMalformed h = f _ h
+refused_as P Q R S f g Rng h = g h
+refused_as P Q R S f g Memory h = tt
 
 -- A cause behind k more steps.
 pub stops : (F G : TransferError → ℕ → Type 0) (old mid new k : ℕ) → mid ≡ old + k → ((e : TransferError) (n : ℕ) → F e n → G e (k + n)) → (e : TransferError) → Stops F mid new e → Stops G old new e
-stops F G old mid new k is f e h = refused_as (λ e. (n : ℕ) × F e n × (new ≡ mid + n)) (λ e. (n : ℕ) × G e n × (new ≡ old + n)) (λ e h. (k + h.0, f e h.0 h.1, omega (arith, is, h.2))) e h
+stops F G old mid new k is f e h =
+    refused_as (λ e. (n : ℕ) × F e n × (new ≡ mid + n)) (λ e. (n : ℕ) × G e n × (new ≡ old + n)) ⊥ ⊥ (λ e h. (k + h.0, f e h.0 h.1, omega (arith, is, h.2))) (λ h. h) e h
 
 pub stops_as : (F G : TransferError → ℕ → Type 0) (old new : ℕ) → ((e : TransferError) (n : ℕ) → F e n → G e n) → (e : TransferError) → Stops F old new e → Stops G old new e
-stops_as F G old new f e h = refused_as (λ e. (n : ℕ) × F e n × (new ≡ old + n)) (λ e. (n : ℕ) × G e n × (new ≡ old + n)) (λ e h. (h.0, f e h.0 h.1, h.2)) e h
+stops_as F G old new f e h =
+    refused_as (λ e. (n : ℕ) × F e n × (new ≡ old + n)) (λ e. (n : ℕ) × G e n × (new ≡ old + n)) ⊥ ⊥ (λ e h. (h.0, f e h.0 h.1, h.2)) (λ h. h) e h
 
 pub malformed_only : (e : Error) (P : Type 0) → e ≡ errors.Malformed → MalformedOnly e P → P
 malformed_only e P is h = subst (λ e. MalformedOnly e P) is h
@@ -70,9 +79,15 @@ content_bad p limit sum c d m is opens le bad =
     let a = d.encrypted_content_info.content_encryption_algorithm in
     subst P (sym is) (lock_holds p limit sum a d.encrypted_content_info.encrypted_content (λ m e n. NoBags m × (e ≡ ContentMalformed) × (n ≡ cost a)) m ContentMalformed (cost a) opens le (bad, refl, refl))
 
+pub key_bad : (p : List ℕ) (limit sum : ℕ) (k : EncryptedPrivateKeyInfo) (m : List ℕ) → unlock k.encryption_algorithm p k.encrypted_data ≡ Some m
+    → sum + cost k.encryption_algorithm ≤ limit → NoKeyText m → KeyFault p limit sum k KeyMalformed (cost k.encryption_algorithm)
+key_bad p limit sum k m opens le bad =
+    let a = k.encryption_algorithm in
+    lock_holds p limit sum a k.encrypted_data (λ m e n. NoKeyText m × (e ≡ KeyMalformed) × (n ≡ cost a)) m KeyMalformed (cost a) opens le (bad, refl, refl)
+
 -- ---- Parts in a row
 
-take_one : {X : Type 0} (xs : List X) (i : ℕ) (x : X) → i < length xs → x ≡ get_or xs i x → take (i + 1) xs ≡ take i xs ++ x ∷ []
+pub take_one : {X : Type 0} (xs : List X) (i : ℕ) (x : X) → i < length xs → x ≡ get_or xs i x → take (i + 1) xs ≡ take i xs ++ x ∷ []
 take_one xs i x lt at = take_more xs i x lt ∙ ap (λ y. take i xs ++ y ∷ []) (sym at)
 
 -- The part at a place has the first fault.
@@ -116,3 +131,60 @@ open_more K limit sum now next xs i x ys y lt at opened sums more is le =
 
 pub share_more : {A : Type 0} (f : A → ℕ) (xs : List A) (i : ℕ) (x : A) → i < length xs → x ≡ get_or xs i x → sum_by f (take (i + 1) xs) ≡ sum_by f (take i xs) + f x
 share_more f xs i x lt at = omega (arith, ap (sum_by f) (take_one xs i x lt at), sum_by-append f (take i xs) (x ∷ []))
+
+-- ---- Where each turn has parts of its own
+
+pub flat_one : {X A : Type 0} (f : X → List A) (xs : List X) (i : ℕ) (x : X) → i < length xs → x ≡ get_or xs i x → flat_map f (take (i + 1) xs) ≡ flat_map f (take i xs) ++ f x
+flat_one f xs i x lt at = ap (flat_map f) (take_one xs i x lt at) ∙ flat_map-append f (take i xs) (x ∷ []) ∙ ap (λ t. flat_map f (take i xs) ++ t) (append-nil (f x))
+
+pub flat_share : {X A : Type 0} (s : A → ℕ) (f : X → List A) (xs : List X) (i : ℕ) (x : X) → i < length xs → x ≡ get_or xs i x
+    → sum_by s (flat_map f (take (i + 1) xs)) ≡ sum_by s (flat_map f (take i xs)) + sum_by s (f x)
+flat_share s f xs i x lt at = ap (sum_by s) (flat_one f xs i x lt at) ∙ sum_by-append s (flat_map f (take i xs)) (f x)
+
+pub flat_more : {X A B : Type 0} (K : Kind A B TransferError) (f : X → List A) (limit sum now : ℕ) (xs : List X) (i : ℕ) (x : X) (ys ws : List B)
+    → i < length xs → x ≡ get_or xs i x → AreOpen K limit sum (flat_map f (take i xs)) ys → now ≡ sum + sum_by K.share (flat_map f (take i xs)) → AreOpen K limit now (f x) ws
+    → AreOpen K limit sum (flat_map f (take (i + 1) xs)) (ys ++ ws)
+flat_more K f limit sum now xs i x ys ws lt at opened sums more =
+    subst (λ t. AreOpen K limit sum t (ys ++ ws)) (sym (flat_one f xs i x lt at)) (open_append K limit sum now (flat_map f (take i xs)) ys (f x) ws opened sums more)
+
+pub flat_fault : {X A B : Type 0} (K : Kind A B TransferError) (f : X → List A) (limit sum now : ℕ) (xs : List X) (i : ℕ) (x : X) (ys : List B) (e : TransferError) (n k : ℕ)
+    → i < length xs → x ≡ get_or xs i x → AreOpen K limit sum (flat_map f (take i xs)) ys → now ≡ sum + sum_by K.share (flat_map f (take i xs))
+    → IsFirstFault K limit now (f x) e n → k ≡ sum_by K.share (flat_map f (take i xs)) + n → IsFirstFault K limit sum (flat_map f xs) e k
+flat_fault K f limit sum now xs i x ys e n k lt at opened sums fault steps =
+    let front = flat_map f (take i xs) in
+    let back = flat_map f (drop (i + 1) xs) in
+    let whole : flat_map f xs ≡ (front ++ f x) ++ back =
+    ap (flat_map f) (sym (take-append-drop (i + 1) xs)) ∙ flat_map-append f (take (i + 1) xs) (drop (i + 1) xs) ∙ ap (λ t. t ++ back) (flat_one f xs i x lt at) in
+    record {
+      before = front ++ fault.before;
+      part = fault.part;
+      behind = fault.behind ++ back;
+      split = whole ∙ ap (λ t. (front ++ t) ++ back) fault.split ∙ grind (arith, append_assoc);
+      made = ys ++ fault.made;
+      open_before = open_append K limit sum now front ys fault.before fault.made opened sums fault.open_before;
+      own = fault.own;
+      fault = subst (λ s. K.Fault s fault.part e fault.own) (omega (arith, sums, sum_by-append K.share front fault.before)) fault.fault;
+      steps = omega (arith, steps, fault.steps, sum_by-append K.share front fault.before);
+    }
+
+pub flat_stops : {X A B : Type 0} (K : Kind A B TransferError) (f : X → List A) (limit sum now : ℕ) (xs : List X) (i : ℕ) (x : X) (ys : List B) (old mid new : ℕ) (e : TransferError)
+    → i < length xs → x ≡ get_or xs i x → AreOpen K limit sum (flat_map f (take i xs)) ys → now ≡ sum + sum_by K.share (flat_map f (take i xs))
+    → mid ≡ old + sum_by K.share (flat_map f (take i xs)) → Stops (IsFirstFault K limit now (f x)) mid new e → Stops (IsFirstFault K limit sum (flat_map f xs)) old new e
+flat_stops K f limit sum now xs i x ys old mid new e lt at opened sums is h =
+    stops (IsFirstFault K limit now (f x)) (IsFirstFault K limit sum (flat_map f xs)) old mid new (sum_by K.share (flat_map f (take i xs))) is
+    (λ e n g. flat_fault K f limit sum now xs i x ys e n _ lt at opened sums g refl) e h
+
+pub flat_opens : {X A B : Type 0} (K : Kind A B TransferError) (f : X → List A) (limit sum now : ℕ) (xs : List X) (i : ℕ) (x : X) (first old new : List B)
+    → i < length xs → x ≡ get_or xs i x → OpensMore K limit sum (flat_map f (take i xs)) first old → now ≡ sum + sum_by K.share (flat_map f (take i xs)) → OpensMore K limit now (f x) old new
+    → OpensMore K limit sum (flat_map f (take (i + 1) xs)) first new
+flat_opens K f limit sum now xs i x first old new lt at a sums b = record {
+  made = a.made ++ b.made;
+  grows = b.grows ∙ ap (λ t. t ++ b.made) a.grows ∙ append_assoc first a.made b.made;
+  opened = flat_more K f limit sum now xs i x a.made b.made lt at a.opened sums b.opened;
+}
+
+pub bag_stops : (p : List ℕ) (limit sum : ℕ) (b : SafeBagKind) (k : EncryptedPrivateKeyInfo) (old new : ℕ) (e : TransferError) → b ≡ bag.Pkcs8ShroudedKeyBag k
+    → sum ≤ limit → Stops (KeyFault p limit sum k) old new e → Stops (IsFirstFault (of_keys p limit) limit sum (shrouded_in b)) old new e
+bag_stops p limit sum b k old new e is le h =
+    subst (λ b. Stops (IsFirstFault (of_keys p limit) limit sum (shrouded_in b)) old new e) (sym is)
+    (part_stops (of_keys p limit) limit sum sum (k ∷ []) 0 k [] old old new e (omega arith) refl (record { each = tt; within = omega (arith, le) }) (omega arith) (omega arith) h)

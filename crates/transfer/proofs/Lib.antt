@@ -10,5 +10,7 @@ mod Faults
 mod Rows
 pub mod Sole
 pub mod Valid
+mod Drawn
+mod Places
 mod Settling
 mod Answering

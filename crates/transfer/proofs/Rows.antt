@@ -1,5 +1,5 @@
 -- The rows of the table of causes.
-use Rattle.std.proofs.Common.{ℕ, ◌≡◌, ◌+◌, ◌≤◌, ◌<◌, inl, inr, List, length, refl, arith, true, false}
+use Rattle.std.proofs.Common.{ℕ, ◌≡◌, ◌+◌, ◌≤◌, ◌<◌, inl, inr, List, length, refl, arith, subst, true, false}
 use Rattle.std.specs.Prelude.{Option, Some, None, Result, Ok, Err, IfOk, IfErr}
 use Rattle.std.specs.List.{sum_by}
 use Rattle.p12.specs.declared.pfx.PFX.{PFX}
@@ -15,7 +15,7 @@ use Rattle.p12.specs.Pfx.{IsStore, NoStore}
 use Rattle.transfer.specs.declared.error.TransferError.{TransferError}
 use Rattle.transfer.specs.declared.error.TransferError.TheVariants.{TooLong, Malformed, Unsupported, MacMissing, MacUnsupported, ZeroIterations, WorkLimit, MacMismatch, ContentMalformed}
 use Rattle.transfer.specs.Parts.{AreOpen, IsFirstFault}
-use Rattle.transfer.specs.Opening.{Comes, ContentsTable, MacTable, Stops, StoreTable, Verdict, any_shrouded, content_share, of_contents, opened, refused}
+use Rattle.transfer.specs.Opening.{Comes, ContentsTable, MacTable, Stops, StoreTable, Verdict, all_shrouded, content_share, key_share, of_contents, of_keys, opened, refused}
 use Rattle.transfer.specs.Verdicts.{IsMacOk}
 use Rattle.transfer.proofs.Faults.{stops, stops_as, true_false}
 
@@ -29,15 +29,18 @@ pub content_fault : (p : List ℕ) (limit sum : ℕ) (cs : List ContentInfo) (e 
 unfolding ContentsTable
 content_fault p limit sum cs e k h = inl (e, k, h, refl, refl)
 
-pub shrouded : (p : List ℕ) (limit sum : ℕ) (cs : List ContentInfo) (gss : List (List SafeBag)) → AreOpen (of_contents p limit) limit sum cs gss → any_shrouded gss ≡ true
-    → ContentsTable p limit sum cs (refused Unsupported) (sum + sum_by content_share cs)
+pub key_fault : (p : List ℕ) (limit sum next : ℕ) (cs : List ContentInfo) (gss : List (List SafeBag)) (e : TransferError) (k : ℕ) → AreOpen (of_contents p limit) limit sum cs gss
+    → next ≡ sum + sum_by content_share cs → IsFirstFault (of_keys p limit) limit next (all_shrouded gss) e k → ContentsTable p limit sum cs (refused e) (sum + (sum_by content_share cs + k))
 unfolding ContentsTable
-shrouded p limit sum cs gss a h = inr (gss, a, inl (h, refl, refl))
+key_fault p limit sum next cs gss e k a is h =
+    inr (gss, a, inl (e, k, subst (λ n. IsFirstFault (of_keys p limit) limit n (all_shrouded gss) e k) is h, refl, omega arith))
 
-pub all_open : (p : List ℕ) (limit sum : ℕ) (cs : List ContentInfo) (gss : List (List SafeBag)) → AreOpen (of_contents p limit) limit sum cs gss → any_shrouded gss ≡ false
-    → ContentsTable p limit sum cs (opened gss) (sum + sum_by content_share cs)
+pub all_open : (p : List ℕ) (limit sum next : ℕ) (cs : List ContentInfo) (gss : List (List SafeBag)) (ks : List (List ℕ)) → AreOpen (of_contents p limit) limit sum cs gss
+    → next ≡ sum + sum_by content_share cs → AreOpen (of_keys p limit) limit next (all_shrouded gss) ks
+    → ContentsTable p limit sum cs (opened gss ks) (sum + (sum_by content_share cs + sum_by key_share (all_shrouded gss)))
 unfolding ContentsTable
-all_open p limit sum cs gss a h = inr (gss, a, inr (λ s. true_false _ s h, (refl, refl)))
+all_open p limit sum next cs gss ks a is h =
+    inr (gss, a, inr (ks, subst (λ n. AreOpen (of_keys p limit) limit n (all_shrouded gss) ks) is h, (refl, omega arith)))
 
 -- ---- The MAC
 

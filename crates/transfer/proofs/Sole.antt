@@ -1,11 +1,12 @@
 -- A table gives one answer.
 use Rattle.std.proofs.Common.{ℕ, ◌≡◌, ◌+◌, ◌≤◌, inl, inr, List, [], ◌∷◌, ◌++◌, refl, sym, ap, ◌∙◌, arith, subst}
-use Rattle.std.specs.Prelude.{Option, Some, None, true}
+use Rattle.std.specs.Prelude.{Option, Some, None}
 use Rattle.std.specs.List.{sum_by}
 use Rattle.std.proofs.lemmas.List.Sums.{sum_by-append}
 use Rattle.p12.specs.declared.algorithm_identifier.AlgorithmIdentifier.{AlgorithmIdentifier}
 use Rattle.p12.specs.declared.content_info.ContentInfo.{ContentInfo}
 use Rattle.p12.specs.declared.content_info.ContentInfo.TheVariants as content
+use Rattle.p12.specs.declared.encrypted_private_key_info.EncryptedPrivateKeyInfo.{EncryptedPrivateKeyInfo}
 use Rattle.p12.specs.declared.pfx.PFX.{PFX}
 use Rattle.p12.specs.declared.mac_data.MacData.{MacData}
 use Rattle.p12.specs.declared.safe_bag.SafeBag.{SafeBag}
@@ -15,9 +16,9 @@ use Rattle.p12.specs.Pfx.{IsStore}
 use Rattle.p12.specs.SafeBag.{IsBags, NoBags}
 use Rattle.p12.proofs.Laws.{bags_sole, contents_sole, store_sole, unlock_opened}
 use Rattle.transfer.specs.declared.error.TransferError.{TransferError}
-use Rattle.transfer.specs.declared.error.TransferError.TheVariants.{ContentMalformed, Unsupported}
+use Rattle.transfer.specs.declared.error.TransferError.TheVariants.{ContentMalformed, KeyMalformed}
 use Rattle.transfer.specs.Parts.{AreOpen, Each, IsFirstFault, Kind, Of, Row}
-use Rattle.transfer.specs.Opening.{BagsTable, Comes, ContentFault, ContentOpens, ContentsTable, LockFault, MacTable, Parts, StoreTable, Verdict, any_shrouded, content_share, of_contents, opened, plain, refused}
+use Rattle.transfer.specs.Opening.{Comes, ContentFault, ContentOpens, ContentsTable, KeyOpens, KeysTable, LockFault, MacTable, NoKeyText, Parts, StoreTable, Verdict, all_shrouded, content_share, key_share, of_contents, of_keys, opened, plain, refused}
 use Rattle.transfer.specs.Verdicts.{Sole}
 use Rattle.transfer.proofs.Faults.{true_false}
 
@@ -165,16 +166,31 @@ content_not_both p limit sum (content.OtherContext o) gs e n h le f = none_some 
 pub contents_fair : (p : List ℕ) (limit : ℕ) → IsFair (of_contents p limit) limit
 contents_fair p limit = record { one = content_one p; fault = λ sum c. content_fault_sole p limit sum c; not_both = λ sum c gs e n h le f. content_not_both p limit sum c gs e n h le f }
 
+-- ---- Keys
+
+key_one : (p : List ℕ) (k : EncryptedPrivateKeyInfo) (y z : List ℕ) → KeyOpens p k y → KeyOpens p k z → y ≡ z
+key_one p k y z h j = some_same (unlock k.encryption_algorithm p k.encrypted_data) y z h.0 j.0
+
+pub keys_fair : (p : List ℕ) (limit : ℕ) → IsFair (of_keys p limit) limit
+keys_fair p limit = record {
+  one = key_one p;
+  fault = λ sum k. lock_sole p limit sum k.encryption_algorithm k.encrypted_data (λ m e n. NoKeyText m × (e ≡ KeyMalformed) × (n ≡ cost k.encryption_algorithm))
+      (λ m. last_sole (NoKeyText m) KeyMalformed (cost k.encryption_algorithm));
+  not_both = λ sum k y e n h le f. (lock_opens p limit sum k.encryption_algorithm k.encrypted_data
+      (λ m e n. NoKeyText m × (e ≡ KeyMalformed) × (n ≡ cost k.encryption_algorithm)) y e n h.0 le f).0 h.1.0 h.1.1;
+}
+
 -- ---- The tables
 
-bags_table_sole : (sum : ℕ) (gss : List (List SafeBag)) → Sole (BagsTable sum gss)
-bags_table_sole sum gss =
-    row_sole (any_shrouded gss ≡ true) (refused Unsupported) sum (λ w n. (w ≡ opened gss) × (n ≡ sum)) (λ v w m n h k. (h.0 ∙ sym k.0, h.1 ∙ sym k.1))
+keys_table_sole : (p : List ℕ) (limit sum : ℕ) (gss : List (List SafeBag)) → Sole (KeysTable p limit sum gss)
+keys_table_sole p limit sum gss =
+    parts_sole (of_keys p limit) limit (keys_fair p limit) sum (all_shrouded gss) (λ ks w n. (w ≡ opened gss ks) × (n ≡ sum + sum_by key_share (all_shrouded gss)))
+    (λ ks v w m n h k. (h.0 ∙ sym k.0, h.1 ∙ sym k.1))
 
 pub contents_table_sole : (p : List ℕ) (limit sum : ℕ) (cs : List ContentInfo) → Sole (ContentsTable p limit sum cs)
 unfolding ContentsTable
 contents_table_sole p limit sum cs =
-    parts_sole (of_contents p limit) limit (contents_fair p limit) sum cs (BagsTable (sum + sum_by content_share cs)) (λ gss. bags_table_sole (sum + sum_by content_share cs) gss)
+    parts_sole (of_contents p limit) limit (contents_fair p limit) sum cs (λ gss w n. KeysTable p limit (sum + sum_by content_share cs) gss w n) (λ gss. keys_table_sole p limit (sum + sum_by content_share cs) gss)
 
 pub mac_table_sole : (p : List ℕ) (limit : ℕ) (v : List ℕ) (m : MacData) → Sole (MacTable p limit v m)
 unfolding MacTable

@@ -4,9 +4,11 @@ pub mod Input
 pub mod Words
 pub mod Asked
 pub mod InputText
+pub mod TwoLines
 pub mod TextCause
 pub mod DueText
 pub mod TransferError
+pub mod Sealing
 pub mod Status
 pub mod Parts
 pub mod Opening

@@ -1,6 +1,6 @@
 -- What a store is opened to, or refused for: the causes in their order, each with the steps that were taken by then.
-use Rattle.std.specs.Prelude.{◌⊎◌, ℕ, ◌+◌, ◌<◌, ◌≡◌, Bool, true, false, List, [], ◌∷◌, length, Option, Some, None}
-use Rattle.std.specs.List.{flat_map, list_any, sum_by}
+use Rattle.std.specs.Prelude.{◌⊎◌, ℕ, ◌+◌, ◌<◌, ◌≡◌, false, List, [], ◌∷◌, length, Option, Some, None}
+use Rattle.std.specs.List.{flat_map, sum_by}
 use Rattle.p12.specs.declared.algorithm_identifier.AlgorithmIdentifier.{AlgorithmIdentifier}
 use Rattle.p12.specs.declared.pfx.PFX.{PFX}
 use Rattle.p12.specs.declared.mac_data.MacData.{MacData}
@@ -10,14 +10,16 @@ use Rattle.p12.specs.declared.safe_bag.SafeBag.{SafeBag}
 use Rattle.p12.specs.declared.safe_bag.SafeBagKind.{SafeBagKind}
 use Rattle.p12.specs.declared.safe_bag.SafeBagKind.TheVariants as bag
 use Rattle.p12.specs.declared.cert_bag.CertBag.TheVariants as cert
+use Rattle.p12.specs.declared.encrypted_private_key_info.EncryptedPrivateKeyInfo.{EncryptedPrivateKeyInfo}
 use Rattle.p12.specs.AlgorithmIdentifier.{cost, count, is_sha1, openable, taken, unlock}
 use Rattle.p12.specs.ContentInfo.{IsContents, NoContents}
 use Rattle.p12.specs.MacData.{mac_agrees}
 use Rattle.p12.specs.Password.{bmp_password}
 use Rattle.p12.specs.Pfx.{IsStore, NoStore}
 use Rattle.p12.specs.SafeBag.{IsBags, NoBags}
+use Rattle.pkcs8.specs.Seen.{AnyPrivateKey, IsPrivateKey}
 use Rattle.transfer.specs.declared.error.TransferError.{TransferError}
-use Rattle.transfer.specs.declared.error.TransferError.TheVariants.{TooLong, Malformed, Unsupported, MacMissing, MacUnsupported, ZeroIterations, WorkLimit, MacMismatch, ContentMalformed, DecryptFailed}
+use Rattle.transfer.specs.declared.error.TransferError.TheVariants.{TooLong, Malformed, Unsupported, MacMissing, MacUnsupported, ZeroIterations, WorkLimit, MacMismatch, ContentMalformed, DecryptFailed, KeyMalformed}
 use Rattle.transfer.specs.Parts.{AreOpen, IsFirstFault, Kind, Of, Row}
 use Rattle.transfer.specs.TransferError.{RefusedBy}
 
@@ -78,24 +80,52 @@ certificates_in gs = flat_map (λ (g : SafeBag). certificate_in g.bag) gs
 abbrev pub all_certificates : List (List SafeBag) → List (List ℕ)
 all_certificates gss = flat_map certificates_in gss
 
-abbrev pub is_shrouded : SafeBagKind → Bool
-is_shrouded (bag.Pkcs8ShroudedKeyBag k) = true
-is_shrouded (bag.CertBag c) = false
-is_shrouded (bag.OtherBagKind o) = false
+-- the encrypted key in a bag, if it is one
+abbrev pub shrouded_in : SafeBagKind → List EncryptedPrivateKeyInfo
+shrouded_in (bag.Pkcs8ShroudedKeyBag k) = k ∷ []
+shrouded_in (bag.CertBag c) = []
+shrouded_in (bag.OtherBagKind o) = []
 
--- whether some bag is a shrouded key
-abbrev pub some_shrouded : List SafeBag → Bool
-some_shrouded gs = list_any (λ (g : SafeBag). is_shrouded g.bag) gs
+abbrev pub shrouded_among : List SafeBag → List EncryptedPrivateKeyInfo
+shrouded_among gs = flat_map (λ (g : SafeBag). shrouded_in g.bag) gs
 
-abbrev pub any_shrouded : List (List SafeBag) → Bool
-any_shrouded gss = list_any some_shrouded gss
+-- those of all contents, in order
+abbrev pub all_shrouded : List (List SafeBag) → List EncryptedPrivateKeyInfo
+all_shrouded gss = flat_map shrouded_among gss
+
+-- ---- Keys
+
+-- the share of the work that an encrypted key has
+abbrev pub key_share : EncryptedPrivateKeyInfo → ℕ
+key_share k = cost k.encryption_algorithm
+
+-- A text is that of a private key (RFC 5958 section 2).
+abbrev pub IsKeyText : List ℕ → Type 0
+IsKeyText m = (k : AnyPrivateKey) × IsPrivateKey m k
+
+-- It is that of none.
+abbrev pub NoKeyText : List ℕ → Type 0
+NoKeyText m = (k : AnyPrivateKey) → IsPrivateKey m k → ⊥
+
+-- An encrypted key opens to this text, which is that of a private key.
+abbrev pub KeyOpens : List ℕ → EncryptedPrivateKeyInfo → List ℕ → Type 0
+KeyOpens p k m = (unlock k.encryption_algorithm p k.encrypted_data ≡ Some m) × IsKeyText m
+
+-- An encrypted key under a running sum has this fault, after so many steps of its own.
+abbrev pub KeyFault : List ℕ → ℕ → ℕ → EncryptedPrivateKeyInfo → TransferError → ℕ → Type 0
+KeyFault p limit sum k e n =
+    let a = k.encryption_algorithm in
+    LockFault p limit sum a k.encrypted_data (λ m e n. NoKeyText m × (e ≡ KeyMalformed) × (n ≡ cost a)) e n
+
+abbrev pub of_keys : List ℕ → ℕ → Kind EncryptedPrivateKeyInfo (List ℕ) TransferError
+of_keys p limit = record { share = key_share; Opens = KeyOpens p; Fault = KeyFault p limit }
 
 -- ---- Stores
 
--- What a store comes to: a refusal, or the bags of each content.
+-- What a store comes to: a refusal, or the bags of each content and the texts of its private keys.
 pub data Verdict : Type 0 where
   refused : TransferError → Verdict
-  opened : List (List SafeBag) → Verdict
+  opened : List (List SafeBag) → List (List ℕ) → Verdict
 
 -- The rows for parts in their order: the first that has a fault, or else what they open to decides further.
 abbrev pub Parts : {A B : Type 0} → Kind A B TransferError → ℕ → ℕ → List A → (List B → Verdict → ℕ → Type 0) → Verdict → ℕ → Type 0
@@ -103,12 +133,12 @@ Parts {A} {B} K limit sum xs rest w n =
     ((e : TransferError) × (k : ℕ) × IsFirstFault K limit sum xs e k × (w ≡ refused e) × (n ≡ sum + k))
     ⊎ ((ys : List B) × AreOpen K limit sum xs ys × rest ys w n)
 
--- The last row: shrouded keys are not transferred.
-abbrev pub BagsTable : ℕ → List (List SafeBag) → Verdict → ℕ → Type 0
-BagsTable sum gss = Row (any_shrouded gss ≡ true) (refused Unsupported) sum (λ w n. (w ≡ opened gss) × (n ≡ sum))
+-- The encrypted keys among the bags, in store order, come after all contents.
+abbrev pub KeysTable : List ℕ → ℕ → ℕ → List (List SafeBag) → Verdict → ℕ → Type 0
+KeysTable p limit sum gss = Parts (of_keys p limit) limit sum (all_shrouded gss) (λ ks w n. (w ≡ opened gss ks) × (n ≡ sum + sum_by key_share (all_shrouded gss)))
 
 unfoldable pub ContentsTable : List ℕ → ℕ → ℕ → List ContentInfo → Verdict → ℕ → Type 0
-ContentsTable p limit sum cs = Parts (of_contents p limit) limit sum cs (BagsTable (sum + sum_by content_share cs))
+ContentsTable p limit sum cs = Parts (of_contents p limit) limit sum cs (KeysTable p limit (sum + sum_by content_share cs))
 
 unfoldable pub MacTable : List ℕ → ℕ → List ℕ → MacData → Verdict → ℕ → Type 0
 MacTable p limit v m =
@@ -137,8 +167,8 @@ Comes b p limit =
 -- The first cause to refuse the store, or none.
 abbrev pub FirstCause : List ℕ → List ℕ → ℕ → Option TransferError → Type 0
 FirstCause b p limit (Some e) = (n : ℕ) × Comes b p limit (refused e) n
-FirstCause b p limit None = (gss : List (List SafeBag)) × (n : ℕ) × Comes b p limit (opened gss) n
+FirstCause b p limit None = (gss : List (List SafeBag)) × (ks : List (List ℕ)) × (n : ℕ) × Comes b p limit (opened gss ks) n
 
 -- A refusal other than for want of memory has F, with the steps that were taken.
 abbrev pub Stops : (TransferError → ℕ → Type 0) → ℕ → ℕ → TransferError → Type 0
-Stops F old new e = RefusedBy (λ e. (n : ℕ) × F e n × (new ≡ old + n)) e
+Stops F old new e = RefusedBy (λ e. (n : ℕ) × F e n × (new ≡ old + n)) ⊥ e

@@ -29,6 +29,12 @@ pub record AreOpen {A B E : Type 0} (K : Kind A B E) (limit sum : ℕ) (xs : Lis
   pub each : Each K.Opens xs ys
   pub within : sum + sum_by K.share xs ≤ limit
 
+-- Behind the things so far stand those that further parts open to.
+pub record OpensMore {A B E : Type 0} (K : Kind A B E) (limit sum : ℕ) (xs : List A) (old new : List B) : Type 0 where
+  pub made : List B
+  pub grows : new ≡ old ++ made
+  pub opened : AreOpen K limit sum xs made
+
 -- Of the parts `part` is the first that has a fault: those before it were opened within the limit, and its own fault is e. By
 -- then k steps were taken.
 pub record IsFirstFault {A B E : Type 0} (K : Kind A B E) (limit sum : ℕ) (xs : List A) (e : E) (k : ℕ) : Type 0 where

@@ -3,7 +3,7 @@ use Rattle.std.specs.Prelude.{ℕ, List, ◌++◌, codes}
 use Rattle.transfer.specs.declared.error.TransferError.{TransferError}
 use Rattle.transfer.specs.declared.error.TransferError.TheVariants as refusals
 use Rattle.transfer.specs.declared.status.Status.{Status}
-use Rattle.transfer.specs.declared.status.Status.TheVariants.{Done, Usage, ReadFault, WriteFault, InputTooLong, InputMalformed, Memory, Malformed, Unsupported, MacMissing, MacUnsupported, ZeroIterations, WorkLimit, MacMismatch, ContentMalformed, DecryptFailed, TooLong}
+use Rattle.transfer.specs.declared.status.Status.TheVariants.{Done, Usage, ReadFault, WriteFault, InputTooLong, InputMalformed, Memory, Malformed, Unsupported, MacMissing, MacUnsupported, ZeroIterations, WorkLimit, MacMismatch, ContentMalformed, DecryptFailed, KeyMalformed, Rng, TooLong}
 
 -- the name of a status
 unfoldable pub status_name : Status → List ℕ
@@ -23,6 +23,8 @@ status_name WorkLimit = codes "WorkLimit"
 status_name MacMismatch = codes "MacMismatch"
 status_name ContentMalformed = codes "ContentMalformed"
 status_name DecryptFailed = codes "DecryptFailed"
+status_name KeyMalformed = codes "KeyMalformed"
+status_name Rng = codes "Rng"
 status_name TooLong = codes "TooLong"
 
 -- the text that is due for a status other than Done
@@ -47,6 +49,8 @@ status_code WorkLimit = 15
 status_code MacMismatch = 16
 status_code ContentMalformed = 17
 status_code DecryptFailed = 18
+status_code KeyMalformed = 19
+status_code Rng = 20
 status_code TooLong = 21
 
 -- the status of a refusal of the store
@@ -61,6 +65,8 @@ status_of refusals.WorkLimit = WorkLimit
 status_of refusals.MacMismatch = MacMismatch
 status_of refusals.ContentMalformed = ContentMalformed
 status_of refusals.DecryptFailed = DecryptFailed
+status_of refusals.KeyMalformed = KeyMalformed
+status_of refusals.Rng = Rng
 status_of refusals.Memory = Memory
 
 -- What kind of answer a status is: so the table of answers has one row for all refusals of the store.
@@ -91,4 +97,6 @@ kind_of WorkLimit = refused refusals.WorkLimit
 kind_of MacMismatch = refused refusals.MacMismatch
 kind_of ContentMalformed = refused refusals.ContentMalformed
 kind_of DecryptFailed = refused refusals.DecryptFailed
+kind_of KeyMalformed = refused refusals.KeyMalformed
+kind_of Rng = refused refusals.Rng
 kind_of TooLong = refused refusals.TooLong

@@ -1,7 +1,7 @@
 -- The refusals of a store.
 use Rattle.std.specs.Prelude.{ℕ, List, codes, ⊤}
 use Rattle.transfer.specs.declared.error.TransferError.{TransferError}
-use Rattle.transfer.specs.declared.error.TransferError.TheVariants.{TooLong, Malformed, Unsupported, MacMissing, MacUnsupported, ZeroIterations, WorkLimit, MacMismatch, ContentMalformed, DecryptFailed, Memory}
+use Rattle.transfer.specs.declared.error.TransferError.TheVariants.{TooLong, Malformed, Unsupported, MacMissing, MacUnsupported, ZeroIterations, WorkLimit, MacMismatch, ContentMalformed, DecryptFailed, KeyMalformed, Rng, Memory}
 
 -- the name of a refusal
 unfoldable pub error_name : TransferError → List ℕ
@@ -15,9 +15,12 @@ error_name WorkLimit = codes "WorkLimit"
 error_name MacMismatch = codes "MacMismatch"
 error_name ContentMalformed = codes "ContentMalformed"
 error_name DecryptFailed = codes "DecryptFailed"
+error_name KeyMalformed = codes "KeyMalformed"
+error_name Rng = codes "Rng"
 error_name Memory = codes "Memory"
 
--- Want of memory may come at any point, and any other refusal e only where P e.
-abbrev pub RefusedBy : (TransferError → Type 0) → TransferError → Type 0
-RefusedBy P Memory = ⊤
-RefusedBy P e = P e
+-- Want of memory may come at any point, a failed draw only where R holds, and any other refusal e only where P e.
+abbrev pub RefusedBy : (TransferError → Type 0) → Type 0 → TransferError → Type 0
+RefusedBy P R Memory = ⊤
+RefusedBy P R Rng = R
+RefusedBy P R e = P e

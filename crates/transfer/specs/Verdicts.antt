@@ -1,5 +1,5 @@
 -- One store has one verdict, and which stores are valid.
-use Rattle.std.specs.Prelude.{ℕ, ◌+◌, ◌≤◌, ◌≡◌, ◌↔◌, List, length, Some, None, true, false}
+use Rattle.std.specs.Prelude.{ℕ, ◌+◌, ◌≤◌, ◌≡◌, ◌↔◌, List, length, Some, None, true}
 use Rattle.std.specs.List.{sum_by}
 use Rattle.p12.specs.declared.pfx.PFX.{PFX}
 use Rattle.p12.specs.declared.mac_data.MacData.{MacData}
@@ -12,7 +12,7 @@ use Rattle.p12.specs.MacData.{mac_agrees}
 use Rattle.p12.specs.Password.{bmp_password}
 use Rattle.p12.specs.Pfx.{IsStore}
 use Rattle.transfer.specs.Parts.{Each}
-use Rattle.transfer.specs.Opening.{Comes, ContentOpens, FirstCause, any_shrouded, content_share, opened}
+use Rattle.transfer.specs.Opening.{Comes, ContentOpens, FirstCause, KeyOpens, all_shrouded, content_share, key_share, opened}
 
 -- The MAC of a store agrees under a password.
 pub record IsMacOk (p v : List ℕ) (m : MacData) : Type 0 where
@@ -20,18 +20,18 @@ pub record IsMacOk (p v : List ℕ) (m : MacData) : Type 0 where
   pub some_rounds : 1 ≤ m.iterations
   pub agrees : mac_agrees m (bmp_password p) v ≡ true
 
--- The text of a store lists these contents, each opens to these bags, and no bag is shrouded.
-pub record IsOpening (p v : List ℕ) (cs : List ContentInfo) (gss : List (List SafeBag)) : Type 0 where
+-- The text of a store lists these contents, each opens to these bags, and the encrypted keys among them to these texts.
+pub record IsOpening (p v : List ℕ) (cs : List ContentInfo) (gss : List (List SafeBag)) (ks : List (List ℕ)) : Type 0 where
   pub contents : IsContents v cs
   pub bags : Each (ContentOpens p) cs gss
-  pub plain : any_shrouded gss ≡ false
+  pub keys : Each (KeyOpens p) (all_shrouded gss) ks
 
--- the work of a store: the count of its MAC, and then the share of each content
-abbrev pub work : MacData → List ContentInfo → ℕ
-work m cs = m.iterations + sum_by content_share cs
+-- the work of a store: the count of its MAC, then the share of each content, then that of each encrypted key
+abbrev pub work : MacData → List ContentInfo → List (List SafeBag) → ℕ
+work m cs gss = m.iterations + sum_by content_share cs + sum_by key_share (all_shrouded gss)
 
--- A store opens to these bags, by so much work, whatever the limit.
-pub record Opens (b p : List ℕ) (gss : List (List SafeBag)) (n : ℕ) : Type 0 where
+-- A store opens to these bags and keys, by so much work, whatever the limit.
+pub record Opens (b p : List ℕ) (gss : List (List SafeBag)) (ks : List (List ℕ)) (n : ℕ) : Type 0 where
   pub short : length b ≤ 16777215
   pub store : PFX
   pub is : IsStore b store
@@ -41,12 +41,12 @@ pub record Opens (b p : List ℕ) (gss : List (List SafeBag)) (n : ℕ) : Type 0
   pub has : store.mac_data ≡ Some mac
   pub mac_ok : IsMacOk p text mac
   pub parts : List ContentInfo
-  pub opening : IsOpening p text parts gss
-  pub work : n ≡ work mac parts
+  pub opening : IsOpening p text parts gss ks
+  pub work : n ≡ work mac parts gss
 
 -- A store is valid under a password and a limit.
 abbrev pub IsValid : List ℕ → List ℕ → ℕ → Type 0
-IsValid b p limit = (gss : List (List SafeBag)) × (n : ℕ) × Opens b p gss n × (n ≤ limit)
+IsValid b p limit = (gss : List (List SafeBag)) × (ks : List (List ℕ)) × (n : ℕ) × Opens b p gss ks n × (n ≤ limit)
 
 -- A table gives at most one answer and one number of steps.
 abbrev pub Sole : {V : Type 0} → (V → ℕ → Type 0) → Type 0
@@ -58,7 +58,7 @@ OneVerdict = (b p : List ℕ) (limit : ℕ) → Sole (Comes b p limit)
 
 -- A store comes to be opened exactly where it opens within the limit, and then its work is the number of steps.
 abbrev pub OpenedExactly : Type 0
-OpenedExactly = (b p : List ℕ) (limit : ℕ) (gss : List (List SafeBag)) (n : ℕ) → Comes b p limit (opened gss) n ↔ (Opens b p gss n × (n ≤ limit))
+OpenedExactly = (b p : List ℕ) (limit : ℕ) (gss : List (List SafeBag)) (ks : List (List ℕ)) (n : ℕ) → Comes b p limit (opened gss ks) n ↔ (Opens b p gss ks n × (n ≤ limit))
 
 -- No cause refuses a store exactly where it is valid.
 abbrev pub ValidExactly : Type 0

@@ -1,19 +1,25 @@
 //! What the top call decides before it writes.
-ghost use Rattle.std.specs.Prelude.{◌≡◌, ◌+◌, ◌≤◌, ◌<◌, ◌^◌, List, ℕ, length, map, Err, IfOk, IfErr};
+ghost use Rattle.std.specs.Prelude.{◌≡◌, ◌≢◌, ◌+◌, ◌≤◌, ◌<◌, ◌^◌, List, ℕ, Some, None, length, map, Err, IfOk, IfErr, IfSome, ⊤};
 ghost use Rattle.std.specs.String.{string_bytes};
-ghost use Rattle.transfer.specs.Answers.{Makes, Refuses, RefusesFor, TransfersInput, call_of};
+ghost use Rattle.transfer.specs.Answers.{Makes, Refuses, RefusesFor, ShortBy, TransfersBy, TransfersInput, call_of};
+ghost use Rattle.transfer.specs.Asked.{command_in};
 ghost use Rattle.transfer.specs.DueText.{out};
 ghost use Rattle.transfer.specs.Input.{kind_unread};
+ghost use Rattle.transfer.specs.InputText.{IsInput};
 ghost use Rattle.transfer.specs.Status.{kind_of};
 ghost use Rattle.transfer.specs.TextCause.{kind_unspelled};
+ghost use Rattle.transfer.specs.TransferError.{RefusedBy};
+ghost use Rattle.transfer.specs.Transferred.{IsRefused};
 ghost use Rattle.transfer.specs.Words.{Command, IsCommand, IsNoCommand};
 
+use crate::error::TransferError;
 use crate::input::{InputError, read_input};
-use crate::input_text::{TextError, read_text};
+use crate::input_text::{Spelled, TextError, read_text};
 use crate::outside::Source;
 use crate::status::Status;
 use crate::transferred::{Transferred, transfer};
-use crate::words::command_of;
+use crate::words::{Words, command_of};
+use mac_modes::{Draw, DrawnBytes};
 use std::alloc::Global;
 use std::sync::ledger::Ledger;
 use steps::Steps;
@@ -39,52 +45,106 @@ fn text_status(error: TextError) -> Status
     }
 }
 
-/// What the store that the input spells is transferred to, or the status that is answered in its place.
-fn decide_input<I: Source, L: Ledger>(
+/// What a store is transferred to: under the octets of the second line, or of the draw where there is none.
+fn decide_store<D: Draw, L: Ledger>(
     alloc: Global,
-    password: &str,
-    limit: u64,
+    command: Words<'_>,
+    spelled: Spelled,
+    draw: &mut D,
+    steps: &mut Steps<L>,
+) -> Result<Transferred, TransferError>
+    requires password { length command.password.now < 2 ^ 57 }
+    requires rounds { (1 ≤ command.rounds) × (command.rounds ≤ 100000000) }
+    ensures made { let call = call_of None None 0 0 (D.left draw.old) (D.left draw.new) (D.faults draw.old) (D.faults draw.new) steps.old steps.new in
+        IfOk result (λ t. TransfersBy call (command_in command.entry) spelled.store spelled.line t.certificates t.documents) }
+    ensures refused { let call = call_of None None 0 0 (D.left draw.old) (D.left draw.new) (D.faults draw.old) (D.faults draw.new) steps.old steps.new in
+        IfErr result (RefusedBy (IsRefused spelled.store command.entry.password.now command.entry.limit steps.old steps.new) (ShortBy call (command_in command.entry) spelled.store spelled.line)) }
+    ensures line { IfSome spelled.line (λ _. draw.new ≡ draw.old) }
+    ensures undrawn { IfErr result (RefusedBy (λ _. draw.new ≡ draw.old) ⊤) }
+    ensures at_most { (steps.old ≤ steps.new) × (steps.new ≤ steps.old + command.entry.limit) }
+{
+    let Spelled { store, line } = spelled;
+    let store = store.as_slice();
+    let new_password = command.new_password.as_bytes();
+    match line {
+        Some(octets) => {
+            let mut line = DrawnBytes::new(octets);
+            transfer(
+                alloc,
+                store,
+                command.password,
+                new_password,
+                command.rounds,
+                &mut line,
+                command.limit,
+                steps,
+            )
+        }
+        None => transfer(
+            alloc,
+            store,
+            command.password,
+            new_password,
+            command.rounds,
+            draw,
+            command.limit,
+            steps,
+        ),
+    }
+}
+
+/// What the store that the input spells is transferred to, or the status that is answered in its place.
+fn decide_input<I: Source, D: Draw, L: Ledger>(
+    alloc: Global,
+    command: Words<'_>,
     input: &mut I,
+    draw: &mut D,
     steps: &mut Steps<L>,
 ) -> Result<Transferred, Status>
-    requires { length password.now < 2 ^ 57 }
-    ensures made { let call = call_of (I.left input.old) (I.left input.new) (I.faults input.old) (I.faults input.new) steps.old steps.new in
-        IfOk result (λ t. TransfersInput call password.now limit (out t.certificates t.documents)) }
-    ensures refused { let call = call_of (I.left input.old) (I.left input.new) (I.faults input.old) (I.faults input.new) steps.old steps.new in
-        IfErr result (λ s. RefusesFor call password.now limit (kind_of s)) }
-    ensures at_most { (steps.old ≤ steps.new) × (steps.new ≤ steps.old + limit) }
+    requires password { length command.password.now < 2 ^ 57 }
+    requires rounds { (1 ≤ command.rounds) × (command.rounds ≤ 100000000) }
+    ensures made { let call = call_of (I.left input.old) (I.left input.new) (I.faults input.old) (I.faults input.new) (D.left draw.old) (D.left draw.new) (D.faults draw.old) (D.faults draw.new) steps.old steps.new in
+        IfOk result (λ t. TransfersInput call (command_in command.entry) (out t.certificates t.documents)) }
+    ensures refused { let call = call_of (I.left input.old) (I.left input.new) (I.faults input.old) (I.faults input.new) (D.left draw.old) (D.left draw.new) (D.faults draw.old) (D.faults draw.new) steps.old steps.new in
+        IfErr result (λ s. RefusesFor call (command_in command.entry) (kind_of s)) }
+    ensures line { IfSome (I.left input.old) (λ x. (store line : List ℕ) → IsInput x store (Some line) → draw.new ≡ draw.old) }
+    ensures undrawn { IfErr result (λ s. s ≢ Status.Rng → s ≢ Status.Memory → draw.new ≡ draw.old) }
+    ensures at_most { (steps.old ≤ steps.new) × (steps.new ≤ steps.old + command.entry.limit) }
 {
     let octets = match read_input(alloc, input) {
         Ok(octets) => octets,
         Err(error) => return Err(input_status(error)),
     };
-    let store = match read_text(alloc, octets.as_slice()) {
-        Ok(store) => store,
+    let spelled = match read_text(alloc, octets.as_slice()) {
+        Ok(spelled) => spelled,
         Err(error) => return Err(text_status(error)),
     };
-    match transfer(alloc, store.as_slice(), password, limit, steps) {
+    match decide_store(alloc, command, spelled, draw, steps) {
         Ok(transferred) => Ok(transferred),
         Err(error) => Err(Status::from(error)),
     }
 }
 
 /// What is due for what the words ask for, or the status that is answered in its place.
-pub(crate) fn decide<I: Source, L: Ledger>(
+pub(crate) fn decide<I: Source, D: Draw, L: Ledger>(
     alloc: Global,
     words: &[String],
     input: &mut I,
+    draw: &mut D,
     steps: &mut Steps<L>,
 ) -> Result<Transferred, Status>
-    ensures made { let call = call_of (I.left input.old) (I.left input.new) (I.faults input.old) (I.faults input.new) steps.old steps.new in
+    ensures made { let call = call_of (I.left input.old) (I.left input.new) (I.faults input.old) (I.faults input.new) (D.left draw.old) (D.left draw.new) (D.faults draw.old) (D.faults draw.new) steps.old steps.new in
         IfOk result (λ t. Makes (map string_bytes words.now) call (out t.certificates t.documents)) }
-    ensures refused { let call = call_of (I.left input.old) (I.left input.new) (I.faults input.old) (I.faults input.new) steps.old steps.new in
+    ensures refused { let call = call_of (I.left input.old) (I.left input.new) (I.faults input.old) (I.faults input.new) (D.left draw.old) (D.left draw.new) (D.faults draw.old) (D.faults draw.new) steps.old steps.new in
         IfErr result (λ s. Refuses (map string_bytes words.now) call (kind_of s)) }
     ensures usage { IsNoCommand (map string_bytes words.now) → result ≡ Err Status.Usage }
-    ensures untouched { IsNoCommand (map string_bytes words.now) → (input.new ≡ input.old) × (steps.new ≡ steps.old) }
+    ensures untouched { IsNoCommand (map string_bytes words.now) → (input.new ≡ input.old) × (draw.new ≡ draw.old) × (steps.new ≡ steps.old) }
+    ensures line { IfSome (I.left input.old) (λ x. (store line : List ℕ) → IsInput x store (Some line) → draw.new ≡ draw.old) }
+    ensures undrawn { IfErr result (λ s. s ≢ Status.Rng → s ≢ Status.Memory → draw.new ≡ draw.old) }
     ensures at_most { (c : Command) → IsCommand (map string_bytes words.now) c → (steps.old ≤ steps.new) × (steps.new ≤ steps.old + c.limit) }
 {
     match command_of(words) {
-        Some(command) => decide_input(alloc, command.password, command.limit, input, steps),
+        Some(command) => decide_input(alloc, command, input, draw, steps),
         None => Err(Status::Usage),
     }
 }

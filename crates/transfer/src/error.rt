@@ -13,14 +13,14 @@ pub enum TransferError {
     TooLong,
     /// It is not in the grammar of PKCS#12.
     Malformed,
-    /// Its outer content is not data; or a content is neither data nor encrypted by an algorithm that can be opened; or
-    /// one of its bags is shrouded.
+    /// Its outer content is not data; or a content is neither data nor encrypted by an algorithm that can be opened; or an
+    /// encrypted key is under another algorithm.
     Unsupported,
     /// It has no MAC.
     MacMissing,
     /// The MAC's algorithm is not SHA-1.
     MacUnsupported,
-    /// The count of the MAC, or of an encrypted content, is 0.
+    /// The count of the MAC, or of an encrypted content or key, is 0.
     ZeroIterations,
     /// The next share of the work would pass the limit.
     WorkLimit,
@@ -28,8 +28,12 @@ pub enum TransferError {
     MacMismatch,
     /// The outer octets are no list of contents, or the plain octets of a content no list of bags.
     ContentMalformed,
-    /// An encrypted content does not open.
+    /// An encrypted content or key does not open.
     DecryptFailed,
+    /// The plain octets of an encrypted key are no private key.
+    KeyMalformed,
+    /// The draw failed.
+    Rng,
     /// There was no memory.
     Memory,
 }
@@ -58,6 +62,8 @@ impl fmt::Display for TransferError {
             TransferError::MacMismatch => f.write_str("MacMismatch"),
             TransferError::ContentMalformed => f.write_str("ContentMalformed"),
             TransferError::DecryptFailed => f.write_str("DecryptFailed"),
+            TransferError::KeyMalformed => f.write_str("KeyMalformed"),
+            TransferError::Rng => f.write_str("Rng"),
             TransferError::Memory => f.write_str("Memory"),
         }
     }

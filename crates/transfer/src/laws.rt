@@ -1,4 +1,5 @@
 //! Laws of the table of causes: each stands on a function that does nothing.
+ghost use Rattle.transfer.specs.Sealing.{DrawnInPlace};
 ghost use Rattle.transfer.specs.Verdicts.{OneVerdict, OpenedExactly, ValidExactly};
 
 /// One store has one verdict, after one number of steps.
@@ -16,4 +17,9 @@ pub fn opened_exactly()
 /// No cause refuses a store exactly where it is valid.
 pub fn valid_exactly()
     ensures { ValidExactly }
+{}
+
+/// Of sealed keys each document stands at the place of its key, under the IV and the salt at that place of the drawn octets.
+pub fn drawn_in_place()
+    ensures { DrawnInPlace }
 {}

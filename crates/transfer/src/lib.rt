@@ -1,7 +1,8 @@
 //! The transfer of a PKCS#12 store: the program's top call `run`, and below it `transfer`.
 //!
-//! `run` reads words and an input, opens the store that the input spells, and writes its certificates. What each answer
-//! means stands in the contract of `run`; the causes of a refusal stand in order in `specs/Opening.antt`.
+//! `run` reads words and an input, opens the store that the input spells, and writes its certificates and documents that
+//! seal its private keys anew. What each answer means stands in the contract of `run`; the causes of a refusal stand in
+//! order in `specs/Opening.antt`.
 #![tactic(auto)]
 
 mod certificates;
@@ -11,6 +12,7 @@ mod due_text;
 mod error;
 mod input;
 mod input_text;
+mod keys;
 mod laws;
 mod lock;
 mod mac;
@@ -18,6 +20,7 @@ mod memory;
 mod opening;
 mod outside;
 mod password;
+mod sealing;
 mod status;
 mod streams;
 #[cfg(test)]
@@ -27,7 +30,7 @@ mod transferred;
 mod words;
 
 pub use error::TransferError;
-pub use laws::{one_verdict, opened_exactly, valid_exactly};
+pub use laws::{drawn_in_place, one_verdict, opened_exactly, valid_exactly};
 pub use memory::{MemorySink, MemorySource};
 pub use outside::{Failed, Sink, Source};
 pub use status::Status;

@@ -6,14 +6,15 @@ ghost use Rattle.std.specs.Prelude.{◌≡◌, ◌+◌, ◌≤◌, ◌<◌, ◌^
 ghost use Rattle.std.specs.List.{sum_by};
 ghost use Rattle.p12.specs.ContentInfo.{ContentFits};
 ghost use Rattle.transfer.specs.Parts.{AreOpen, IsFirstFault};
-ghost use Rattle.transfer.specs.Opening.{Comes, ContentFault, ContentOpens, ContentsTable, MacTable, Stops, any_shrouded, content_share, of_contents, opened, refused, some_shrouded};
+ghost use Rattle.transfer.specs.Opening.{Comes, ContentFault, ContentOpens, ContentsTable, MacTable, Stops, content_share, of_contents, opened, refused};
 
 use crate::error::TransferError;
+use crate::keys::open_keys;
 use crate::lock::open_lock;
 use crate::mac::check_mac;
 use crate::password::StorePassword;
-use asn1_core::Items;
-use p12::{ContentInfo, Error, MacData, PFX, SafeBag, SafeBagKind};
+use asn1_core::{Items, Octets};
+use p12::{ContentInfo, Error, MacData, PFX, SafeBag};
 use std::alloc::Global;
 use std::sync::ledger::Ledger;
 use steps::Steps;
@@ -95,28 +96,16 @@ fn open_contents<L: Ledger>(
     Ok((opened, sum))
 }
 
-/// Whether some bag is a shrouded key.
-fn some_shrouded(bags: &[SafeBag]) -> bool
-    ensures { result ≡ some_shrouded bags.now }
-{
-    bags.iter().any(|bag| matches!(bag.bag, SafeBagKind::Pkcs8ShroudedKeyBag(_)))
-}
-
-/// Whether some bag of some content is a shrouded key.
-fn any_shrouded(contents: &[Items<SafeBag>]) -> bool
-    ensures { result ≡ any_shrouded contents.now }
-{
-    contents.iter().any(|bags| some_shrouded(bags.as_slice()))
-}
-
 /// An opened store.
 #[derive(Drop)]
 pub(crate) struct Opened {
     /// The bags of each content.
     pub(crate) contents: Items<Items<SafeBag>>,
+    /// The plain octets of each encrypted key among them, in order: the text of a private key.
+    pub(crate) keys: Items<Octets>,
 }
 
-/// Opens the contents of a store. A shrouded key among their bags is refused.
+/// Opens the contents of a store, and then the encrypted keys among their bags.
 fn open_parts<L: Ledger>(
     alloc: Global,
     contents: &[ContentInfo],
@@ -128,18 +117,22 @@ fn open_parts<L: Ledger>(
     requires fit { All (ContentFits 16777215) contents.now }
     requires password { length password.now < 2 ^ 57 }
     requires within { spent ≤ limit }
-    ensures opened { IfOk result (λ o. (n : ℕ) × ContentsTable password.now limit spent contents.now (opened o.contents) (spent + n) × (steps.new ≡ steps.old + n)) }
+    ensures opened { IfOk result (λ o. (n : ℕ) × ContentsTable password.now limit spent contents.now (opened o.contents o.keys) (spent + n) × (steps.new ≡ steps.old + n)) }
     ensures refused { IfErr result (Stops (λ e n. ContentsTable password.now limit spent contents.now (refused e) (spent + n)) steps.old steps.new) }
     ensures at_most { (steps.old ≤ steps.new) × (steps.new + spent ≤ steps.old + limit) }
 {
-    let (bags, _sum) = match open_contents(alloc, contents, password, limit, spent, steps) {
-        Ok(opened) => opened,
-        Err(e) => return Err(e),
-    };
-    if any_shrouded(bags.as_slice()) {
-        return Err(TransferError::Unsupported);
+    match open_contents(alloc, contents, password, limit, spent, steps) {
+        Ok((bags, sum)) => {
+            match open_keys(alloc, bags.as_slice(), password, limit, sum, steps) {
+                Ok(keys) => Ok(Opened {
+                    contents: bags,
+                    keys,
+                }),
+                Err(e) => Err(e),
+            }
+        }
+        Err(e) => Err(e),
     }
-    Ok(Opened { contents: bags })
 }
 
 /// Opens the outer text of a store, under its MAC.
@@ -154,7 +147,7 @@ fn open_text<L: Ledger>(
     requires text { length text.now ≤ 16777215 }
     requires salt { length mac.now.salt ≤ 16777215 }
     requires password { length password.now < 2 ^ 57 }
-    ensures opened { IfOk result (λ o. (n : ℕ) × MacTable password.now limit text.now mac.now (opened o.contents) n × (steps.new ≡ steps.old + n)) }
+    ensures opened { IfOk result (λ o. (n : ℕ) × MacTable password.now limit text.now mac.now (opened o.contents o.keys) n × (steps.new ≡ steps.old + n)) }
     ensures refused { IfErr result (Stops (λ e n. MacTable password.now limit text.now mac.now (refused e) n) steps.old steps.new) }
     ensures at_most { (steps.old ≤ steps.new) × (steps.new ≤ steps.old + limit) }
 {
@@ -178,7 +171,7 @@ pub(crate) fn open_store<L: Ledger>(
     steps: &mut Steps<L>,
 ) -> Result<Opened, TransferError>
     requires { length password.now < 2 ^ 57 }
-    ensures opened { IfOk result (λ o. (n : ℕ) × Comes store.now password.now limit (opened o.contents) n × (steps.new ≡ steps.old + n)) }
+    ensures opened { IfOk result (λ o. (n : ℕ) × Comes store.now password.now limit (opened o.contents o.keys) n × (steps.new ≡ steps.old + n)) }
     ensures refused { IfErr result (Stops (λ e n. Comes store.now password.now limit (refused e) n) steps.old steps.new) }
     ensures at_most { (steps.old ≤ steps.new) × (steps.new ≤ steps.old + limit) }
 {

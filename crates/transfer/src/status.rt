@@ -31,6 +31,8 @@ pub enum Status {
     MacMismatch,
     ContentMalformed,
     DecryptFailed,
+    KeyMalformed,
+    Rng,
     TooLong,
 }
 
@@ -56,6 +58,8 @@ impl Status {
             Status::MacMismatch => 16,
             Status::ContentMalformed => 17,
             Status::DecryptFailed => 18,
+            Status::KeyMalformed => 19,
+            Status::Rng => 20,
             Status::TooLong => 21,
         }
     }
@@ -82,6 +86,8 @@ impl Status {
             Status::MacMismatch => "error: MacMismatch\n",
             Status::ContentMalformed => "error: ContentMalformed\n",
             Status::DecryptFailed => "error: DecryptFailed\n",
+            Status::KeyMalformed => "error: KeyMalformed\n",
+            Status::Rng => "error: Rng\n",
             Status::TooLong => "error: TooLong\n",
         }
     }
@@ -109,6 +115,8 @@ impl fmt::Display for Status {
             Status::MacMismatch => f.write_str("MacMismatch"),
             Status::ContentMalformed => f.write_str("ContentMalformed"),
             Status::DecryptFailed => f.write_str("DecryptFailed"),
+            Status::KeyMalformed => f.write_str("KeyMalformed"),
+            Status::Rng => f.write_str("Rng"),
             Status::TooLong => f.write_str("TooLong"),
         }
     }
@@ -129,6 +137,8 @@ impl From<TransferError> for Status {
             TransferError::MacMismatch => Status::MacMismatch,
             TransferError::ContentMalformed => Status::ContentMalformed,
             TransferError::DecryptFailed => Status::DecryptFailed,
+            TransferError::KeyMalformed => Status::KeyMalformed,
+            TransferError::Rng => Status::Rng,
             TransferError::Memory => Status::Memory,
         }
     }

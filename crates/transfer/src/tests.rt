@@ -1,8 +1,12 @@
 //! What no clause says: that calls come to an answer where memory is ample, and what is written then.
 ghost use Rattle.std.specs.Prelude.{◌≡◌, ◌<◌};
 
+mod key_rows;
+
 use crate::{Failed, MemorySink, MemorySource, ReadSource, Sink, Source, Status, WriteSink, run};
 use asn1_core::{Items, Octets};
+use key_rows::{KEY_ROWS, ONE_DOCUMENT, ONE_KEY};
+use mac_modes::{Draw, DrawnBytes, FailingDraw};
 use std::alloc::Global;
 use std::marker::Brand;
 use std::process::Abort;
@@ -20,11 +24,12 @@ fn words_of(alloc: Global, line: &str) -> Result<Vec<String>, Fail> {
 }
 
 /// A run over memory, in pieces of 3 octets, where the read and the write of these numbers fail.
-fn ran<L: Ledger, R: Abort>(
+fn ran_with<D: Draw, L: Ledger, R: Abort>(
     rt: &R,
     alloc: Global,
     words: &[String],
     input: &[u8],
+    draw: &mut D,
     failing_read: u64,
     failing_write: u64,
     status: Status,
@@ -40,12 +45,43 @@ fn ran<L: Ledger, R: Abort>(
     let mut failing_writes = Items::new(alloc);
     failing_writes.push(failing_write)?;
     let mut source = MemorySource::new(Octets::from_slice(alloc, input)?, 3, failing_reads);
-    let mut sink = MemorySink::new(alloc, 1000, failing_writes)?;
+    let mut sink = MemorySink::new(alloc, 4000, failing_writes)?;
     let mut steps = Steps::<L>::open(blank);
-    let answer = run(alloc, words, &mut source, &mut sink, &mut steps);
+    let answer = run(alloc, words, &mut source, draw, &mut sink, &mut steps);
     assert_eq!(rt; answer, status);
     assert_eq!(rt; sink.octets(), written);
     Ok(())
+}
+
+/// The same where nothing can be drawn.
+fn ran<L: Ledger, R: Abort>(
+    rt: &R,
+    alloc: Global,
+    words: &[String],
+    input: &[u8],
+    failing_read: u64,
+    failing_write: u64,
+    status: Status,
+    written: &[u8],
+    blank: Blank,
+) -> Result<(), Fail>
+    requires name { blank.name ≡ L.name }
+    requires parts { blank.parts ≡ L.parts }
+    requires some { 0 < blank.parts }
+{
+    let mut draw = DrawnBytes::new(Octets::new(alloc));
+    ran_with::<_, L, R>(
+        rt,
+        alloc,
+        words,
+        input,
+        &mut draw,
+        failing_read,
+        failing_write,
+        status,
+        written,
+        blank,
+    )
 }
 
 const NEVER: u64 = 1000;
@@ -83,7 +119,20 @@ fn words_of_another_form_are_usage(rt: HostRuntime) -> Result<(), Fail> {
 fn an_input_that_is_no_line_of_digits_is_malformed(rt: HostRuntime) -> Result<(), Fail> {
     let alloc = rt.alloc();
     let words = words_of(alloc, "transfer p q 1 9")?;
-    for text in ["3g", "300", "300\n", "30\r\n", "30\n\n", "30\n30\n", " 30"] {
+    for text in [
+        "3g",
+        "300",
+        "300\n",
+        "30\r\n",
+        " 30",
+        "30\n3",
+        "30\n3g\n",
+        "30\n30\r\n",
+        "30\n\n\n",
+        "30\n30\n\n",
+        "30\n30\n30\n",
+        "3\n0",
+    ] {
         ran::<Brand, _>(
             &rt,
             alloc,
@@ -191,6 +240,10 @@ const EMPTY_STORE: &str =
 /// An empty store whose MAC is zeros.
 const ZERO_MAC_STORE: &str =
     "3040020103301106092a864886f70d010701a0040402300030283021300906052b0e03021a0500041400000000000000000000000000000000000000000400020101";
+
+/// The content of `SEALED_STORE`, and a key bag whose key is that content's bags, under two rounds too.
+const BAGS_FOR_A_KEY: &str =
+    "308201210201033081e906092a864886f70d010701a081db0481d83081d5306606092a864886f70d010706a0593057020100305206092a864886f70d010701301b060a2a864886f70d010c0103300d0408080706050403020102010280287873788e8e3e60877e5037817e5579ae4a00be95da2efe4da705e184f285071b846962c79482f0c6306b06092a864886f70d010701a05e045c305a3058060b2a864886f70d010c0a0102a0493047301b060a2a864886f70d010c0103300d0408080706050403020102010204287873788e8e3e60877e5037817e5579ae4a00be95da2efe4da705e184f285071b846962c79482f0c630303021300906052b0e03021a050004146a221c4f5813789a80c10f82d8c9b0b04320db4b04080102030405060708020101";
 
 #[test]
 fn certificates_are_written(rt: HostRuntime) -> Result<(), Fail> {
@@ -377,10 +430,16 @@ fn contents_that_do_not_open_are_refused(rt: HostRuntime) -> Result<(), Fail> {
             "error: ContentMalformed\n",
         ),
         (
-            "transfer p q 1 9",
-            "308201210201033081e906092a864886f70d010701a081db0481d83081d5306606092a864886f70d010706a0593057020100305206092a864886f70d010701301b060a2a864886f70d010c0103300d0408080706050403020102010280287873788e8e3e60877e5037817e5579ae4a00be95da2efe4da705e184f285071b846962c79482f0c6306b06092a864886f70d010701a05e045c305a3058060b2a864886f70d010c0a0102a0493047301b060a2a864886f70d010c0103300d0408080706050403020102010204287873788e8e3e60877e5037817e5579ae4a00be95da2efe4da705e184f285071b846962c79482f0c630303021300906052b0e03021a050004146a221c4f5813789a80c10f82d8c9b0b04320db4b04080102030405060708020101",
-            Status::Unsupported,
-            "error: Unsupported\n",
+            "transfer p q 1 12",
+            BAGS_FOR_A_KEY,
+            Status::WorkLimit,
+            "error: WorkLimit\n",
+        ),
+        (
+            "transfer p q 1 13",
+            BAGS_FOR_A_KEY,
+            Status::KeyMalformed,
+            "error: KeyMalformed\n",
         ),
     ] {
         let words = words_of(alloc, line)?;
@@ -397,4 +456,110 @@ fn contents_that_do_not_open_are_refused(rt: HostRuntime) -> Result<(), Fail> {
         )?;
     }
     Ok(())
+}
+
+#[test]
+fn keys_are_sealed_anew(rt: HostRuntime) -> Result<(), Fail> {
+    let alloc = rt.alloc();
+    for row in KEY_ROWS {
+        let words = words_of(alloc, row.words)?;
+        ran::<Brand, _>(
+            &rt,
+            alloc,
+            words.as_slice(),
+            row.input.as_bytes(),
+            NEVER,
+            NEVER,
+            row.status,
+            row.written.as_bytes(),
+            Blank::new(1),
+        )?;
+    }
+    Ok(())
+}
+
+#[test]
+fn a_line_that_is_not_written_is_the_last(rt: HostRuntime) -> Result<(), Fail> {
+    let alloc = rt.alloc();
+    let row = KEY_ROWS[0];
+    let words = words_of(alloc, row.words)?;
+    ran::<Brand, _>(
+        &rt,
+        alloc,
+        words.as_slice(),
+        row.input.as_bytes(),
+        NEVER,
+        1,
+        Status::WriteFault,
+        b"cert 3000\n",
+        Blank::new(1),
+    )
+}
+
+#[test]
+fn a_store_without_keys_draws_nothing(rt: HostRuntime) -> Result<(), Fail> {
+    let alloc = rt.alloc();
+    let words = words_of(alloc, "transfer p q 1 1")?;
+    let mut input = String::from_str(alloc, STORE)?;
+    input.push_str("\n\n")?;
+    ran::<Brand, _>(
+        &rt,
+        alloc,
+        words.as_slice(),
+        input.as_bytes(),
+        NEVER,
+        NEVER,
+        Status::Done,
+        b"cert 3000\n",
+        Blank::new(1),
+    )
+}
+
+/// A draw of the octets 00 to 1f that fails at the call of this number.
+fn counting_draw(alloc: Global, failing_call: u64) -> Result<FailingDraw<DrawnBytes>, Fail> {
+    let mut octets = Octets::new(alloc);
+    for octet in 0..32 {
+        octets.push(octet)?;
+    }
+    let mut failing = Items::new(alloc);
+    failing.push(failing_call)?;
+    Ok(FailingDraw::new(DrawnBytes::new(octets), failing))
+}
+
+#[test]
+fn without_a_second_line_the_draw_is_used(rt: HostRuntime) -> Result<(), Fail> {
+    let alloc = rt.alloc();
+    let words = words_of(alloc, "transfer p q 1 9")?;
+    let mut draw = counting_draw(alloc, 2)?;
+    ran_with::<_, Brand, _>(
+        &rt,
+        alloc,
+        words.as_slice(),
+        ONE_KEY.as_bytes(),
+        &mut draw,
+        NEVER,
+        NEVER,
+        Status::Done,
+        ONE_DOCUMENT.as_bytes(),
+        Blank::new(1),
+    )
+}
+
+#[test]
+fn a_failed_draw_is_named(rt: HostRuntime) -> Result<(), Fail> {
+    let alloc = rt.alloc();
+    let words = words_of(alloc, "transfer p q 1 9")?;
+    let mut draw = counting_draw(alloc, 1)?;
+    ran_with::<_, Brand, _>(
+        &rt,
+        alloc,
+        words.as_slice(),
+        ONE_KEY.as_bytes(),
+        &mut draw,
+        NEVER,
+        NEVER,
+        Status::Rng,
+        b"error: Rng\n",
+        Blank::new(1),
+    )
 }

@@ -1,12 +1,14 @@
 //! The transfer of one store.
-ghost use Rattle.std.specs.Prelude.{◌≡◌, ◌≤◌, ◌<◌, ◌+◌, ◌^◌, ℕ, length, IfOk, IfErr};
+ghost use Rattle.std.specs.Prelude.{◌≡◌, ◌≤◌, ◌<◌, ◌+◌, ◌^◌, ℕ, length, IfOk, IfErr, ⊤};
 ghost use Rattle.transfer.specs.TransferError.{RefusedBy};
-ghost use Rattle.transfer.specs.Transferred.{IsRefused, Settles, Transfers};
+ghost use Rattle.transfer.specs.Transferred.{IsRefused, RunsShort, Settles, Transfers};
 
 use crate::certificates::certificates_of;
 use crate::error::TransferError;
 use crate::opening::open_store;
+use crate::sealing::seal_all;
 use asn1_core::{Items, Octets};
+use mac_modes::Draw;
 use std::alloc::Global;
 use std::sync::ledger::Ledger;
 use steps::Steps;
@@ -16,27 +18,37 @@ use steps::Steps;
 pub struct Transferred {
     /// The octets of the X.509 certificates, in store order.
     pub certificates: Items<Octets>,
-    /// Documents that seal the store's keys anew: none yet.
+    /// A document for each encrypted private key, in store order: an EncryptedPrivateKeyInfo in DER (RFC 5958 section 3).
     pub documents: Items<Octets>,
 }
 
-/// Opens the store under the password, and answers its certificates.
+/// Opens the store under the password, and answers its certificates and, for each encrypted private key, one document that
+/// seals the key's canonical encoding under the new password: by PBES2 with PBKDF2 over HMAC-SHA-256 in this number of rounds, and
+/// AES-256-CBC. For each key 16 octets of IV and then 16 of salt are drawn, after every other refusal is decided.
 ///
-/// `limit` is the most steps, of which each SHA-1 digest of an iteration is one. The refusals stand in `TransferError`,
-/// in their order; each comes exactly where it is the first cause, but want of memory may come in its place.
+/// `limit` is the most steps, of which each SHA-1 digest of an iteration is one; the rounds of a document are not counted. The
+/// refusals stand in `TransferError`, in their order; each comes exactly where it is the first cause, but want of memory may
+/// come in its place. After a refusal other than `Rng` and `Memory` the draw is as it was.
 ///
-/// Caller: the password has fewer than 2^57 octets.
-pub fn transfer<L: Ledger>(
+/// Caller: the password has fewer than 2^57 octets, and the rounds are 1 to 100,000,000.
+pub fn transfer<D: Draw, L: Ledger>(
     alloc: Global,
     store: &[u8],
     password: &str,
+    new_password: &[u8],
+    rounds: u32,
+    draw: &mut D,
     limit: u64,
     steps: &mut Steps<L>,
 ) -> Result<Transferred, TransferError>
-    requires { length password.now < 2 ^ 57 }
-    ensures opened { IfOk result (λ t. Transfers store.now password.now limit steps.old steps.new t.certificates t.documents) }
-    ensures refused { IfErr result (RefusedBy (IsRefused store.now password.now limit steps.old steps.new)) }
-    ensures exact { Settles store.now password.now limit result }
+    requires password { length password.now < 2 ^ 57 }
+    requires rounds { (1 ≤ rounds) × (rounds ≤ 100000000) }
+    ensures opened { IfOk result (λ t. Transfers store.now password.now limit rounds new_password.now (D.left draw.old) (D.left draw.new) steps.old steps.new t.certificates t.documents) }
+    ensures refused { IfErr result (RefusedBy (IsRefused store.now password.now limit steps.old steps.new)
+        (RunsShort store.now password.now limit (D.left draw.old) (D.faults draw.old) (D.faults draw.new) steps.old steps.new)) }
+    ensures exact { Settles store.now password.now limit (D.left draw.old) result }
+    ensures untouched { IfErr result (RefusedBy (λ e. draw.new ≡ draw.old) ⊤) }
+    ensures count { D.faults draw.old ≤ D.faults draw.new }
     ensures at_most { (steps.old ≤ steps.new) × (steps.new ≤ steps.old + limit) }
 {
     let opened = match open_store(alloc, store, password, limit, steps) {
@@ -44,8 +56,11 @@ pub fn transfer<L: Ledger>(
         Err(e) => return Err(e),
     };
     let certificates = certificates_of(alloc, opened.contents.as_slice())?;
-    Ok(Transferred {
-        certificates,
-        documents: Items::new(alloc),
-    })
+    match seal_all(alloc, opened.keys.as_slice(), new_password, rounds, draw) {
+        Ok(documents) => Ok(Transferred {
+            certificates,
+            documents,
+        }),
+        Err(e) => Err(e),
+    }
 }

@@ -1,16 +1,21 @@
-//! The program: the top call on standard input and standard output.
+//! The program: the top call on standard input, the system's random octets and standard output.
 #![tactic(auto)]
 
 ghost use Rattle.std.specs.Prelude.{◌≡◌, ◌<◌};
 
+use asn1_core::Octets;
+use mac_modes::{Draw, DrawnBytes, ReadDraw};
 use std::alloc::Global;
 use std::marker::Brand;
 use std::process::ExitCode;
 use std::rt::Env;
 use std::sync::ledger::{Blank, Ledger};
-use std::{env, io};
+use std::{env, fs, io};
 use steps::Steps;
 use transfer::{ReadSource, Sink, Source, Status, WriteSink, run};
+
+/// Where the system's random octets are read.
+const RANDOM: &str = "/dev/urandom";
 
 /// What the program ends with where the words themselves cannot be had.
 const NO_WORDS: u8 = 7;
@@ -25,10 +30,11 @@ fn words_after_name<R: Env + Alloc<A = Global>>(rt: &R) -> io::Result<Vec<String
 }
 
 /// The top call with a step counter of its own.
-fn run_from<I: Source, O: Sink, L: Ledger>(
+fn run_from<I: Source, D: Draw, O: Sink, L: Ledger>(
     alloc: Global,
     words: &[String],
     input: &mut I,
+    draw: &mut D,
     output: &mut O,
     blank: Blank,
 ) -> Status
@@ -37,7 +43,7 @@ fn run_from<I: Source, O: Sink, L: Ledger>(
     requires some { 0 < blank.parts }
 {
     let mut steps = Steps::<L>::open(blank);
-    run(alloc, words, input, output, &mut steps)
+    run(alloc, words, input, draw, output, &mut steps)
 }
 
 fn main(rt: HostRuntime) -> ExitCode {
@@ -46,12 +52,18 @@ fn main(rt: HostRuntime) -> ExitCode {
     };
     let mut input = ReadSource::new(rt.stdin());
     let mut output = WriteSink::new(rt.stdout());
-    let status = run_from::<_, _, Brand>(
-        rt.alloc(),
-        words.as_slice(),
-        &mut input,
-        &mut output,
-        Blank::new(1),
-    );
+    let words = words.as_slice();
+    let blank = Blank::new(1);
+    let status = match fs::open(&rt, RANDOM) {
+        Ok(random) => {
+            let mut draw = ReadDraw::new(random);
+            run_from::<_, _, _, Brand>(rt.alloc(), words, &mut input, &mut draw, &mut output, blank)
+        }
+        // Certificates can still be transferred.
+        Err(_) => {
+            let mut draw = DrawnBytes::new(Octets::new(rt.alloc()));
+            run_from::<_, _, _, Brand>(rt.alloc(), words, &mut input, &mut draw, &mut output, blank)
+        }
+    };
     ExitCode::from(status.code())
 }

@@ -41,8 +41,8 @@ open_text-requires-clause-salt g c = salt_fits c.args.store.now c.in-Ok.store c.
 
 pub returns-clause-opened : goal.returns-clause-opened
 returns-clause-opened g c =
-    opened_still c.open_text.result (λ (o : Opened) n. MacTable c.args.password.now c.args.limit c.in-Data.text c.in-Some.mac (opened o.contents) n)
-    (λ (o : Opened) n. Comes c.args.store.now c.args.password.now c.args.limit (opened o.contents) n) _ _
+    opened_still c.open_text.result (λ (o : Opened) n. MacTable c.args.password.now c.args.limit c.in-Data.text c.in-Some.mac (opened o.contents o.keys) n)
+    (λ (o : Opened) n. Comes c.args.store.now c.args.password.now c.args.limit (opened o.contents o.keys) n) _ _
     (λ o n t. has_store c.args.store.now c.args.password.now c.args.limit c.in-Ok.store _ _ (grind arith) c.in-Ok.ensures.ok
     (has_mac c.args.password.now c.args.limit c.in-Ok.store c.in-Data.text c.in-Some.mac _ _ c.in-Data.is c.in-Some.is t))
     (rw (sym c.as_slice.ensures, sym c.in_ok-password.ensures.ok) c.open_text.ensures.opened)

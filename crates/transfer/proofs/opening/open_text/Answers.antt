@@ -28,7 +28,7 @@ pub returns-in-Ok-parse_all-clause-opened : goal.returns-in-Ok-parse_all-clause-
 returns-in-Ok-parse_all-clause-opened g c =
     let p = c.in-Ok.ensures.passed in
     let m = c.args.mac.now in
-    opened_as c.open_parts.result (λ (o : Opened) n. ContentsTable c.args.password.now c.args.limit m.iterations c.in-Ok-parse_all.contents (opened o.contents) (m.iterations + n))
-    (λ (o : Opened) n. MacTable c.args.password.now c.args.limit c.args.text.now m (opened o.contents) n) c.args.steps.now c.check_mac.new.steps c.open_parts.new.steps m.iterations (omega (arith, p.1, p.3))
-    (λ o n t. has_contents c.args.password.now c.args.limit c.args.text.now m c.in-Ok-parse_all.contents (opened o.contents) (m.iterations + n) p.0 (omega (arith, p.1, p.2)) c.in-Ok-parse_all.ensures.ok t)
+    opened_as c.open_parts.result (λ (o : Opened) n. ContentsTable c.args.password.now c.args.limit m.iterations c.in-Ok-parse_all.contents (opened o.contents o.keys) (m.iterations + n))
+    (λ (o : Opened) n. MacTable c.args.password.now c.args.limit c.args.text.now m (opened o.contents o.keys) n) c.args.steps.now c.check_mac.new.steps c.open_parts.new.steps m.iterations (omega (arith, p.1, p.3))
+    (λ o n t. has_contents c.args.password.now c.args.limit c.args.text.now m c.in-Ok-parse_all.contents (opened o.contents o.keys) (m.iterations + n) p.0 (omega (arith, p.1, p.2)) c.in-Ok-parse_all.ensures.ok t)
     (rw (sym p.1, sym c.as_slice.ensures) c.open_parts.ensures.opened)

@@ -1,0 +1,54 @@
+-- Documents that seal private keys anew under drawn octets (RFC 5958 section 3, RFC 8018 section 6.2).
+use Rattle.std.specs.Prelude.{ℕ, ◌+◌, ◌*◌, ◌<◌, ◌≡◌, List, [], ◌∷◌, ◌++◌, length, take, drop, get_or, Option, IfSome}
+use Rattle.std.specs.Io.KnownBytes.{Consumes}
+use Rattle.pkcs5.specs.Generation.{pbkdf2_sha256}
+use Rattle.pkcs5.specs.declared.pbes2.encryption_scheme.EncryptionScheme.TheVariants.{Aes256Cbc}
+use Rattle.pkcs8.specs.Seen.{AnyPrivateKey, IsPrivateKey}
+use Rattle.pkcs8.specs.Spelling.{private_key_text}
+use Rattle.pkcs8.specs.Sealing.{IsSealed}
+use Rattle.transfer.specs.Outside.{Rose}
+
+-- The document seals the private key of this text: under the password q it opens to the key's canonical encoding. It states PBKDF2
+-- over HMAC-SHA-256 with these rounds and this salt, no length of the key, and AES-256 in CBC mode with this IV.
+abbrev pub IsDocument : List ℕ → ℕ → List ℕ → List ℕ → List ℕ → List ℕ → Type 0
+IsDocument document rounds iv salt q text = (k : AnyPrivateKey) × IsPrivateKey text k × IsSealed (pbkdf2_sha256 rounds salt (Aes256Cbc iv)) q (private_key_text k) document
+
+-- It does so under these 32 octets: the IV and then the salt.
+pub record IsDrawn (rounds : ℕ) (q drawn text document : List ℕ) : Type 0 where
+  pub iv : List ℕ
+  pub salt : List ℕ
+  pub are : drawn ≡ iv ++ salt
+  pub of_16 : length iv ≡ 16
+  pub and_16 : length salt ≡ 16
+  pub is : IsDocument document rounds iv salt q text
+
+-- It does so under the next 32 octets of a draw.
+pub record Seals (rounds : ℕ) (q : List ℕ) (old new : Option (List ℕ)) (text document : List ℕ) : Type 0 where
+  pub drawn : List ℕ
+  pub by : IsDrawn rounds q drawn text document
+  pub took : Consumes old new drawn
+
+-- One document for each key, each under the next 32 of the drawn octets, and these are all of them.
+abbrev pub AreDrawn : ℕ → List ℕ → List (List ℕ) → List (List ℕ) → List ℕ → Type 0
+AreDrawn rounds q [] [] d = d ≡ []
+AreDrawn rounds q [] (b ∷ bs) d = ⊥
+AreDrawn rounds q (k ∷ ks) [] d = ⊥
+AreDrawn rounds q (k ∷ ks) (b ∷ bs) d = (first : List ℕ) × (rest : List ℕ) × (d ≡ first ++ rest) × IsDrawn rounds q first k b × AreDrawn rounds q ks bs rest
+
+-- The same over a draw: as many documents as keys, and 32 octets a key drawn.
+pub record SealsAll (rounds : ℕ) (q : List ℕ) (old new : Option (List ℕ)) (keys documents : List (List ℕ)) : Type 0 where
+  pub drawn : List ℕ
+  pub by : AreDrawn rounds q keys documents drawn
+  pub took : Consumes old new drawn
+  pub each_one : length documents ≡ length keys
+  pub each_32 : length drawn ≡ 32 * length keys
+
+-- A draw failed; where it tells its octets, for want of 32 for each of so many keys.
+abbrev pub Fails : ℕ → ℕ → Option (List ℕ) → ℕ → Type 0
+Fails before now left keys = Rose before now × IfSome left (λ d. length d < 32 * keys)
+
+-- Of sealed keys each document stands at the place of its key, under the IV and the salt at that place of the drawn octets.
+abbrev pub DrawnInPlace : Type 0
+DrawnInPlace = (rounds : ℕ) (q : List ℕ) (keys documents : List (List ℕ)) (drawn : List ℕ) → AreDrawn rounds q keys documents drawn
+    → (i : ℕ) (key document : List ℕ) → i < length keys → key ≡ get_or keys i key → document ≡ get_or documents i document
+    → IsDocument document rounds (take 16 (drop (32 * i) drawn)) (take 16 (drop (32 * i + 16) drawn)) q key
