@@ -10,14 +10,8 @@
 # keys are random: a new run writes others. Last run with OpenSSL 3.0.19.
 set -eu
 
-work=$(mktemp -d)
-trap 'rm -rf "$work"' EXIT
+. tests/vectors/openssl_rows.sh
 rows=crates/pkcs8/src/tests/openssl_documents.rt
-
-# The octets on standard input, in hexadecimal digits.
-digits() {
-    od -An -v -tx1 | tr -d ' \n'
-}
 
 # The document of a key that the further words of `genpkey` make, under the cipher $1, HMAC over the hash function $2 and $3 rounds.
 row() {

@@ -10,14 +10,8 @@
 # others. Last run with OpenSSL 3.0.19.
 set -eu
 
-work=$(mktemp -d)
-trap 'rm -rf "$work"' EXIT
+. tests/vectors/openssl_rows.sh
 rows=crates/spki/src/tests/openssl_keys.rt
-
-# The octets on standard input, in hexadecimal digits.
-digits() {
-    od -An -v -tx1 | tr -d ' \n'
-}
 
 # A key of the name $1, whose algorithm has the parameters $2, made by the further words of `genpkey`.
 row() {
