@@ -8,8 +8,7 @@ ghost use Rattle.std.specs.Cmp.{partial_order_from_own_ties};
 ghost use Rattle.std.specs.Cmp.Rules.{comparing, hashing};
 ghost use Rattle.std.proofs.Common.{rules};
 
-use crate::error::Error;
-use std::alloc::Global;
+use std::alloc::{AllocError, Global};
 use std::cmp::Ordering;
 use std::convert::AsSlice;
 use std::hash::{Hash, Hasher};
@@ -28,7 +27,7 @@ impl Model for Octets {
 }
 
 impl Octets {
-    ghost use Rattle.asn1_core.specs.Lending.{LendsAll};
+    ghost use Rattle.octet_core.specs.Lending.{LendsAll};
 
     /// No octets. This takes no memory yet.
     pub fn new(alloc: Global) -> Octets
@@ -39,10 +38,9 @@ impl Octets {
         }
     }
 
-    /// A copy of these octets. The only refusal is `Memory`.
-    pub fn from_slice(alloc: Global, octets: &[u8]) -> Result<Octets, Error>
-        ensures ok { IfOk result (λ o. o ≡ octets.now) }
-        ensures err { IfErr result (λ e. e ≡ Error.Memory) }
+    /// A copy of these octets. `AllocError` where there is no memory.
+    pub fn from_slice(alloc: Global, octets: &[u8]) -> Result<Octets, AllocError>
+        ensures { IfOk result (λ o. o ≡ octets.now) }
     {
         Ok(Octets {
             octets: Vec::from_slice(alloc, octets)?,
@@ -56,21 +54,19 @@ impl Octets {
         Octets { octets }
     }
 
-    /// One octet more behind the others. The only refusal is `Memory`, and nothing is changed then.
-    pub fn push(&mut self, octet: u8) -> Result<(), Error>
+    /// One octet more behind the others. `AllocError` where there is no memory, and nothing is changed then.
+    pub fn push(&mut self, octet: u8) -> Result<(), AllocError>
         ensures ok { OnOk result (self.new ≡ self.old ++ octet ∷ []) }
         ensures unchanged { OnErr result (self.new ≡ self.old) }
-        ensures err { IfErr result (λ e. e ≡ Error.Memory) }
     {
         self.octets.push(octet)?;
         Ok(())
     }
 
-    /// These octets behind the others. The only refusal is `Memory`, and nothing is changed then.
-    pub fn extend(&mut self, octets: &[u8]) -> Result<(), Error>
+    /// These octets behind the others. `AllocError` where there is no memory, and nothing is changed then.
+    pub fn extend(&mut self, octets: &[u8]) -> Result<(), AllocError>
         ensures ok { OnOk result (self.new ≡ self.old ++ octets.now) }
         ensures unchanged { OnErr result (self.new ≡ self.old) }
-        ensures err { IfErr result (λ e. e ≡ Error.Memory) }
     {
         self.octets.extend_from_slice(octets)?;
         Ok(())
@@ -112,10 +108,9 @@ impl Octets {
         self.octets.as_mut_slice()
     }
 
-    /// An equal value in memory of its own. The only refusal is `Memory`.
-    pub fn try_clone(&self, alloc: Global) -> Result<Octets, Error>
-        ensures ok { IfOk result (λ o. o ≡ self.now) }
-        ensures err { IfErr result (λ e. e ≡ Error.Memory) }
+    /// An equal value in memory of its own. `AllocError` where there is no memory.
+    pub fn try_clone(&self, alloc: Global) -> Result<Octets, AllocError>
+        ensures { IfOk result (λ o. o ≡ self.now) }
     {
         Octets::from_slice(alloc, self.octets.as_slice())
     }

@@ -1,7 +1,7 @@
 -- What octets become where they are lent to be changed.
 use Rattle.std.specs.Prelude.{ℕ, List, ◌++◌, take, drop, length}
 use Rattle.std.specs.Borrow.{Lends, MutBor, Fml, u8, Array}
-use Rattle.asn1_core.specs.contracts.octets.Octets.{the_row}
+use Rattle.octet_core.specs.contracts.octets.Octets.{the_row}
 
 -- the octets with w written over them: w itself, where it has as many
 abbrev pub written_over : List ℕ → List ℕ → List ℕ

@@ -4,8 +4,7 @@ ghost use Rattle.std.specs.Cmp.Lexicographic.{pointwise};
 ghost use Rattle.std.specs.Cmp.Rules.{comparing};
 ghost use Rattle.std.proofs.Common.{rules};
 
-use crate::error::Error;
-use std::alloc::Global;
+use std::alloc::{AllocError, Global};
 use std::marker::Model;
 
 /// A text in memory of its own, which a contract sees as the octets of its UTF-8.
@@ -21,10 +20,9 @@ impl Model for Text {
 }
 
 impl Text {
-    /// A copy of this text. The only refusal is `Memory`.
-    pub fn from_text(alloc: Global, text: &str) -> Result<Text, Error>
-        ensures ok { IfOk result (λ t. t ≡ text.now) }
-        ensures err { IfErr result (λ e. e ≡ Error.Memory) }
+    /// A copy of this text. `AllocError` where there is no memory.
+    pub fn from_text(alloc: Global, text: &str) -> Result<Text, AllocError>
+        ensures { IfOk result (λ t. t ≡ text.now) }
     {
         Ok(Text {
             text: String::from_str(alloc, text)?,
@@ -45,10 +43,9 @@ impl Text {
         self.text.as_str()
     }
 
-    /// An equal value in memory of its own. The only refusal is `Memory`.
-    pub fn try_clone(&self, alloc: Global) -> Result<Text, Error>
-        ensures ok { IfOk result (λ t. t ≡ self.now) }
-        ensures err { IfErr result (λ e. e ≡ Error.Memory) }
+    /// An equal value in memory of its own. `AllocError` where there is no memory.
+    pub fn try_clone(&self, alloc: Global) -> Result<Text, AllocError>
+        ensures { IfOk result (λ t. t ≡ self.now) }
     {
         Text::from_text(alloc, self.text.as_str())
     }

@@ -1,8 +1,7 @@
 //! Lists in memory of their own.
 ghost use Rattle.std.specs.Prelude.{◌≡◌, List, [], ◌∷◌, ◌++◌, length, IfErr, OnOk, OnErr, slice_get, ◌==◌, ◌↔◌, ◌≤◌, IfSome, IsNone, Some};
 
-use crate::error::Error;
-use std::alloc::Global;
+use std::alloc::{AllocError, Global};
 use std::marker::Model;
 
 /// A list in memory of its own, which a contract sees as a list.
@@ -27,13 +26,12 @@ impl<T> Items<T> {
         }
     }
 
-    /// One item more behind the others. The only refusal is `Memory`, and nothing is changed then; the item is let go.
-    pub fn push(&mut self, item: T) -> Result<(), Error>
+    /// One item more behind the others. `AllocError` where there is no memory, and nothing is changed then; the item is let go.
+    pub fn push(&mut self, item: T) -> Result<(), AllocError>
     where
         T: Drop,
         ensures ok { OnOk result (self.new ≡ self.old ++ item ∷ []) }
         ensures unchanged { OnErr result (self.new ≡ self.old) }
-        ensures err { IfErr result (λ e. e ≡ Error.Memory) }
     {
         self.items.push(item)?;
         Ok(())

@@ -1,6 +1,6 @@
 //! Arrays that hold octets in front and zeros behind them.
 ghost use Rattle.std.specs.Prelude.{◌≡◌, ◌≤◌, length};
-ghost use Rattle.asn1_core.specs.Padded.{padded};
+ghost use Rattle.octet_core.specs.Padded.{padded};
 
 /// An array of `N` octets: the given ones in front, and zeros behind them. Caller: there are at most `N` octets.
 pub fn pad<const N: usize>(octets: &[u8]) -> [u8; N]

@@ -1,8 +1,8 @@
 use Rattle.std.proofs.Common.{length, get_or, arith, ap}
 use Rattle.std.proofs.lemmas.Bool.Decides.{nat_tests}
-use Rattle.asn1_core.proofs.Numerals.{read, not_empty, no_plus, no_zero, some_from_ok, none_from_ok}
-use Rattle.asn1_core.proofs.decimal.decimal_of.Goals.{else-digits-eq48-via-then-digits-eq48+else-digits-gt1, else-digits-eq48-via-else-digits-eq48, After-ok}
-use Rattle.asn1_core.proofs.decimal.decimal_of.Goals as goal
+use Rattle.octet_core.proofs.Numerals.{read, not_empty, no_plus, no_zero, some_from_ok, none_from_ok}
+use Rattle.octet_core.proofs.decimal.decimal_u64_of.Goals.{else-digits-eq48-via-then-digits-eq48+else-digits-gt1, else-digits-eq48-via-else-digits-eq48, After-ok}
+use Rattle.octet_core.proofs.decimal.decimal_u64_of.Goals as goal
 
 pub returns-then-is_empty-clause-none : goal.returns-then-is_empty-clause-none
 returns-then-is_empty-clause-none c = λ n small is.
