@@ -1,25 +1,10 @@
 //! Where random octets come from.
-ghost use Rattle.std.specs.Prelude.{ℕ, List, codes, Some};
+ghost use Rattle.std.specs.Prelude.{ℕ, List};
 ghost use Rattle.std.specs.declared.option.Option.{Option};
-ghost use Rattle.mac_modes.specs.Draw.{FailsShort, Fills};
-ghost use Rattle.mac_modes.specs.Faults.{HasCause};
+ghost use Rattle.outside.specs.Draw.{FailsShort, Fills};
+ghost use Rattle.outside.specs.Faults.{HasCause};
 
-use std::error::Error;
-use std::fmt;
-
-/// A draw could not give the octets that it was asked for.
-#[derive(Clone, Copy, PartialEq, Eq, Debug, Drop)]
-pub struct Failed;
-
-impl fmt::Display for Failed {
-    ghost output = { λ _. Some (codes "Failed") };
-
-    fn fmt<W: fmt::Write>(&self, f: &mut fmt::Formatter<W>) -> fmt::Result {
-        f.write_str("Failed")
-    }
-}
-
-impl Error for Failed {}
+use crate::failed::Failed;
 
 /// Where random octets come from. A draw may tell which octets are to come, in `left`, or nothing, and it counts its
 /// faults: the count never falls, and stays at `u64::MAX` once it stands there.

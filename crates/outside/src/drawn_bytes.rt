@@ -1,11 +1,12 @@
 //! A draw over known octets.
 ghost use Rattle.std.specs.Prelude.{◌≡◌, ◌<◌, ◌≤◌, ◌↔◌, ◌++◌, length, drop, Some, OnOk, OnErr, IsErr};
-ghost use Rattle.mac_modes.specs.Draw.{FailsShort, Fills};
-ghost use Rattle.mac_modes.specs.DrawnBytes.{DrawnState};
-ghost use Rattle.mac_modes.specs.Faults.{HasCause, one_more};
+ghost use Rattle.outside.specs.Draw.{FailsShort, Fills};
+ghost use Rattle.outside.specs.DrawnBytes.{DrawnState};
+ghost use Rattle.outside.specs.Faults.{HasCause, one_more};
 
-use crate::draw::{Draw, Failed};
-use asn1_core::Octets;
+use crate::draw::Draw;
+use crate::failed::Failed;
+use octet_core::Octets;
 use std::marker::Model;
 
 /// Octets in memory that are drawn in their order.

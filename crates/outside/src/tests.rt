@@ -1,13 +1,13 @@
 //! Draws over octets in memory, and over a reader and a generator that may fail.
 use crate::{Draw, DrawnBytes, Failed, FailingDraw, ReadDraw, TryRngDraw};
-use asn1_core::{Items, Octets};
+use octet_core::{Items, Octets};
 use rand_core::TryRng;
 use std::alloc::Global;
 use std::fmt;
 use std::test::Fail;
 
 /// A draw of the octets 1 to 5.
-fn one_to_five(alloc: Global) -> Result<DrawnBytes, asn1_core::Error> {
+fn one_to_five(alloc: Global) -> Result<DrawnBytes, std::alloc::AllocError> {
     Ok(DrawnBytes::new(Octets::from_slice(alloc, &[1, 2, 3, 4, 5])?))
 }
 

@@ -1,10 +1,11 @@
 //! A draw over a random number generator.
 ghost use Rattle.std.specs.Prelude.{◌≡◌, None, OnOk, OnErr};
-ghost use Rattle.mac_modes.specs.Draw.{FailsShort, Fills};
-ghost use Rattle.mac_modes.specs.Faults.{HasCause, one_more};
-ghost use Rattle.mac_modes.specs.OutsideDraw.{OutsideDraw};
+ghost use Rattle.outside.specs.Draw.{FailsShort, Fills};
+ghost use Rattle.outside.specs.Faults.{HasCause, one_more};
+ghost use Rattle.outside.specs.Adapter.{Adapter};
 
-use crate::draw::{Draw, Failed};
+use crate::draw::Draw;
+use crate::failed::Failed;
 use rand_core::TryRng;
 use std::marker::Model;
 
@@ -16,7 +17,7 @@ pub struct TryRngDraw<R> {
 }
 
 impl<R> Model for TryRngDraw<R> {
-    ghost Value = { OutsideDraw R };
+    ghost Value = { Adapter R };
 
     ghost view = { λ d. record { inner = d.rng; faults = d.faults } };
 }

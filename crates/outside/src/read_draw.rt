@@ -1,11 +1,12 @@
 //! A draw over a reader.
 ghost use Rattle.std.specs.Prelude.{◌≡◌, None, OnOk, OnErr};
 ghost use Rattle.std.specs.Io.KnownBytes.{Consumes};
-ghost use Rattle.mac_modes.specs.Draw.{FailsShort, Fills};
-ghost use Rattle.mac_modes.specs.Faults.{HasCause, one_more};
-ghost use Rattle.mac_modes.specs.OutsideDraw.{OutsideDraw};
+ghost use Rattle.outside.specs.Draw.{FailsShort, Fills};
+ghost use Rattle.outside.specs.Faults.{HasCause, one_more};
+ghost use Rattle.outside.specs.Adapter.{Adapter};
 
-use crate::draw::{Draw, Failed};
+use crate::draw::Draw;
+use crate::failed::Failed;
 use std::io::Read;
 use std::marker::Model;
 
@@ -17,7 +18,7 @@ pub struct ReadDraw<R> {
 }
 
 impl<R> Model for ReadDraw<R> {
-    ghost Value = { OutsideDraw R };
+    ghost Value = { Adapter R };
 
     ghost view = { λ d. record { inner = d.reader; faults = d.faults } };
 }

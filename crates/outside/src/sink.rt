@@ -1,0 +1,25 @@
+//! Where octets go.
+ghost use Rattle.std.specs.Prelude.{ℕ, List};
+ghost use Rattle.std.specs.declared.option.Option.{Option};
+ghost use Rattle.std.specs.Io.{WritesAtMost};
+ghost use Rattle.outside.specs.Faults.{HasCause};
+ghost use Rattle.outside.specs.Sink.{Writes};
+
+use crate::failed::Failed;
+
+/// Where octets go. A sink may tell which octets were written, in `written`, or nothing, and it counts its faults: the
+/// count never falls, and stays at `u64::MAX` once it stands there.
+pub trait Sink {
+    // the octets written, where the sink tells them
+    ghost written: { Self → Option (List ℕ) };
+
+    // how often a write failed
+    ghost faults: { Self → ℕ };
+
+    /// Takes octets from the front of the piece, and answers how many: of a piece that has any at least one. A write
+    /// that fails takes nothing.
+    fn write(&mut self, piece: &[u8]) -> Result<usize, Failed>
+        ensures bound { WritesAtMost result piece.now }
+        ensures octets { Writes (written self.old) (written self.new) result piece.now }
+        ensures cause { HasCause (faults self.old) (faults self.new) result };
+}
