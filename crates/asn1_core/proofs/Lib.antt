@@ -5,7 +5,6 @@ pub mod UnicodeLaws
 pub mod Identifiers
 pub mod ArcsRead
 pub mod Made
-pub mod Numerals
 pub mod Words
 pub mod Forms
 pub mod Parted

@@ -1,6 +1,6 @@
 -- Object identifiers as lists of octets (X.690 section 8.19), and how the fields of an `ObjectIdentifier` hold one.
 use Rattle.std.specs.Prelude.{ℕ, zero, suc, ◌≡◌, ◌+◌, ◌-◌, ◌*◌, ◌/◌, ◌%◌, ◌^◌, ◌<◌, ◌≤◌, Bool, true, false, ◌&&◌, not, ◌==◌, nat_lt, if◌then◌else◌, List, [], ◌∷◌, ◌++◌, length, take, Option, Some, None, IsTrue}
-use Rattle.asn1_core.specs.Padded.{IsPadded}
+use Rattle.octet_core.specs.Padded.{IsPadded}
 
 -- ---- the grammar
 

@@ -1,8 +1,6 @@
-pub mod Padded
 pub mod Identifier
 pub mod Arcs
 pub mod Oid
-pub mod Lending
 pub mod Error
 pub mod Der
 pub mod Reading

@@ -6,7 +6,7 @@ use Rattle.std.specs.Cmp.Lexicographic.{pointwise, bytes_decides}
 use Rattle.std.proofs.Common.{sym, ◌∙◌, ap, subst, rules, true≢false}
 use Rattle.std.proofs.Props.{props}
 use Rattle.asn1_core.specs.Identifier.{Holds, is_identifier}
-use Rattle.asn1_core.specs.Padded.{IsPadded, padded, padded_take, length-take_padded, is_padded, take_padded}
+use Rattle.octet_core.specs.Padded.{IsPadded, padded, padded_take, length-take_padded, is_padded, take_padded}
 use Rattle.asn1_core.specs.declared.identifier.ObjectIdentifier.{ObjectIdentifier}
 
 abbrev pub oid_octets : ObjectIdentifier → List ℕ

@@ -7,7 +7,7 @@ use crate::error::Error;
 use crate::front::inner_in_front;
 use crate::slice_reader::SliceReader;
 use crate::tag::Tag;
-use crate::text::Text;
+use octet_core::Text;
 use std::alloc::Global;
 
 pub(crate) fn are_ascii(octets: &[u8]) -> bool

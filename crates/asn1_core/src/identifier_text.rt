@@ -4,7 +4,7 @@ ghost use Rattle.std.specs.Fmt.{DisplaysOnOk};
 ghost use Rattle.asn1_core.specs.Identifier.{AllUnder};
 ghost use Rattle.asn1_core.specs.Arcs.{words, arc_text};
 
-use crate::decimal::decimal_of;
+use octet_core::decimal_of;
 use std::fmt;
 
 /// The word in front of the first point, and what stands behind it.

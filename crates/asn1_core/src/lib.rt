@@ -4,7 +4,6 @@
 
 mod arcs;
 mod characters;
-mod decimal;
 mod element;
 mod encoding;
 mod error;
@@ -14,24 +13,19 @@ mod identifier;
 mod identifier_laws;
 mod identifier_text;
 mod integer;
-mod items;
 mod laws;
-mod octets;
-mod padded;
 mod read;
 mod reader;
 mod slice_reader;
 mod slice_writer;
 mod subidentifiers;
 mod tag;
-mod text;
 mod vec_writer;
 mod write;
 mod write_set;
 mod write_text;
 mod writer;
 
-pub use decimal::decimal_of;
 pub use error::Error;
 pub use header::{Header, Length};
 pub use identifier::ObjectIdentifier;
@@ -40,16 +34,13 @@ pub use identifier_laws::{
     octets_have_one_identifier, texts_have_one_identifier,
 };
 pub use integer::uint_value;
-pub use items::Items;
 pub use laws::{elements_are_parted, identifiers_are_tested};
-pub use octets::Octets;
-pub use padded::pad;
+pub use octet_core::{Items, Octets, Text};
 pub use read::{read_bmp, read_ia5, read_identifier, read_inner, read_raw, read_uint};
 pub use reader::Reader;
 pub use slice_reader::SliceReader;
 pub use slice_writer::SliceWriter;
 pub use tag::Tag;
-pub use text::Text;
 pub use vec_writer::VecWriter;
 pub use write::{
     element_len, number_octets, uint_value_len, write_element, write_header, write_uint,

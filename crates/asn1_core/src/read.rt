@@ -11,7 +11,7 @@ use crate::front::{identifier_in_front, inner_in_front, raw_in_front, uint_in_fr
 use crate::identifier::ObjectIdentifier;
 use crate::slice_reader::SliceReader;
 use crate::tag::Tag;
-use crate::text::Text;
+use octet_core::Text;
 use std::alloc::Global;
 
 /// The value of one element of this tag, as a reader of its own. `Malformed` exactly where no such element stands next; the

@@ -2,8 +2,8 @@
 ghost use Rattle.std.specs.Prelude.{◌≡◌, [], None};
 
 use crate::error::Error;
-use crate::octets::Octets;
 use crate::writer::Writer;
+use octet_core::Octets;
 use std::alloc::Global;
 
 /// A writer into memory of its own.
@@ -36,6 +36,6 @@ impl Writer for VecWriter {
 
     /// The only refusal is `Memory`, and nothing is written then.
     fn write(&mut self, octets: &[u8]) -> Result<(), Error> {
-        self.octets.extend(octets)
+        Ok(self.octets.extend(octets)?)
     }
 }

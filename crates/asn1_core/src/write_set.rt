@@ -6,11 +6,10 @@ ghost use Rattle.asn1_core.specs.Writing.{Writes, IsOverlong, in_memory};
 
 use crate::error::Error;
 use crate::header::Length;
-use crate::items::Items;
-use crate::octets::Octets;
 use crate::tag::Tag;
 use crate::write::{element_len, write_header};
 use crate::writer::Writer;
+use octet_core::{Items, Octets};
 use std::alloc::Global;
 
 /// The octets of the elements, in ascending order.

@@ -6,8 +6,3 @@ pub mod HmacLaws
 pub mod Padding
 pub mod Cbc
 pub mod ModeError
-pub mod Faults
-pub mod Draw
-pub mod DrawnBytes
-pub mod FailingDraw
-pub mod OutsideDraw

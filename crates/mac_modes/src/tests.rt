@@ -1,3 +1,2 @@
 mod cbc_texts;
-mod draws;
 mod hmac_tags;

@@ -1,5 +1,5 @@
 //! A few octets in place.
-ghost use Rattle.std.specs.Prelude.{◌≡◌, ℕ, ◌≤◌, List, length, nat_eq};
+ghost use Rattle.std.specs.Prelude.{◌≡◌, ℕ, ◌+◌, ◌≤◌, ◌==◌, List, ◌++◌, length, nat_eq};
 ghost use Rattle.std.specs.Cmp.Lexicographic.{pointwise};
 ghost use Rattle.std.specs.Cmp.Rules.{comparing};
 ghost use Rattle.std.proofs.Common.{rules};
@@ -42,6 +42,33 @@ impl<const MAX: usize> ShortOctets<MAX> {
             octets: pad(octets),
             size: octets.len(),
         }
+    }
+
+    /// How many octets there are.
+    pub fn len(&self) -> usize
+        ensures value { result ≡ length self.now }
+        ensures most { result ≤ MAX }
+    {
+        self.size
+    }
+
+    /// Whether there are none.
+    pub fn is_empty(&self) -> bool
+        ensures { result ≡ (length self.now == 0) }
+    {
+        self.size == 0
+    }
+
+    /// These octets behind the others. Caller: together they are at most `MAX`.
+    pub fn extend(&mut self, octets: &[u8])
+        requires { length self.old + length octets.now ≤ MAX }
+        ensures { self.new ≡ self.old ++ octets.now }
+    {
+        let start = self.size;
+        let end = start + octets.len();
+        let all = &mut self.octets[..];
+        all[start..end].copy_from_slice(octets);
+        self.size = end;
     }
 
     /// The octets, borrowed.

@@ -4,7 +4,7 @@ use Rattle.std.proofs.lemmas.List.{take_at}
 use Rattle.sha1.specs.Sha1.{sha1}
 use Rattle.block_core.specs.Tdes.{inv_tdes}
 use Rattle.mac_modes.specs.Cbc.{uncbc}
-use Rattle.asn1_core.specs.Lending.{written_over}
+use Rattle.octet_core.specs.Lending.{written_over}
 use Rattle.p12.specs.Derivation.{derive12}
 use Rattle.p12.specs.AlgorithmIdentifier.{unpadded, triple_des_text}
 

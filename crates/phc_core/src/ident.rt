@@ -7,35 +7,30 @@ ghost use Rattle.std.proofs.Common.{rules};
 ghost use Rattle.phc_core.specs.Ident.{IsNameOctet, IsIdent};
 
 use crate::error::Error;
-use asn1_core::pad;
+use octet_core::ShortOctets;
 use std::marker::Model;
 
 /// An identifier, as of an algorithm, or the name of a parameter: 1 to 32 characters of `a-z0-9-`.
 #[derive(Clone, Copy, Debug)]
 pub struct Ident {
-    octets: [u8; 32],
-    size: usize,
+    octets: ShortOctets<32>,
 }
 
 impl Model for Ident {
-    ghost use Rattle.std.specs.Prelude.{ℕ, List, length, take, ◌≡◌};
-    ghost use Rattle.asn1_core.specs.Padded.{IsPadded, padded, padded_take, length-take_padded};
+    ghost use Rattle.std.specs.Prelude.{ℕ, List};
     ghost use Rattle.phc_core.specs.Ident.{IsIdent};
 
     ghost Value = { List ℕ };
 
-    ghost view = { λ s. take s.size s.octets };
+    ghost view = { λ s. s.octets };
 
-    ghost invariant = { λ s. IsPadded 32 s.size s.octets × IsIdent (take s.size s.octets) };
+    ghost invariant = { λ s. IsIdent s.octets };
 
-    ghost inverse = { λ d. record { octets = padded 32 d; size = length d } };
-
-    ghost inverse_ok = { λ a h i. record { octets = padded_take 32 a.size a.octets h.0 i; size = length-take_padded 32 a.size a.octets h.0 i } };
+    ghost inverse = { λ d. record { octets = d } };
 }
 
 impl Ident {
     /// The identifier that is this text. `EncodingInvalid` exactly where the text is none.
-    #[tactic(auto, using(asn1_core::specs::Padded::is_padded, asn1_core::specs::Padded::take_padded))]
     pub fn new(text: &str) -> Result<Ident, Error>
         ensures ok { IfOk result (λ i. (i ≡ text.now) × IsIdent text.now) }
         ensures err { IfErr result (λ e. (e ≡ Error.EncodingInvalid) × (IsIdent text.now → ⊥)) }
@@ -44,8 +39,7 @@ impl Ident {
             return Err(Error::EncodingInvalid);
         }
         Ok(Ident {
-            octets: pad(text.as_bytes()),
-            size: text.len(),
+            octets: ShortOctets::new(text.as_bytes()),
         })
     }
 
@@ -54,7 +48,7 @@ impl Ident {
         ensures value { result.now ≡ self.now }
         ensures grammar { IsIdent self.now }
     {
-        match std::str::from_utf8(&self.octets[..self.size]) {
+        match std::str::from_utf8(self.octets.as_slice()) {
             Ok(text) => text,
             Err(_) => "",
         }
@@ -67,7 +61,7 @@ impl PartialEq for Ident {
     ghost laws = { Prim.search (comparing, rules) };
 
     fn eq(&self, other: &Ident) -> bool {
-        self.octets[..self.size] == other.octets[..other.size]
+        self.octets == other.octets
     }
 }
 

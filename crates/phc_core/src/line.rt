@@ -3,23 +3,21 @@ ghost use Rattle.std.specs.Prelude.{◌≡◌, ◌+◌, ◌<◌, ◌≤◌, ◌+
 ghost use Rattle.phc_core.specs.ParamsString.{with_pair};
 
 use crate::error::Error;
+use octet_core::ShortOctets;
 use std::marker::Model;
 
-/// Up to 127 octets, which grow at the end.
+/// A parameter text of at most 127 octets, which grows at the end.
 #[derive(Drop)]
 pub(crate) struct Line {
-    octets: [u8; 127],
-    size: usize,
+    octets: ShortOctets<127>,
 }
 
 impl Model for Line {
-    ghost use Rattle.std.specs.Prelude.{ℕ, List, ◌≤◌, take};
+    ghost use Rattle.std.specs.Prelude.{ℕ, List};
 
     ghost Value = { List ℕ };
 
-    ghost view = { λ l. take l.size l.octets };
-
-    ghost invariant = { λ l. l.size ≤ 127 };
+    ghost view = { λ l. l.octets };
 }
 
 impl Line {
@@ -27,8 +25,7 @@ impl Line {
         ensures { result ≡ [] }
     {
         Line {
-            octets: [0; 127],
-            size: 0,
+            octets: ShortOctets::new(&[]),
         }
     }
 
@@ -38,21 +35,18 @@ impl Line {
         ensures fits { OnOk result (length self.old + length text.now ≤ 127) }
         ensures err { IfErr result (λ e. (e ≡ Error.ParamsInvalid) × (127 < length self.old + length text.now)) }
     {
-        if text.len() > 127 - self.size {
+        if text.len() > 127 - self.octets.len() {
             return Err(Error::ParamsInvalid);
         }
-        let end = self.size + text.len();
-        self.octets[self.size..end].copy_from_slice(text.as_bytes());
-        self.size = end;
+        self.octets.extend(text.as_bytes());
         Ok(())
     }
 
     /// The octets.
-    pub(crate) fn as_slice(&self) -> &[u8]
-        ensures value { result.now ≡ self.now }
-        ensures len { length result.now < 128 }
+    pub(crate) fn into_octets(self) -> ShortOctets<127>
+        ensures { result ≡ self }
     {
-        &self.octets[..self.size]
+        self.octets
     }
 }
 

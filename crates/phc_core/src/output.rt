@@ -7,35 +7,30 @@ ghost use Rattle.phc_core.specs.Output.{IsOutput};
 ghost use Rattle.phc_core.specs.PasswordHash.{base64};
 
 use crate::error::Error;
-use asn1_core::pad;
 use base64::engine::general_purpose::STANDARD_NO_PAD;
+use octet_core::ShortOctets;
 use std::marker::Model;
 
 /// The output of a password hash function: 10 to 64 octets.
 #[derive(Clone, Copy, Debug)]
 pub struct Output {
-    octets: [u8; 64],
-    size: usize,
+    octets: ShortOctets<64>,
 }
 
 impl Model for Output {
-    ghost use Rattle.std.specs.Prelude.{ℕ, List, length, take, ◌≡◌, ◌≤◌};
-    ghost use Rattle.asn1_core.specs.Padded.{IsPadded, padded, padded_take, length-take_padded};
+    ghost use Rattle.std.specs.Prelude.{ℕ, List, length, ◌≤◌};
 
     ghost Value = { List ℕ };
 
-    ghost view = { λ s. take s.size s.octets };
+    ghost view = { λ s. s.octets };
 
-    ghost invariant = { λ s. IsPadded 64 s.size s.octets × ((10 ≤ length (take s.size s.octets)) × (length (take s.size s.octets) ≤ 64)) };
+    ghost invariant = { λ s. (10 ≤ length s.octets) × (length s.octets ≤ 64) };
 
-    ghost inverse = { λ d. record { octets = padded 64 d; size = length d } };
-
-    ghost inverse_ok = { λ a h i. record { octets = padded_take 64 a.size a.octets h.0 i; size = length-take_padded 64 a.size a.octets h.0 i } };
+    ghost inverse = { λ d. record { octets = d } };
 }
 
 impl Output {
     /// The output of these octets. `OutputSize` exactly where they are fewer than 10 or more than 64.
-    #[tactic(auto, using(asn1_core::specs::Padded::is_padded, asn1_core::specs::Padded::take_padded))]
     pub fn new(octets: &[u8]) -> Result<Output, Error>
         ensures ok { IfOk result (λ v. (v ≡ octets.now) × IsOutput octets.now) }
         ensures err { IfErr result (λ e. (e ≡ Error.OutputSize) × ((length octets.now < 10) ⊎ (64 < length octets.now))) }
@@ -44,8 +39,7 @@ impl Output {
             return Err(Error::OutputSize);
         }
         Ok(Output {
-            octets: pad(octets),
-            size: octets.len(),
+            octets: ShortOctets::new(octets),
         })
     }
 
@@ -55,14 +49,14 @@ impl Output {
         ensures least { 10 ≤ length self.now }
         ensures most { length self.now ≤ 64 }
     {
-        &self.octets[..self.size]
+        self.octets.as_slice()
     }
 
     /// The number of octets, 10 to 64.
     pub fn len(&self) -> usize
         ensures { result ≡ length self.now }
     {
-        self.size
+        self.octets.len()
     }
 
     /// The output that this field writes in Base64. `EncodingInvalid` exactly where it writes none.
@@ -90,7 +84,7 @@ impl PartialEq for Output {
     ghost laws = { Prim.search (comparing, rules) };
 
     fn eq(&self, other: &Output) -> bool {
-        self.octets[..self.size] == other.octets[..other.size]
+        self.octets == other.octets
     }
 }
 

@@ -9,46 +9,40 @@ ghost use Rattle.phc_core.specs.ParamsString.{LacksName, IsParams, pairs_of, nam
 use crate::decimal::Decimal;
 use crate::error::Error;
 use crate::ident::{Ident, is_ident};
-use crate::line::{Line, line_with_pair};
+use crate::line::line_with_pair;
 use crate::pairs::{are_pairs, count_pieces, lacks_name, pair_of, piece_at};
 use crate::value::Value;
-use asn1_core::pad;
 use itoa::Buffer;
+use octet_core::ShortOctets;
 use std::marker::Model;
 
 /// A list of parameters, seen as its text `name=value,name=value` of at most 127 characters. Names are distinct, and none
 /// is `v`.
 #[derive(Clone, Copy, Debug)]
 pub struct ParamsString {
-    octets: [u8; 127],
-    size: usize,
+    octets: ShortOctets<127>,
 }
 
 impl Model for ParamsString {
-    ghost use Rattle.std.specs.Prelude.{ℕ, List, length, take, ◌≡◌};
-    ghost use Rattle.asn1_core.specs.Padded.{IsPadded, padded, padded_take, length-take_padded};
+    ghost use Rattle.std.specs.Prelude.{ℕ, List};
     ghost use Rattle.phc_core.specs.ParamsString.{IsParams};
 
     ghost Value = { List ℕ };
 
-    ghost view = { λ s. take s.size s.octets };
+    ghost view = { λ s. s.octets };
 
-    ghost invariant = { λ s. IsPadded 127 s.size s.octets × IsParams (take s.size s.octets) };
+    ghost invariant = { λ s. IsParams s.octets };
 
-    ghost inverse = { λ d. record { octets = padded 127 d; size = length d } };
-
-    ghost inverse_ok = { λ a h i. record { octets = padded_take 127 a.size a.octets h.0 i; size = length-take_padded 127 a.size a.octets h.0 i } };
+    ghost inverse = { λ d. record { octets = d } };
 }
 
 impl ParamsString {
     /// The empty list.
-    #[tactic(auto, using(asn1_core::specs::Padded::is_padded, asn1_core::specs::Padded::take_padded))]
     pub fn new() -> ParamsString
         ensures { result ≡ [] }
     {
         ParamsString {
-            octets: pad(&[]),
-            size: 0,
+            octets: ShortOctets::new(&[]),
         }
     }
 
@@ -94,12 +88,11 @@ impl ParamsString {
         let Ok(line) = line_with_pair(self.as_text(), name, buffer.format(n)) else {
             return Err(Error::ParamsInvalid);
         };
-        *self = ParamsString::of_line(&line);
+        self.octets = line.into_octets();
         Ok(())
     }
 
     /// The list that a text writes. `EncodingInvalid` exactly where the text is empty or writes none.
-    #[tactic(auto, using(asn1_core::specs::Padded::is_padded, asn1_core::specs::Padded::take_padded))]
     pub(crate) fn read(text: &str) -> Result<ParamsString, Error>
         ensures ok { IfOk result (λ p. (p ≡ text.now) × IsParams text.now × (0 < length text.now)) }
         ensures err { IfErr result (λ e. (e ≡ Error.EncodingInvalid) × (IsParams text.now → 0 < length text.now → ⊥)) }
@@ -114,8 +107,7 @@ impl ParamsString {
             return Err(Error::EncodingInvalid);
         }
         Ok(ParamsString {
-            octets: pad(text.as_bytes()),
-            size: text.len(),
+            octets: ShortOctets::new(text.as_bytes()),
         })
     }
 
@@ -124,7 +116,7 @@ impl ParamsString {
         ensures value { result.now ≡ self.now }
         ensures grammar { IsParams self.now }
     {
-        match std::str::from_utf8(&self.octets[..self.size]) {
+        match std::str::from_utf8(self.octets.as_slice()) {
             Ok(text) => text,
             Err(_) => "",
         }
@@ -137,19 +129,6 @@ impl ParamsString {
         let text = self.as_text();
         text.is_empty() || lacks_name(text, name)
     }
-
-    /// The list that this line writes.
-    #[tactic(auto, using(asn1_core::specs::Padded::is_padded, asn1_core::specs::Padded::take_padded))]
-    fn of_line(line: &Line) -> ParamsString
-        requires { IsParams line.now }
-        ensures { result ≡ line.now }
-    {
-        let octets = line.as_slice();
-        ParamsString {
-            octets: pad(octets),
-            size: octets.len(),
-        }
-    }
 }
 
 impl PartialEq for ParamsString {
@@ -158,7 +137,7 @@ impl PartialEq for ParamsString {
     ghost laws = { Prim.search (comparing, rules) };
 
     fn eq(&self, other: &ParamsString) -> bool {
-        self.octets[..self.size] == other.octets[..other.size]
+        self.octets == other.octets
     }
 }
 

@@ -11,7 +11,7 @@ use crate::params_string::ParamsString;
 use crate::reading::{cut, read_version};
 use crate::salt::Salt;
 use crate::writing::write_version;
-use asn1_core::Text;
+use octet_core::Text;
 use std::alloc::Global;
 use std::fmt;
 use std::str::FromStr;

@@ -9,7 +9,7 @@ use crate::error::Error;
 use crate::output::Output;
 use crate::params_string::ParamsString;
 use crate::salt::Salt;
-use asn1_core::decimal_of;
+use octet_core::decimal_of;
 
 /// The first field of a text, and what stands behind its `$`.
 pub(crate) fn cut(text: &str) -> (&str, Option<&str>)

@@ -7,35 +7,30 @@ ghost use Rattle.phc_core.specs.Salt.{IsSalt};
 ghost use Rattle.phc_core.specs.PasswordHash.{base64};
 
 use crate::error::Error;
-use asn1_core::pad;
 use base64::engine::general_purpose::STANDARD_NO_PAD;
+use octet_core::ShortOctets;
 use std::marker::Model;
 
 /// A salt: 8 to 48 octets.
 #[derive(Clone, Copy, Debug)]
 pub struct Salt {
-    octets: [u8; 48],
-    size: usize,
+    octets: ShortOctets<48>,
 }
 
 impl Model for Salt {
-    ghost use Rattle.std.specs.Prelude.{ℕ, List, length, take, ◌≡◌, ◌≤◌};
-    ghost use Rattle.asn1_core.specs.Padded.{IsPadded, padded, padded_take, length-take_padded};
+    ghost use Rattle.std.specs.Prelude.{ℕ, List, length, ◌≤◌};
 
     ghost Value = { List ℕ };
 
-    ghost view = { λ s. take s.size s.octets };
+    ghost view = { λ s. s.octets };
 
-    ghost invariant = { λ s. IsPadded 48 s.size s.octets × ((8 ≤ length (take s.size s.octets)) × (length (take s.size s.octets) ≤ 48)) };
+    ghost invariant = { λ s. (8 ≤ length s.octets) × (length s.octets ≤ 48) };
 
-    ghost inverse = { λ d. record { octets = padded 48 d; size = length d } };
-
-    ghost inverse_ok = { λ a h i. record { octets = padded_take 48 a.size a.octets h.0 i; size = length-take_padded 48 a.size a.octets h.0 i } };
+    ghost inverse = { λ d. record { octets = d } };
 }
 
 impl Salt {
     /// The salt of these octets. `SaltInvalid` exactly where they are fewer than 8 or more than 48.
-    #[tactic(auto, using(asn1_core::specs::Padded::is_padded, asn1_core::specs::Padded::take_padded))]
     pub fn new(octets: &[u8]) -> Result<Salt, Error>
         ensures ok { IfOk result (λ v. (v ≡ octets.now) × IsSalt octets.now) }
         ensures err { IfErr result (λ e. (e ≡ Error.SaltInvalid) × ((length octets.now < 8) ⊎ (48 < length octets.now))) }
@@ -44,8 +39,7 @@ impl Salt {
             return Err(Error::SaltInvalid);
         }
         Ok(Salt {
-            octets: pad(octets),
-            size: octets.len(),
+            octets: ShortOctets::new(octets),
         })
     }
 
@@ -55,7 +49,7 @@ impl Salt {
         ensures least { 8 ≤ length self.now }
         ensures most { length self.now ≤ 48 }
     {
-        &self.octets[..self.size]
+        self.octets.as_slice()
     }
 
     /// The salt that this field writes in Base64. `EncodingInvalid` exactly where it writes none.
@@ -83,7 +77,7 @@ impl PartialEq for Salt {
     ghost laws = { Prim.search (comparing, rules) };
 
     fn eq(&self, other: &Salt) -> bool {
-        self.octets[..self.size] == other.octets[..other.size]
+        self.octets == other.octets
     }
 }
 

@@ -8,35 +8,30 @@ ghost use Rattle.phc_core.specs.Value.{IsValueOctet, IsValue};
 
 use crate::decimal::Decimal;
 use crate::error::Error;
-use asn1_core::{decimal_of, pad};
+use octet_core::{ShortOctets, decimal_of};
 use std::marker::Model;
 
 /// The value of a parameter: 1 to 64 characters of `a-zA-Z0-9/+.-`.
 #[derive(Clone, Copy, Debug)]
 pub struct Value {
-    octets: [u8; 64],
-    size: usize,
+    octets: ShortOctets<64>,
 }
 
 impl Model for Value {
-    ghost use Rattle.std.specs.Prelude.{ℕ, List, length, take, ◌≡◌};
-    ghost use Rattle.asn1_core.specs.Padded.{IsPadded, padded, padded_take, length-take_padded};
+    ghost use Rattle.std.specs.Prelude.{ℕ, List};
     ghost use Rattle.phc_core.specs.Value.{IsValue};
 
     ghost Value = { List ℕ };
 
-    ghost view = { λ s. take s.size s.octets };
+    ghost view = { λ s. s.octets };
 
-    ghost invariant = { λ s. IsPadded 64 s.size s.octets × IsValue (take s.size s.octets) };
+    ghost invariant = { λ s. IsValue s.octets };
 
-    ghost inverse = { λ d. record { octets = padded 64 d; size = length d } };
-
-    ghost inverse_ok = { λ a h i. record { octets = padded_take 64 a.size a.octets h.0 i; size = length-take_padded 64 a.size a.octets h.0 i } };
+    ghost inverse = { λ d. record { octets = d } };
 }
 
 impl Value {
     /// The value that is this text. `EncodingInvalid` exactly where the text is none.
-    #[tactic(auto, using(asn1_core::specs::Padded::is_padded, asn1_core::specs::Padded::take_padded))]
     pub fn new(text: &str) -> Result<Value, Error>
         ensures ok { IfOk result (λ v. (v ≡ text.now) × IsValue text.now) }
         ensures err { IfErr result (λ e. (e ≡ Error.EncodingInvalid) × (IsValue text.now → ⊥)) }
@@ -45,8 +40,7 @@ impl Value {
             return Err(Error::EncodingInvalid);
         }
         Ok(Value {
-            octets: pad(text.as_bytes()),
-            size: text.len(),
+            octets: ShortOctets::new(text.as_bytes()),
         })
     }
 
@@ -55,7 +49,7 @@ impl Value {
         ensures value { result.now ≡ self.now }
         ensures grammar { IsValue self.now }
     {
-        match std::str::from_utf8(&self.octets[..self.size]) {
+        match std::str::from_utf8(self.octets.as_slice()) {
             Ok(text) => text,
             Err(_) => "",
         }
@@ -80,7 +74,7 @@ impl PartialEq for Value {
     ghost laws = { Prim.search (comparing, rules) };
 
     fn eq(&self, other: &Value) -> bool {
-        self.octets[..self.size] == other.octets[..other.size]
+        self.octets == other.octets
     }
 }
 

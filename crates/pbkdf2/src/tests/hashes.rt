@@ -1,6 +1,6 @@
 //! Password hashes: those that the Rust crate `pbkdf2` gives, and every refusal in its order.
 use crate::{Algorithm, Params, PasswordHasher, PasswordVerifier, Pbkdf2};
-use asn1_core::Octets;
+use octet_core::Octets;
 use mac_modes::DrawnBytes;
 use phc_core::{CustomizedPasswordHasher, Error, Ident, ParamsString, PasswordHash};
 use std::test::Fail;

@@ -2,7 +2,7 @@
 ghost use Rattle.std.specs.Prelude.{◌≡◌, IfOk};
 
 use crate::{Error, PasswordHash};
-use asn1_core::Text;
+use octet_core::Text;
 use std::alloc::Global;
 use std::test::Fail;
 

@@ -21,7 +21,7 @@ pub struct Salt {
 
 impl Model for Salt {
     ghost use Rattle.std.specs.Prelude.{ℕ, List, length, take, ◌≡◌};
-    ghost use Rattle.asn1_core.specs.Padded.{IsPadded, padded, padded_take, length-take_padded};
+    ghost use Rattle.octet_core.specs.Padded.{IsPadded, padded, padded_take, length-take_padded};
 
     ghost Value = { List ℕ };
 
@@ -39,7 +39,7 @@ impl Salt {
     pub const MAX_LEN: usize = 32;
 
     /// The salt of these octets. `Malformed` exactly where they are more than 32.
-    #[tactic(auto, using(asn1_core::specs::Padded::is_padded, asn1_core::specs::Padded::take_padded))]
+    #[tactic(auto, using(octet_core::specs::Padded::is_padded, octet_core::specs::Padded::take_padded))]
     pub fn new(octets: &[u8]) -> Result<Salt, Error>
         ensures ok { IfOk result (λ s. (s ≡ octets.now) × (length octets.now ≤ 32)) }
         ensures err { IfErr result (λ e. (e ≡ Error.Malformed) × (32 < length octets.now)) }
