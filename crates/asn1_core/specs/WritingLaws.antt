@@ -6,8 +6,8 @@ use Rattle.std.proofs.Common.{◌⊎◌, inl, inr}
 use Rattle.asn1_core.specs.declared.error.Error.{Error}
 use Rattle.asn1_core.specs.declared.error.Error.TheVariants.{Malformed, OidUnknown, Overlength, NoRoom, File, Memory}
 use Rattle.asn1_core.specs.Writing.{Sink, Wrote, Stopped, Falls, Lacks, Cause, Writes, Measures}
-use Rattle.std.specs.Prelude.{MatchResult}
-use Rattle.asn1_core.specs.Der.{len, el}
+use Rattle.std.specs.Prelude.{MatchResult, OnOk}
+use Rattle.asn1_core.specs.Der.{len, el, IsHeader, IsShort}
 use Rattle.asn1_core.specs.ElementLaws.{el_length}
 use Rattle.asn1_core.specs.declared.header.Length.{Length}
 
@@ -101,8 +101,8 @@ pub el_size : (t : ℕ) (v : List ℕ) → length (el t v) ≡ 1 + length (len (
 el_size t v = el_length t (length v) v refl
 
 pub measured_el : (bad : Type 0) (t n : ℕ) (v : List ℕ) (r : Result Length Error) → n ≡ length v
-    → MatchResult r (λ k. k.value ≡ 1 + length (len n) + n) (λ e. (e ≡ Overlength) × (4294967296 ≤ 1 + length (len n) + n)) → Measures bad (el t v) r
-measured_el bad t n v (Ok k) p q = rw p at q ∙ sym (el_size t v)
+    → MatchResult r (λ k. (k.value ≡ 1 + length (len n) + n) × IsHeader n) (λ e. (e ≡ Overlength) × (4294967296 ≤ 1 + length (len n) + n)) → Measures bad (el t v) r
+measured_el bad t n v (Ok k) p q = let r = rw p at q.0 in r ∙ sym (el_size t v)
 measured_el bad t n v (Err e) p q = let k = rw p at q in inr (k.0, omega (arith, el_size t v, k.1))
 
 pub overlong_el : (t n : ℕ) (v : List ℕ) → n ≡ length v → 4294967296 ≤ 1 + length (len n) + n → 4294967296 ≤ length (el t v)
@@ -138,3 +138,12 @@ module _ {W : Type 0} (S : Sink W) (t n : ℕ) (v : List ℕ) (x y z : W) (bad o
   element_written p r q =
       let o = rw long at p in
       writes_then S (t ∷ len (length v)) v x y z ⊥ ⊥ bad over (λ h. absurd h) (λ h. absurd h) o r q
+
+-- an element whose length was measured is short
+pub short_el : (t n : ℕ) (v : List ℕ) → n ≡ length v → IsHeader n → IsShort (el t v)
+short_el t n v p h = let r = rw p at h in omega (arith, el_size t v, r)
+
+-- what holds anyway holds where a call succeeds
+pub held : {X : Type 0} (P : Type 0) (r : Result X Error) → P → OnOk r P
+held P (Ok x) h = h
+held P (Err e) h = tt
