@@ -18,6 +18,10 @@ falls_then (Some a) y z m n p q =
     let e : a - m - n ≡ a - (m + n) = omega arith in
     (omega (arith, p.0, r.0), r.1 ∙ ap (λ (k : ℕ). Some k) e)
 
+falls_none : (x : Option ℕ) → Falls x 0 x
+falls_none None = refl
+falls_none (Some a) = let e : a ≡ a - 0 = omega arith in (omega arith, ap (λ (k : ℕ). Some k) e)
+
 lacks_then : (x y : Option ℕ) (m n : ℕ) → Falls x m y → Lacks y n → Lacks x (m + n)
 lacks_then None y m n p q = subst (λ (k : Option ℕ). Lacks k n) p q
 lacks_then (Some a) y m n p q =
@@ -48,9 +52,11 @@ module _ {W : Type 0} (S : Sink W) (a b : List ℕ) (x y z : W) where
 
     pub stopped_first : Stopped S bad over a x e y → Stopped S bad2 over2 (a ++ b) x e y
     stopped_first p = record {
-      front = λ m h.
-          let q = p.front m h in
-          (q.0, q.1 ++ b, (ap (λ (k : List ℕ). k ++ b) q.2.0 ∙ append_assoc q.0 q.1 b, q.2.1));
+      front = p.front;
+      rest = p.rest ++ b;
+      is = ap (λ (k : List ℕ). k ++ b) p.is ∙ append_assoc p.front p.rest b;
+      adds = p.adds;
+      falls = p.falls;
       cause = cause_first (S.room x) (length a) (length (a ++ b)) (S.faults x) (S.faults y) (omega (arith, length-append a b)) e p.cause;
       rises = p.rises;
       stays = p.stays;
@@ -66,9 +72,11 @@ module _ {W : Type 0} (S : Sink W) (a b : List ℕ) (x y z : W) where
 
     pub stopped_then : Wrote S a x y → Stopped S bad over b y e z → Stopped S bad2 over2 (a ++ b) x e z
     stopped_then p q = record {
-      front = λ m h.
-          let k = q.front (m ++ a) (p.adds m h) in
-          (a ++ k.0, k.1, (ap (λ (l : List ℕ). a ++ l) k.2.0 ∙ sym (append_assoc a k.0 k.1), subst (λ (l : List ℕ). S.holds z l) (append_assoc m a k.0) k.2.1));
+      front = a ++ q.front;
+      rest = q.rest;
+      is = ap (λ (l : List ℕ). a ++ l) q.is ∙ sym (append_assoc a q.front q.rest);
+      adds = λ m h. subst (λ (l : List ℕ). S.holds z l) (append_assoc m a q.front) (q.adds (m ++ a) (p.adds m h));
+      falls = rw (length-append a q.front) (falls_then (S.room x) (S.room y) (S.room z) (length a) (length q.front) p.falls q.falls);
       cause = rw (length-append a b) (cause_then (S.room x) (S.room y) (length a) (length b) (S.faults x) (S.faults y) (S.faults z) p.falls p.rises e q.cause);
       rises = omega (arith, p.rises, q.rises);
       stays = p.stays ∙ q.stays;
@@ -84,7 +92,11 @@ module _ {W : Type 0} (S : Sink W) (a b : List ℕ) (x y z : W) (bad over bad2 o
 pub stopped_before : {W : Type 0} (S : Sink W) (bad over : Type 0) (text : List ℕ) (x : W) (e : Error)
     → ((e ≡ Malformed) × bad) ⊎ ((e ≡ Overlength) × over) → Stopped S bad over text x e x
 stopped_before S bad over text x e h = record {
-  front = λ m k. ([], text, (refl, rw append-nil k));
+  front = [];
+  rest = text;
+  is = refl;
+  adds = λ m k. rw append-nil k;
+  falls = falls_none (S.room x);
   cause = elim h [
     | inl k ↦ subst (λ (d : Error). Cause bad over S.memory (S.room x) (length text) (S.faults x) (S.faults x) d) (sym k.0) k.1
     | inr k ↦ subst (λ (d : Error). Cause bad over S.memory (S.room x) (length text) (S.faults x) (S.faults x) d) (sym k.0) k.1
