@@ -1,5 +1,5 @@
 -- Lists up to their order.
-use Rattle.std.proofs.Common.{◌≡◌, ℕ, suc, ◌+◌, Bool, true, false, cond, List, [], ◌∷◌, ◌++◌, length, set, map, refl, sym, ap, subst, ◌∙◌, inl, inr, ◌⊎◌, arith, get_or, IsPermutation, IsSorted}
+use Rattle.std.proofs.Common.{◌≡◌, ℕ, zero, suc, ◌+◌, Bool, true, false, cond, List, [], ◌∷◌, ◌++◌, length, set, map, refl, sym, ap, subst, ◌∙◌, inl, inr, ◌⊎◌, arith, get_or, IsPermutation, IsSorted}
 use Rattle.std.specs.List.{sum_by}
 use Rattle.std.specs.Str.{bytes_eq}
 use Rattle.std.specs.Cmp.{upto}
@@ -276,6 +276,19 @@ ascends_of (x ∷ y ∷ l) h =
     let first : is_lt (text_cmp y x) ≡ false = h 0 x (omega arith) (omega arith) in
     let rest = ascends_of (y ∷ l) (λ k d p q. let e : suc k + 1 ≡ suc (k + 1) = omega arith in subst (λ (n : ℕ). is_lt (text_cmp (get_or (x ∷ y ∷ l) n d) (get_or (y ∷ l) k d)) ≡ false) e (h (suc k) d (omega arith) (omega arith))) in
     ((first, least_chain x y l first rest.0), rest)
+
+-- texts that ascend are sorted, as the standard library has it
+sorted_of : (xs : List (List ℕ)) → Ascends xs → IsSorted text_cmp xs
+sorted_of [] h k d p q = absurd (omega arith)
+sorted_of (x ∷ []) h k d p q = absurd (omega arith)
+sorted_of (x ∷ y ∷ l) h zero d p q = h.0.0
+sorted_of (x ∷ y ∷ l) h (suc k) d p q =
+    let e : suc k + 1 ≡ suc (k + 1) = omega arith in
+    let r = sorted_of (y ∷ l) h.1 k d (omega arith) (omega arith) in
+    subst (λ (n : ℕ). is_lt (text_cmp (get_or (x ∷ y ∷ l) n d) (get_or (y ∷ l) k d)) ≡ false) (sym e) r
+
+pub in_order-sorted : (xs : List (List ℕ)) → IsSorted text_cmp (in_order xs)
+in_order-sorted xs = sorted_of (in_order xs) (in_order-ascends xs)
 
 pub sorted_is_in_order : (xs ys : List (List ℕ)) → IsPermutation xs ys → IsSorted text_cmp ys → ys ≡ in_order xs
 sorted_is_in_order xs ys p h =

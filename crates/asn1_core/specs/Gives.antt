@@ -1,5 +1,5 @@
 -- What a reader answers, against what reading a list gives.
-use Rattle.std.specs.Prelude.{◌≡◌, ℕ, List, ◌++◌, Result, Ok, Err}
+use Rattle.std.specs.Prelude.{◌≡◌, ◌⊎◌, ℕ, List, ◌++◌, Result, Ok, Err}
 use Rattle.asn1_core.specs.Reading.{Fault, Bad, UnknownOid, Front}
 use Rattle.asn1_core.specs.Der.{IsShort}
 use Rattle.asn1_core.specs.Texts.{Taken}
@@ -47,3 +47,24 @@ Reads R view old new (Err (errors.OidUnknown o)) = (new ≡ old) × NoneStands R
 Reads R view old new (Err errors.Overlength) = ⊥
 Reads R view old new (Err errors.NoRoom) = ⊥
 Reads R view old new (Err errors.File) = ⊥
+
+-- ---- whole texts, with errors of any type
+
+-- what reading gives, each fault as the error that is raised from it; want of memory where the call takes memory
+abbrev pub GivesAs : {X Y E : Type 0} → (Error → E) → Type 0 → (X → Y) → Result X E → Result Y Fault → Type 0
+GivesAs raised memory view (Ok x) read = read ≡ Ok (view x)
+GivesAs raised memory view (Err e) read = (f : Error) × (e ≡ raised f) × Fails memory f read
+
+-- b is a text of no value
+abbrev pub IsNone : {V : Type 0} → (List ℕ → V → Type 0) → List ℕ → Type 0
+IsNone R b = (v : _) → R b v → ⊥
+
+-- the value whose text b is, or the one refusal, exactly where it is a text of none
+abbrev pub Parses : {X V E : Type 0} → E → (List ℕ → V → Type 0) → (X → V) → List ℕ → Result X E → Type 0
+Parses malformed R view b (Ok x) = R b (view x)
+Parses malformed R view b (Err e) = (e ≡ malformed) × IsNone R b
+
+-- the same of a call that takes memory
+abbrev pub ParsesIn : {X V E : Type 0} → E → E → (List ℕ → V → Type 0) → (X → V) → List ℕ → Result X E → Type 0
+ParsesIn memory malformed R view b (Ok x) = R b (view x)
+ParsesIn memory malformed R view b (Err e) = (e ≡ memory) ⊎ ((e ≡ malformed) × IsNone R b)

@@ -48,9 +48,13 @@ pub record Wrote {W : Type 0} (S : Sink W) (text : List ℕ) (old new : W) : Typ
   pub rises : S.faults old ≤ S.faults new
   pub stays : S.place old ≡ S.place new
 
--- a front of the text was written
+-- a front of the text was written, and its rest was not
 pub record Stopped {W : Type 0} (S : Sink W) (bad over : Type 0) (text : List ℕ) (old : W) (e : Error) (new : W) : Type 0 where
-  pub front : (m : List ℕ) → S.holds old m → (p : List ℕ) × (q : List ℕ) × ((text ≡ p ++ q) × S.holds new (m ++ p))
+  pub front : List ℕ
+  pub rest : List ℕ
+  pub is : text ≡ front ++ rest
+  pub adds : (m : List ℕ) → S.holds old m → S.holds new (m ++ front)
+  pub falls : Falls (S.room old) (length front) (S.room new)
   pub cause : Cause bad over S.memory (S.room old) (length text) (S.faults old) (S.faults new) e
   pub rises : S.faults old ≤ S.faults new
   pub stays : S.place old ≡ S.place new

@@ -6,8 +6,8 @@ use Rattle.std.proofs.Common.{◌⊎◌, inl, inr}
 use Rattle.asn1_core.specs.declared.error.Error.{Error}
 use Rattle.asn1_core.specs.declared.error.Error.TheVariants.{Malformed, OidUnknown, Overlength, NoRoom, File, Memory}
 use Rattle.asn1_core.specs.Writing.{Sink, Wrote, Stopped, Falls, Lacks, Cause, Writes, Measures}
-use Rattle.std.specs.Prelude.{MatchResult}
-use Rattle.asn1_core.specs.Der.{len, el}
+use Rattle.std.specs.Prelude.{MatchResult, OnOk}
+use Rattle.asn1_core.specs.Der.{len, el, IsHeader, IsShort}
 use Rattle.asn1_core.specs.ElementLaws.{el_length}
 use Rattle.asn1_core.specs.declared.header.Length.{Length}
 
@@ -17,6 +17,10 @@ falls_then (Some a) y z m n p q =
     let r : (n ≤ a - m) × (z ≡ Some (a - m - n)) = subst (λ (k : Option ℕ). Falls k n z) p.1 q in
     let e : a - m - n ≡ a - (m + n) = omega arith in
     (omega (arith, p.0, r.0), r.1 ∙ ap (λ (k : ℕ). Some k) e)
+
+falls_none : (x : Option ℕ) → Falls x 0 x
+falls_none None = refl
+falls_none (Some a) = let e : a ≡ a - 0 = omega arith in (omega arith, ap (λ (k : ℕ). Some k) e)
 
 lacks_then : (x y : Option ℕ) (m n : ℕ) → Falls x m y → Lacks y n → Lacks x (m + n)
 lacks_then None y m n p q = subst (λ (k : Option ℕ). Lacks k n) p q
@@ -48,9 +52,11 @@ module _ {W : Type 0} (S : Sink W) (a b : List ℕ) (x y z : W) where
 
     pub stopped_first : Stopped S bad over a x e y → Stopped S bad2 over2 (a ++ b) x e y
     stopped_first p = record {
-      front = λ m h.
-          let q = p.front m h in
-          (q.0, q.1 ++ b, (ap (λ (k : List ℕ). k ++ b) q.2.0 ∙ append_assoc q.0 q.1 b, q.2.1));
+      front = p.front;
+      rest = p.rest ++ b;
+      is = ap (λ (k : List ℕ). k ++ b) p.is ∙ append_assoc p.front p.rest b;
+      adds = p.adds;
+      falls = p.falls;
       cause = cause_first (S.room x) (length a) (length (a ++ b)) (S.faults x) (S.faults y) (omega (arith, length-append a b)) e p.cause;
       rises = p.rises;
       stays = p.stays;
@@ -66,9 +72,11 @@ module _ {W : Type 0} (S : Sink W) (a b : List ℕ) (x y z : W) where
 
     pub stopped_then : Wrote S a x y → Stopped S bad over b y e z → Stopped S bad2 over2 (a ++ b) x e z
     stopped_then p q = record {
-      front = λ m h.
-          let k = q.front (m ++ a) (p.adds m h) in
-          (a ++ k.0, k.1, (ap (λ (l : List ℕ). a ++ l) k.2.0 ∙ sym (append_assoc a k.0 k.1), subst (λ (l : List ℕ). S.holds z l) (append_assoc m a k.0) k.2.1));
+      front = a ++ q.front;
+      rest = q.rest;
+      is = ap (λ (l : List ℕ). a ++ l) q.is ∙ sym (append_assoc a q.front q.rest);
+      adds = λ m h. subst (λ (l : List ℕ). S.holds z l) (append_assoc m a q.front) (q.adds (m ++ a) (p.adds m h));
+      falls = rw (length-append a q.front) (falls_then (S.room x) (S.room y) (S.room z) (length a) (length q.front) p.falls q.falls);
       cause = rw (length-append a b) (cause_then (S.room x) (S.room y) (length a) (length b) (S.faults x) (S.faults y) (S.faults z) p.falls p.rises e q.cause);
       rises = omega (arith, p.rises, q.rises);
       stays = p.stays ∙ q.stays;
@@ -84,7 +92,11 @@ module _ {W : Type 0} (S : Sink W) (a b : List ℕ) (x y z : W) (bad over bad2 o
 pub stopped_before : {W : Type 0} (S : Sink W) (bad over : Type 0) (text : List ℕ) (x : W) (e : Error)
     → ((e ≡ Malformed) × bad) ⊎ ((e ≡ Overlength) × over) → Stopped S bad over text x e x
 stopped_before S bad over text x e h = record {
-  front = λ m k. ([], text, (refl, rw append-nil k));
+  front = [];
+  rest = text;
+  is = refl;
+  adds = λ m k. rw append-nil k;
+  falls = falls_none (S.room x);
   cause = elim h [
     | inl k ↦ subst (λ (d : Error). Cause bad over S.memory (S.room x) (length text) (S.faults x) (S.faults x) d) (sym k.0) k.1
     | inr k ↦ subst (λ (d : Error). Cause bad over S.memory (S.room x) (length text) (S.faults x) (S.faults x) d) (sym k.0) k.1
@@ -101,8 +113,8 @@ pub el_size : (t : ℕ) (v : List ℕ) → length (el t v) ≡ 1 + length (len (
 el_size t v = el_length t (length v) v refl
 
 pub measured_el : (bad : Type 0) (t n : ℕ) (v : List ℕ) (r : Result Length Error) → n ≡ length v
-    → MatchResult r (λ k. k.value ≡ 1 + length (len n) + n) (λ e. (e ≡ Overlength) × (4294967296 ≤ 1 + length (len n) + n)) → Measures bad (el t v) r
-measured_el bad t n v (Ok k) p q = rw p at q ∙ sym (el_size t v)
+    → MatchResult r (λ k. (k.value ≡ 1 + length (len n) + n) × IsHeader n) (λ e. (e ≡ Overlength) × (4294967296 ≤ 1 + length (len n) + n)) → Measures bad (el t v) r
+measured_el bad t n v (Ok k) p q = let r = rw p at q.0 in r ∙ sym (el_size t v)
 measured_el bad t n v (Err e) p q = let k = rw p at q in inr (k.0, omega (arith, el_size t v, k.1))
 
 pub overlong_el : (t n : ℕ) (v : List ℕ) → n ≡ length v → 4294967296 ≤ 1 + length (len n) + n → 4294967296 ≤ length (el t v)
@@ -138,3 +150,12 @@ module _ {W : Type 0} (S : Sink W) (t n : ℕ) (v : List ℕ) (x y z : W) (bad o
   element_written p r q =
       let o = rw long at p in
       writes_then S (t ∷ len (length v)) v x y z ⊥ ⊥ bad over (λ h. absurd h) (λ h. absurd h) o r q
+
+-- an element whose length was measured is short
+pub short_el : (t n : ℕ) (v : List ℕ) → n ≡ length v → IsHeader n → IsShort (el t v)
+short_el t n v p h = let r = rw p at h in omega (arith, el_size t v, r)
+
+-- what holds anyway holds where a call succeeds
+pub held : {X : Type 0} (P : Type 0) (r : Result X Error) → P → OnOk r P
+held P (Ok x) h = h
+held P (Err e) h = tt

@@ -1,5 +1,5 @@
 //! Reading texts of characters.
-ghost use Rattle.std.specs.Prelude.{◌≡◌, ◌<◌, ◌≤◌, length, OnOk};
+ghost use Rattle.std.specs.Prelude.{◌≡◌, ◌+◌, ◌<◌, ◌≤◌, length, OnOk};
 ghost use Rattle.asn1_core.specs.Unicode.{is_ascii_text, ascii_all, ia5_at, bmp_at, units_in, units_text, units_all};
 ghost use Rattle.asn1_core.specs.Gives.{ReadsIn, GivesIn};
 
@@ -34,7 +34,8 @@ fn ascii(alloc: Global, octets: &[u8]) -> Result<Text, Error>
 
 #[tactic(auto, unfolding(crate::specs::Unicode::ia5_at))]
 pub(crate) fn ia5_in_front(alloc: Global, r: &mut SliceReader<'_>) -> Result<Text, Error>
-    ensures { ReadsIn ia5_at (λ t. t) r.old.rest.now r.new.rest.now result }
+    ensures exact { ReadsIn ia5_at (λ t. t) r.old.rest.now r.new.rest.now result }
+    ensures place { r.new.read + length r.new.rest.now ≡ r.old.read + length r.old.rest.now }
 {
     let mut ahead = *r;
     let value = inner_in_front(&mut ahead, Tag::IA5_STRING)?;
@@ -81,6 +82,7 @@ fn text_of_octets(alloc: Global, octets: &[u8]) -> Result<Text, Error>
 #[tactic(auto, unfolding(crate::specs::Unicode::bmp_at))]
 pub(crate) fn bmp_in_front(alloc: Global, r: &mut SliceReader<'_>) -> Result<Text, Error>
     ensures exact { ReadsIn bmp_at (λ t. t) r.old.rest.now r.new.rest.now result }
+    ensures place { r.new.read + length r.new.rest.now ≡ r.old.read + length r.old.rest.now }
     ensures shorter { OnOk result (length r.new.rest.now < length r.old.rest.now) }
 {
     let mut ahead = *r;

@@ -1,5 +1,5 @@
 //! Elements in front of a reader, as the functions of the grammar read them.
-ghost use Rattle.std.specs.Prelude.{◌≡◌, ◌<◌, ◌≤◌, ℕ, length, OnOk, IfOk};
+ghost use Rattle.std.specs.Prelude.{◌≡◌, ◌+◌, ◌<◌, ◌≤◌, ℕ, length, OnOk, IfOk};
 ghost use Rattle.asn1_core.specs.Reading.{raw_at, uint_at, inside_at, oid_at};
 ghost use Rattle.asn1_core.specs.Gives.{ReadsAs};
 
@@ -15,6 +15,7 @@ pub(crate) fn inner_in_front<'a>(
     tag: Tag,
 ) -> Result<SliceReader<'a>, Error>
     ensures exact { ReadsAs (inside_at tag.first) (λ x. x.rest.now) r.old.rest.now r.new.rest.now result }
+    ensures place { r.new.read + length r.new.rest.now ≡ r.old.read + length r.old.rest.now }
     ensures shorter { OnOk result (length r.new.rest.now < length r.old.rest.now) }
 {
     let mut ahead = *r;
@@ -29,6 +30,7 @@ pub(crate) fn inner_in_front<'a>(
 
 pub(crate) fn uint_in_front(r: &mut SliceReader<'_>, max: u64) -> Result<u64, Error>
     ensures exact { ReadsAs (uint_at max) (λ n. n) r.old.rest.now r.new.rest.now result }
+    ensures place { r.new.read + length r.new.rest.now ≡ r.old.read + length r.old.rest.now }
     ensures small { IfOk result (λ n. n ≤ max) }
 {
     let mut ahead = *r;
@@ -44,6 +46,7 @@ pub(crate) fn uint_in_front(r: &mut SliceReader<'_>, max: u64) -> Result<u64, Er
 
 pub(crate) fn identifier_in_front(r: &mut SliceReader<'_>) -> Result<ObjectIdentifier, Error>
     ensures exact { ReadsAs oid_at (λ o. o) r.old.rest.now r.new.rest.now result }
+    ensures place { r.new.read + length r.new.rest.now ≡ r.old.read + length r.old.rest.now }
 {
     let mut ahead = *r;
     let header = ahead.header()?;
@@ -59,6 +62,7 @@ pub(crate) fn identifier_in_front(r: &mut SliceReader<'_>) -> Result<ObjectIdent
 #[tactic(auto, unfolding(crate::specs::Reading::raw_at))]
 pub(crate) fn raw_in_front<'a>(r: &mut SliceReader<'a>) -> Result<&'a [u8], Error>
     ensures exact { ReadsAs raw_at (λ x. x.now) r.old.rest.now r.new.rest.now result }
+    ensures place { r.new.read + length r.new.rest.now ≡ r.old.read + length r.old.rest.now }
     ensures shorter { OnOk result (length r.new.rest.now < length r.old.rest.now) }
 {
     let mut ahead = *r;

@@ -10,10 +10,10 @@ mod error;
 mod front;
 mod header;
 mod identifier;
-mod identifier_laws;
+pub mod identifier_laws;
 mod identifier_text;
 mod integer;
-mod laws;
+pub mod laws;
 mod read;
 mod reader;
 mod slice_reader;
@@ -34,7 +34,7 @@ pub use identifier_laws::{
     octets_have_one_identifier, texts_have_one_identifier,
 };
 pub use integer::uint_value;
-pub use laws::{elements_are_parted, identifiers_are_tested};
+pub use laws::{elements_are_parted, identifiers_are_tested, sets_are_in_order};
 pub use octet_core::{Items, Octets, Text};
 pub use read::{read_bmp, read_ia5, read_identifier, read_inner, read_raw, read_uint};
 pub use reader::Reader;

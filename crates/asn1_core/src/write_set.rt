@@ -1,6 +1,6 @@
 //! Writing sets.
-ghost use Rattle.std.specs.Prelude.{◌≡◌, map, length, IfOk, IfErr, MatchResult};
-ghost use Rattle.asn1_core.specs.Der.{el, joined, set};
+ghost use Rattle.std.specs.Prelude.{◌≡◌, map, length, IfOk, IfErr, OnOk, MatchResult};
+ghost use Rattle.asn1_core.specs.Der.{joined, set, IsShort};
 ghost use Rattle.asn1_core.specs.Sets.{in_order};
 ghost use Rattle.asn1_core.specs.Writing.{Writes, IsOverlong, in_memory};
 
@@ -54,7 +54,8 @@ fn write_all<W: Writer>(w: &mut W, texts: &[&[u8]]) -> Result<(), Error>
 
 /// Writes a set of these texts, in the order given.
 fn write_set<W: Writer>(w: &mut W, texts: &[&[u8]]) -> Result<(), Error>
-    ensures { Writes W.sink ⊥ (IsOverlong (length (set (joined (map (λ t. t.now) texts.now))))) (set (joined (map (λ t. t.now) texts.now))) w.old result w.new }
+    ensures writes { Writes W.sink ⊥ (IsOverlong (length (set (joined (map (λ t. t.now) texts.now))))) (set (joined (map (λ t. t.now) texts.now))) w.old result w.new }
+    ensures short { OnOk result (IsShort (set (joined (map (λ t. t.now) texts.now)))) }
 {
     let length = joined_len(texts)?;
     element_len(length)?;
@@ -70,7 +71,8 @@ pub fn write_set_of<W: Writer>(
     w: &mut W,
     elements: &Items<Octets>,
 ) -> Result<(), Error>
-    ensures { Writes (in_memory W.sink) ⊥ (IsOverlong (length (set (joined (in_order elements.now))))) (set (joined (in_order elements.now))) w.old result w.new }
+    ensures writes { Writes (in_memory W.sink) ⊥ (IsOverlong (length (set (joined (in_order elements.now))))) (set (joined (in_order elements.now))) w.old result w.new }
+    ensures short { OnOk result (IsShort (set (joined (in_order elements.now)))) }
 {
     let texts = ascending(alloc, elements)?;
     write_set(w, &texts)

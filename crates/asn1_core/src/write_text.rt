@@ -1,6 +1,6 @@
 //! Writing texts of characters.
 ghost use Rattle.std.specs.Prelude.{◌≡◌, ◌≤◌, IsTrue, OnOk, length, take, MatchResult};
-ghost use Rattle.asn1_core.specs.Der.{el};
+ghost use Rattle.asn1_core.specs.Der.{el, IsShort};
 ghost use Rattle.asn1_core.specs.Unicode.{is_ascii_text, char_units, text_units, Ia5, Bmp};
 ghost use Rattle.asn1_core.specs.Writing.{Writes, IsOverlong};
 
@@ -16,6 +16,7 @@ use crate::writer::Writer;
 pub fn write_ia5<W: Writer>(w: &mut W, text: &str) -> Result<(), Error>
     ensures writes { Writes W.sink (¬ (IsTrue (is_ascii_text text.now))) (IsOverlong (length (el 0x16 text.now))) (el 0x16 text.now) w.old result w.new }
     ensures text { OnOk result (Ia5 (el 0x16 text.now) text.now) }
+    ensures short { OnOk result (IsShort (el 0x16 text.now)) }
 {
     if !are_ascii(text.as_bytes()) {
         return Err(Error::Malformed);
@@ -81,6 +82,7 @@ fn write_units<W: Writer>(w: &mut W, text: &str) -> Result<(), Error>
 pub fn write_bmp<W: Writer>(w: &mut W, text: &str) -> Result<(), Error>
     ensures writes { Writes W.sink ⊥ (IsOverlong (length (el 0x1e (text_units text.now)))) (el 0x1e (text_units text.now)) w.old result w.new }
     ensures text { Bmp (el 0x1e (text_units text.now)) text.now }
+    ensures short { OnOk result (IsShort (el 0x1e (text_units text.now))) }
 {
     let length = units_len(text)?;
     element_len(length)?;

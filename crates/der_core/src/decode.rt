@@ -1,5 +1,5 @@
 //! The traits of decoding.
-ghost use Rattle.std.specs.Prelude.{◌≡◌, ℕ, Bool, List, ◌==◌};
+ghost use Rattle.std.specs.Prelude.{◌≡◌, ◌+◌, ℕ, Bool, List, length, ◌==◌};
 ghost use Rattle.asn1_core.specs.Reading.{All, Front, valued, whole, within};
 ghost use Rattle.asn1_core.specs.Texts.{Exact, ExactAll, Within, Whole};
 ghost use Rattle.asn1_core.specs.Gives.{Gives, ReadsAs};
@@ -25,7 +25,8 @@ pub trait DecodeValue<S: AsSlice<u8>>: Sized + Drop {
     /// Takes the value octets behind this header. `Malformed` exactly where they stand for no value, `OidUnknown` where an
     /// identifier is met first that its place does not know; the reader then stands where it stood.
     fn decode_value<R: Reader<S>>(r: &mut R, header: Header) -> Result<Self, Error>
-        ensures { ReadsAs (valued (value header.tag.first) header.length.value) seen (R.left r.old) (R.left r.new) result };
+        ensures read { ReadsAs (valued (value header.tag.first) header.length.value) seen (R.left r.old) (R.left r.new) result }
+        ensures place { R.taken r.new + length (R.left r.new) ≡ R.taken r.old + length (R.left r.old) };
 
     ghost exact: { (t : ℕ) → ExactAll (text t) (value t) };
 }
@@ -45,7 +46,8 @@ pub trait Decode<S: AsSlice<u8>>: Sized + Drop {
     /// Takes the text that stands next. `Malformed` exactly where none does, `OidUnknown` where an identifier is met first that
     /// its place does not know; the reader then stands where it stood.
     fn decode<R: Reader<S>>(r: &mut R) -> Result<Self, Error>
-        ensures { ReadsAs at seen (R.left r.old) (R.left r.new) result };
+        ensures read { ReadsAs at seen (R.left r.old) (R.left r.new) result }
+        ensures place { R.taken r.new + length (R.left r.new) ≡ R.taken r.old + length (R.left r.old) };
 
     /// The value of these octets, all of them. Refusals as in `decode`, and `Malformed` where octets are left over.
     fn from_der(bytes: S) -> Result<Self, Error>

@@ -1,5 +1,6 @@
 //! Documents.
 ghost use Rattle.std.specs.Prelude.{◌≡◌, ◌⊎◌, length, None, MatchResult, IfOk, IfErr, OnOk, IsTrue};
+ghost use Rattle.asn1_core.specs.Der.{IsShort};
 ghost use Rattle.asn1_core.specs.Reading.{whole, inside_at};
 ghost use Rattle.asn1_core.specs.Gives.{Gives};
 ghost use Rattle.asn1_core.specs.Writing.{Cause, IsOverlong};
@@ -71,7 +72,7 @@ impl Document {
     pub fn encode_msg<T: Encode>(alloc: Global, v: &T) -> Result<Document, Error>
         ensures ok { IfOk result (λ d. d.octets ≡ T.canon v.now) }
         ensures lawful { OnOk result (T.writable v.now) }
-        ensures err { IfErr result (λ e. Cause ((¬ (T.writable v.now)) ⊎ (¬ (IsSequence (T.canon v.now)))) (IsOverlong (length (T.canon v.now))) (Unit {0}) None 0 0 0 e) }
+        ensures err { IfErr result (λ e. Cause ((¬ (T.writable v.now)) ⊎ (IsShort (T.canon v.now) × (¬ (IsSequence (T.canon v.now))))) (IsOverlong (length (T.canon v.now))) (Unit {0}) None 0 0 0 e) }
     {
         let octets = v.to_der(alloc)?;
         check_sequence(octets.as_slice())?;

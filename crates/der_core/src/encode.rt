@@ -1,6 +1,6 @@
 //! The traits of encoding.
 ghost use Rattle.std.specs.Prelude.{◌≡◌, ℕ, List, length, None, IfOk, IfErr, OnOk};
-ghost use Rattle.asn1_core.specs.Der.{el};
+ghost use Rattle.asn1_core.specs.Der.{el, IsShort};
 ghost use Rattle.asn1_core.specs.Writing.{Writes, Measures, Cause, IsOverlong};
 
 use crate::tagged::Tagged;
@@ -44,11 +44,13 @@ pub trait Encode {
     /// Writes the text. Refusals as in `encoded_len`, and those of the writer; a front of the text was written then.
     fn encode<W: Writer>(&self, w: &mut W) -> Result<(), Error>
         ensures written { Writes W.sink (¬ (writable self.now)) (IsOverlong (length (canon self.now))) (canon self.now) w.old result w.new }
+        ensures short { OnOk result (IsShort (canon self.now)) }
         ensures lawful { OnOk result (writable self.now) };
 
     /// The text, in memory of its own. Refusals as in `encoded_len`, and `Memory`.
     fn to_der(&self, alloc: Global) -> Result<Octets, Error>
         ensures ok { IfOk result (λ o. o ≡ canon self.now) }
+        ensures short { OnOk result (IsShort (canon self.now)) }
         ensures lawful { OnOk result (writable self.now) }
         ensures err { IfErr result (λ e. Cause (¬ (writable self.now)) (IsOverlong (length (canon self.now))) (Unit {0}) None 0 0 0 e) }
     {

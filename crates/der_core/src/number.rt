@@ -1,5 +1,5 @@
 //! Numbers: INTEGERs that are not negative and fit their types.
-ghost use Rattle.std.specs.Prelude.{◌≡◌, ◌≤◌, ℕ, refl, IfOk};
+ghost use Rattle.std.specs.Prelude.{◌≡◌, ◌≤◌, ◌+◌, ℕ, length, refl, IfOk};
 ghost use Rattle.asn1_core.specs.Reading.{valued, uint_of};
 ghost use Rattle.asn1_core.specs.Texts.{UintOf};
 ghost use Rattle.asn1_core.specs.Gives.{ReadsAs};
@@ -22,7 +22,8 @@ use std::cmp::Ordering;
 
 /// The value of a number of at most `max`.
 fn number_value<'a, R: Reader<&'a [u8]>>(r: &mut R, header: Header, max: u64) -> Result<u64, Error>
-    ensures reads { ReadsAs (valued (uint_of max) header.length.value) (λ n. n) (R.left r.old) (R.left r.new) result }
+    ensures read { ReadsAs (valued (uint_of max) header.length.value) (λ n. n) (R.left r.old) (R.left r.new) result }
+    ensures place { R.taken r.new + length (R.left r.new) ≡ R.taken r.old + length (R.left r.old) }
     ensures small { IfOk result (λ n. n ≤ max) }
 {
     let mut ahead = *r;

@@ -1,5 +1,6 @@
 //! Two texts, one after the other.
 ghost use Rattle.std.specs.Prelude.{length, ◌++◌, ◌⊎◌, OnOk};
+ghost use Rattle.asn1_core.specs.Der.{IsShort};
 ghost use Rattle.asn1_core.specs.Writing.{Writes, Measures, IsOverlong};
 
 use crate::encode::Encode;
@@ -19,7 +20,8 @@ pub fn pair_len<A: Encode, B: Encode>(first: &A, second: &B) -> Result<Length, E
     }
 }
 
-/// Writes the text of one value, and behind it that of the other. Refusals as in `pair_len`, and those of the writer.
+/// Writes the text of one value, and behind it that of the other. Refusals as in `pair_len`, with nothing written; else those of
+/// the writer.
 pub fn write_pair<A: Encode, B: Encode, W: Writer>(
     w: &mut W,
     first: &A,
@@ -27,8 +29,10 @@ pub fn write_pair<A: Encode, B: Encode, W: Writer>(
 ) -> Result<(), Error>
     ensures written { Writes W.sink ((¬ (A.writable first.now)) ⊎ (¬ (B.writable second.now))) (IsOverlong (length (A.canon first.now ++ B.canon second.now)))
         (A.canon first.now ++ B.canon second.now) w.old result w.new }
+    ensures short { OnOk result (IsShort (A.canon first.now ++ B.canon second.now)) }
     ensures lawful { OnOk result (A.writable first.now × B.writable second.now) }
 {
+    pair_len(first, second)?;
     first.encode(w)?;
     second.encode(w)
 }

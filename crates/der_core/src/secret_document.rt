@@ -1,5 +1,6 @@
 //! Documents whose octets are not shown.
 ghost use Rattle.std.specs.Prelude.{◌≡◌, ◌⊎◌, length, None, MatchResult, IfOk, IfErr, OnOk};
+ghost use Rattle.asn1_core.specs.Der.{IsShort};
 ghost use Rattle.asn1_core.specs.Reading.{whole};
 ghost use Rattle.asn1_core.specs.Gives.{Gives};
 ghost use Rattle.asn1_core.specs.Writing.{Cause, IsOverlong};
@@ -37,7 +38,7 @@ impl SecretDocument {
     pub fn encode_msg<T: Encode>(alloc: Global, v: &T) -> Result<SecretDocument, Error>
         ensures ok { IfOk result (λ d. d.document.octets ≡ T.canon v.now) }
         ensures lawful { OnOk result (T.writable v.now) }
-        ensures err { IfErr result (λ e. Cause ((¬ (T.writable v.now)) ⊎ (¬ (IsSequence (T.canon v.now)))) (IsOverlong (length (T.canon v.now))) (Unit {0}) None 0 0 0 e) }
+        ensures err { IfErr result (λ e. Cause ((¬ (T.writable v.now)) ⊎ (IsShort (T.canon v.now) × (¬ (IsSequence (T.canon v.now))))) (IsOverlong (length (T.canon v.now))) (Unit {0}) None 0 0 0 e) }
     {
         match Document::encode_msg(alloc, v) {
             Ok(document) => Ok(SecretDocument { document }),

@@ -1,7 +1,7 @@
 use Rattle.std.proofs.Common.{arith, inr}
 use Rattle.std.proofs.lemmas.Result.{err_from_is_err_and}
 use Rattle.asn1_core.specs.Unicode.{text_units}
-use Rattle.asn1_core.specs.WritingLaws.{stopped_before, overlong_el, el_size, element_stopped, element_written}
+use Rattle.asn1_core.specs.WritingLaws.{stopped_before, overlong_el, el_size, element_stopped, element_written, short_el, held}
 use Rattle.asn1_core.proofs.write_text.write_bmp.Goals as goal
 
 pub returns-in_err-length-clause-writes : goal.returns-in_err-length-clause-writes
@@ -23,3 +23,6 @@ returns-in_err-write_header-clause-writes g c =
 
 pub returns-clause-writes : goal.returns-clause-writes
 returns-clause-writes g c = element_written g.W.Writer.sink 0x1e c.in_ok-length.length.value (text_units c.args.text.now) c.args.w.now _ _ _ _ c.in_ok-length.ensures c.in_ok-write_header.ensures _ c.write_units.ensures
+
+pub returns-clause-short : goal.returns-clause-short
+returns-clause-short g c = held _ c.write_units.result (short_el 0x1e c.in_ok-length.length.value (text_units c.args.text.now) c.in_ok-length.ensures c.in_ok-element_len.ensures.1)

@@ -9,4 +9,4 @@ returns-then-not-can_decode g c =
 pub returns : goal.returns
 returns g c =
     as_gives g.T.Decode.seen g.T.Decode.at g.T.Choice.can g.T.DecodeValue.seen g.T.DecodeValue.value g.met.T.WholeElement.tied c.args.header.tag.first (g.R.Reader.left c.args.r.now) c.args.header.tag.is_tag (rw c.requires at c.args.header.short)
-    c.args.header.length.value _ c.decode_value.result c.requires (sym c.can_decode.ensures ∙ c.if-not-can_decode.false) c.decode_value.ensures
+    c.args.header.length.value _ c.decode_value.result c.requires (sym c.can_decode.ensures ∙ c.if-not-can_decode.false) c.decode_value.ensures.read

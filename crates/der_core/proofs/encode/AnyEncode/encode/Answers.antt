@@ -1,6 +1,6 @@
 use Rattle.std.proofs.Common.{inr}
 use Rattle.std.proofs.lemmas.Result.{err_from_is_err_and}
-use Rattle.asn1_core.specs.WritingLaws.{refused_el, stopped_before, overlong_el, header_stopped, value_written}
+use Rattle.asn1_core.specs.WritingLaws.{refused_el, stopped_before, overlong_el, header_stopped, value_written, short_el, held}
 use Rattle.der_core.proofs.encode.AnyEncode.encode.Goals as goal
 
 pub returns-in_err-n-clause-written : goal.returns-in_err-n-clause-written
@@ -21,3 +21,6 @@ returns-in_err-write_header-clause-written g c =
 
 pub returns-clause-written : goal.returns-clause-written
 returns-clause-written g c = value_written g.W.Writer.sink (g.T.Tagged.tag_of c.args.self.now) c.tag.result.first c.in_ok-n.n.value (g.T.EncodeValue.content c.args.self.now) c.args.w.now _ _ _ c.tag.ensures c.in_ok-n.ensures.measured c.in_ok-write_header.ensures _ c.encode_value.ensures.written
+
+pub returns-clause-short : goal.returns-clause-short
+returns-clause-short g c = held _ c.encode_value.result (short_el (g.T.Tagged.tag_of c.args.self.now) c.in_ok-n.n.value (g.T.EncodeValue.content c.args.self.now) c.in_ok-n.ensures.measured c.in_ok-element_len.ensures.1)
