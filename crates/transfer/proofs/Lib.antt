@@ -1,6 +1,4 @@
-mod Pieces
 mod Encoded
-mod Decimal
 mod FiveWords
 mod Written
 mod Lines

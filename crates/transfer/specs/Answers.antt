@@ -6,7 +6,7 @@ use Rattle.transfer.specs.declared.error.TransferError.TheVariants as refusals
 use Rattle.transfer.specs.declared.status.Status.{Status}
 use Rattle.transfer.specs.declared.status.Status.TheVariants.{Done, InputTooLong, InputMalformed, Memory, Rng}
 use Rattle.transfer.specs.declared.transferred.Transferred.{Transferred}
-use Rattle.transfer.specs.Outside.{Rose}
+use Rattle.outside.specs.Faults.{Rose}
 use Rattle.transfer.specs.Words.{Command, IsCommand, IsNoCommand}
 use Rattle.transfer.specs.Input.{input_limit}
 use Rattle.transfer.specs.InputText.{IsInput, IsNoInput}

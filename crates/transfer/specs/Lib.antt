@@ -1,5 +1,3 @@
-pub mod Outside
-pub mod Memory
 pub mod Input
 pub mod Words
 pub mod Asked

@@ -6,7 +6,7 @@ use Rattle.pkcs5.specs.declared.pbes2.encryption_scheme.EncryptionScheme.TheVari
 use Rattle.pkcs8.specs.Seen.{AnyPrivateKey, IsPrivateKey}
 use Rattle.pkcs8.specs.Spelling.{private_key_text}
 use Rattle.pkcs8.specs.Sealing.{IsSealed}
-use Rattle.transfer.specs.Outside.{Rose}
+use Rattle.outside.specs.Faults.{Rose}
 
 -- The document seals the private key of this text: under the password q it opens to the key's canonical encoding. It states PBKDF2
 -- over HMAC-SHA-256 with these rounds and this salt, no length of the key, and AES-256 in CBC mode with this IV.

@@ -15,7 +15,7 @@ ghost use Rattle.transfer.specs.Words.{Command, IsCommand, IsNoCommand};
 use crate::error::TransferError;
 use crate::input::{InputError, read_input};
 use crate::input_text::{Spelled, TextError, read_text};
-use crate::outside::Source;
+use outside::Source;
 use crate::status::Status;
 use crate::transferred::{Transferred, transfer};
 use crate::words::{Words, command_of};

@@ -4,10 +4,10 @@ ghost use Rattle.std.specs.List.{flat_map};
 ghost use Rattle.std.specs.Io.KnownBytes.{Appends};
 ghost use Rattle.hex.specs.Hex.{encode_lower};
 ghost use Rattle.transfer.specs.DueText.{AppendsPart, digits_line, out};
-ghost use Rattle.transfer.specs.Outside.{Rose};
+ghost use Rattle.outside.specs.Faults.{Rose};
 
 use crate::digits::encode_into;
-use crate::outside::{Failed, Sink};
+use outside::{Failed, Sink};
 use asn1_core::Octets;
 
 /// How many octets of a line are encoded for one write.

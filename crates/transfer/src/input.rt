@@ -1,11 +1,11 @@
 //! Reading the whole input.
 ghost use Rattle.std.specs.Prelude.{◌≡◌, ◌<◌, ◌≤◌, length, IfOk, IfSome};
 ghost use Rattle.std.specs.Result.{IsErrOf};
-ghost use Rattle.transfer.specs.Outside.{Rose};
+ghost use Rattle.outside.specs.Faults.{Rose};
 ghost use Rattle.transfer.specs.Input.{IsWhole, input_limit};
 ghost use Rattle.transfer.specs.declared.input.InputError.TheVariants.{Memory};
 
-use crate::outside::Source;
+use outside::Source;
 use std::alloc::{AllocError, Global};
 
 /// The most octets that the input may have.

@@ -16,13 +16,10 @@ mod keys;
 mod laws;
 mod lock;
 mod mac;
-mod memory;
 mod opening;
-mod outside;
 mod password;
 mod sealing;
 mod status;
-mod streams;
 #[cfg(test)]
 mod tests;
 mod top_call;
@@ -31,9 +28,7 @@ mod words;
 
 pub use error::TransferError;
 pub use laws::{drawn_in_place, one_verdict, opened_exactly, valid_exactly};
-pub use memory::{MemorySink, MemorySource};
-pub use outside::{Failed, Sink, Source};
+pub use outside::{Failed, MemorySink, MemorySource, ReadSource, Sink, Source, WriteSink};
 pub use status::Status;
-pub use streams::{ReadSource, WriteSink};
 pub use top_call::run;
 pub use transferred::{Transferred, transfer};

@@ -6,7 +6,7 @@ ghost use Rattle.transfer.specs.Answers.{Due, IsExact, IsGiven, IsRead, RefusesI
 ghost use Rattle.transfer.specs.DueText.{AppendsPart};
 ghost use Rattle.transfer.specs.Input.{input_limit};
 ghost use Rattle.transfer.specs.InputText.{IsInput, IsNoInput};
-ghost use Rattle.transfer.specs.Outside.{Rose};
+ghost use Rattle.outside.specs.Faults.{Rose};
 ghost use Rattle.transfer.specs.Status.{status_of};
 ghost use Rattle.transfer.specs.Words.{Command, IsCommand, IsNoCommand};
 ghost use Rattle.transfer.specs.declared.error.TransferError.{TransferError};
@@ -15,7 +15,7 @@ ghost use Rattle.transfer.specs.declared.status.Status.{Status};
 use crate::decision::decide;
 use crate::due_text::{write_lines, write_piece};
 use crate::error::TransferError;
-use crate::outside::{Sink, Source};
+use outside::{Sink, Source};
 use crate::status::Status;
 use crate::transferred::Transferred;
 use mac_modes::Draw;

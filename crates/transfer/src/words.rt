@@ -1,8 +1,10 @@
 //! The words of the command line.
-ghost use Rattle.std.specs.Prelude.{◌≡◌, ◌<◌, ◌^◌, ℕ, IfSome, IfNone, decimal, map};
+ghost use Rattle.std.specs.Prelude.{IfSome, IfNone, map};
 ghost use Rattle.std.specs.String.{string_bytes};
 ghost use Rattle.transfer.specs.Words.{IsCommand, IsNoCommand};
 ghost use Rattle.transfer.specs.Asked.{command_in};
+
+use octet_core::decimal_u64_of;
 
 /// The longest password, in octets.
 pub(crate) const PASSWORD_LIMIT: usize = 1024;
@@ -17,24 +19,6 @@ pub(crate) struct Words<'a> {
     pub(crate) new_password: &'a str,
     pub(crate) rounds: u32,
     pub(crate) limit: u64,
-}
-
-/// A number in decimal digits, with no sign and no leading zero.
-fn number(word: &str) -> Option<u64>
-    ensures found { IfSome result (λ n. word.now ≡ decimal n) }
-    ensures none { IfNone result ((n : ℕ) → n < 2 ^ 64 → word.now ≡ decimal n → ⊥) }
-{
-    let digits = word.as_bytes();
-    if digits.is_empty() {
-        return None;
-    }
-    if digits[0] == b'+' {
-        return None;
-    }
-    if digits[0] == b'0' && digits.len() > 1 {
-        return None;
-    }
-    word.parse().ok()
 }
 
 /// The command that the words spell.
@@ -53,8 +37,8 @@ pub(crate) fn command_of(words: &[String]) -> Option<Words<'_>>
     if password.len() > PASSWORD_LIMIT || new_password.len() > PASSWORD_LIMIT {
         return None;
     }
-    let rounds = number(rounds.as_str())?;
-    let limit = number(limit.as_str())?;
+    let rounds = decimal_u64_of(rounds.as_str())?;
+    let limit = decimal_u64_of(limit.as_str())?;
     if rounds < 1 || rounds > ROUNDS_LIMIT {
         return None;
     }

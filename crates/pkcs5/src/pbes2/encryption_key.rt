@@ -12,6 +12,7 @@ use crate::pbes2::kdf::Kdf;
 use crate::pbes2::parameters::Parameters;
 use crate::pbes2::pbkdf2_params::Pbkdf2Params;
 use crate::pbes2::pbkdf2_prf::Pbkdf2Prf;
+use octet_core::ShortOctets;
 use pbkdf2::pbkdf2_hmac;
 use sha1::Sha1;
 use sha2::{Sha224, Sha256, Sha384, Sha512};
@@ -21,18 +22,15 @@ use std::marker::Model;
 /// A key of a cipher, of at most 32 octets, which a contract sees as a list of numbers below 256.
 #[derive(Drop)]
 pub struct EncryptionKey {
-    octets: [u8; 32],
-    size: usize,
+    octets: ShortOctets<32>,
 }
 
 impl Model for EncryptionKey {
-    ghost use Rattle.std.specs.Prelude.{ℕ, ◌≤◌, List, take};
+    ghost use Rattle.std.specs.Prelude.{ℕ, List};
 
     ghost Value = { List ℕ };
 
-    ghost view = { λ k. take k.size k.octets };
-
-    ghost invariant = { λ k. k.size ≤ 32 };
+    ghost view = { λ k. k.octets };
 }
 
 /// Fills `out` with the key that PBKDF2 derives from a password.
@@ -85,8 +83,7 @@ impl EncryptionKey {
         let mut octets = [0u8; 32];
         derive(kdf, password, &mut octets[..key_size]);
         Ok(EncryptionKey {
-            octets,
-            size: key_size,
+            octets: ShortOctets::new(&octets[..key_size]),
         })
     }
 
@@ -111,6 +108,6 @@ impl EncryptionKey {
     pub fn as_slice(&self) -> &[u8]
         ensures { result.now ≡ self.now }
     {
-        &self.octets[..self.size]
+        self.octets.as_slice()
     }
 }

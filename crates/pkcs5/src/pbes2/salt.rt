@@ -7,31 +7,26 @@ ghost use Rattle.der_core.specs.SameLaws.{octets_same};
 ghost use Rattle.pkcs5.specs.Salt.{IsSalt, SaltOf, salt_of};
 ghost use Rattle.pkcs5.specs.Pbkdf2ParamsLaws.{salt_of-exact, salt_canonical, salt_spelled};
 
-use asn1_core::{Error, Header, Length, Reader, Tag, Writer, pad};
+use asn1_core::{Error, Header, Length, Reader, Tag, Writer};
 use der_core::{Canonical, Compared, DecodeValue, EncodeValue, FixedTag, Spelled};
+use octet_core::ShortOctets;
 use std::convert::AsSlice;
 use std::marker::Model;
 
 /// A salt (RFC 8018 section 4.1) of at most 32 octets, as OCTET STRING.
 #[derive(Clone, Copy, Debug)]
 pub struct Salt {
-    octets: [u8; 32],
-    size: usize,
+    octets: ShortOctets<32>,
 }
 
 impl Model for Salt {
-    ghost use Rattle.std.specs.Prelude.{ℕ, List, length, take, ◌≡◌};
-    ghost use Rattle.octet_core.specs.Padded.{IsPadded, padded, padded_take, length-take_padded};
+    ghost use Rattle.std.specs.Prelude.{ℕ, List};
 
     ghost Value = { List ℕ };
 
-    ghost view = { λ s. take s.size s.octets };
+    ghost view = { λ s. s.octets };
 
-    ghost invariant = { λ s. IsPadded 32 s.size s.octets };
-
-    ghost inverse = { λ d. record { octets = padded 32 d; size = length d } };
-
-    ghost inverse_ok = { λ a h i. record { octets = padded_take 32 a.size a.octets h i; size = length-take_padded 32 a.size a.octets h i } };
+    ghost inverse = { λ d. record { octets = d } };
 }
 
 impl Salt {
@@ -39,7 +34,6 @@ impl Salt {
     pub const MAX_LEN: usize = 32;
 
     /// The salt of these octets. `Malformed` exactly where they are more than 32.
-    #[tactic(auto, using(octet_core::specs::Padded::is_padded, octet_core::specs::Padded::take_padded))]
     pub fn new(octets: &[u8]) -> Result<Salt, Error>
         ensures ok { IfOk result (λ s. (s ≡ octets.now) × (length octets.now ≤ 32)) }
         ensures err { IfErr result (λ e. (e ≡ Error.Malformed) × (32 < length octets.now)) }
@@ -48,8 +42,7 @@ impl Salt {
             return Err(Error::Malformed);
         }
         Ok(Salt {
-            octets: pad(octets),
-            size: octets.len(),
+            octets: ShortOctets::new(octets),
         })
     }
 
@@ -58,7 +51,7 @@ impl Salt {
         ensures value { result.now ≡ self.now }
         ensures short { length self.now ≤ 32 }
     {
-        &self.octets[..self.size]
+        self.octets.as_slice()
     }
 
     /// The number of octets.
@@ -67,7 +60,7 @@ impl Salt {
         ensures short { length self.now ≤ 32 }
     {
         Length {
-            value: self.size as u32,
+            value: self.octets.len() as u32,
         }
     }
 }
@@ -78,7 +71,7 @@ impl PartialEq for Salt {
     ghost laws = { Prim.search (comparing, rules) };
 
     fn eq(&self, other: &Salt) -> bool {
-        self.octets[..self.size] == other.octets[..other.size]
+        self.octets == other.octets
     }
 }
 

@@ -18,7 +18,7 @@ returns-in_err-limit-clause-none c =
 pub returns-then-rounds-lt1-clause-none : goal.returns-then-rounds-lt1-clause-none
 returns-then-rounds-lt1-clause-none c =
     let w = five string_bytes c.args.words.now _ _ _ _ _ c.in-len5.len_at_least c.in-len5.len_below c.name-item.is c.password-item.is c.new_password-item.is c.rounds-item.is c.limit-item.is in
-    no_such_rounds _ _ _ _ _ _ c.in_ok-rounds.rounds w (sym c.as_str-2.ensures.value ∙ c.in_ok-rounds.ensures.found) (omega arith)
+    no_such_rounds _ _ _ _ _ _ c.in_ok-rounds.rounds w (sym c.as_str-2.ensures.value ∙ c.in_ok-rounds.ensures.found.1) (omega arith)
     (λ low high. elim c.then-rounds-lt1.branch [
       | then-rounds-lt1-via-then-rounds-lt1 v ↦ omega arith
       | then-rounds-lt1-via-else-rounds-lt1+then-rounds-gt-ROUNDS_LIMIT v ↦ omega arith
@@ -32,8 +32,8 @@ returns-clause-found c =
     let old = c.as_str-password.ensures.value in
     let new = c.as_str-new_password.ensures.value in
     let name = same_bytes c.as_str.result.now (codes "transfer") c.if-ne.ensures in
-    let found = c.in_ok-rounds.ensures.found in
-    let found2 = c.in_ok-limit.ensures.found in
+    let found = c.in_ok-rounds.ensures.found.1 in
+    let found2 = c.in_ok-limit.ensures.found.1 in
     record {
       spelled = as_five _ _ _ _ _ _ _ _ _ _ _ w (sym c.as_str.ensures.value ∙ name) (sym old) (sym new) (sym rounds ∙ found) (sym limit ∙ found2);
       password = omega arith;
