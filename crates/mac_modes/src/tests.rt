@@ -1,3 +1,8 @@
+//! Vectors of the standards, refusals, and draws.
+
+mod callers;
 mod cbc_texts;
 mod draws;
+mod gcm_texts;
 mod hmac_tags;
+mod printed;
