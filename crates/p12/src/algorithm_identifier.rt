@@ -1,5 +1,5 @@
 //! Algorithms of PKCS#12.
-ghost use Rattle.std.specs.Prelude.{◌≡◌, ◌<◌, length, OnOk, IfOk, IfErr};
+ghost use Rattle.std.specs.Prelude.{◌+◌, ◌≡◌, ◌<◌, length, OnOk, IfOk, IfErr};
 ghost use Rattle.asn1_core.specs.Gives.{ReadsIn, GivesIn};
 ghost use Rattle.p12.specs.AlgorithmIdentifier.{AlgorithmText, ParamsText};
 ghost use Rattle.p12.specs.Error.{Reads};
@@ -54,7 +54,8 @@ fn params_in_front(
     alloc: Global,
     r: &mut SliceReader<'_>,
 ) -> Result<Pkcs12PbeParams, asn1_core::Error>
-    ensures { ReadsIn params_at (λ x. x) r.old.rest.now r.new.rest.now result }
+    ensures exact { ReadsIn params_at (λ x. x) r.old.rest.now r.new.rest.now result }
+    ensures place { r.new.read + length r.new.rest.now ≡ r.old.read + length r.old.rest.now }
 {
     let mut ahead = *r;
     let mut body = read_inner(&mut ahead, Tag::SEQUENCE)?;
@@ -145,7 +146,8 @@ pub(crate) fn algorithm_in_front(
     alloc: Global,
     r: &mut SliceReader<'_>,
 ) -> Result<AlgorithmIdentifier, asn1_core::Error>
-    ensures { ReadsIn algorithm_at (λ x. x) r.old.rest.now r.new.rest.now result }
+    ensures exact { ReadsIn algorithm_at (λ x. x) r.old.rest.now r.new.rest.now result }
+    ensures place { r.new.read + length r.new.rest.now ≡ r.old.read + length r.old.rest.now }
 {
     let mut ahead = *r;
     let mut body = read_inner(&mut ahead, Tag::SEQUENCE)?;
@@ -158,7 +160,8 @@ pub(crate) fn algorithm_in_front(
 impl Pkcs12PbeParams {
     /// The parameters that stand next. `Malformed` exactly where none do; the reader then stands where it stood.
     pub fn parse(alloc: Global, r: &mut SliceReader<'_>) -> Result<Pkcs12PbeParams, Error>
-        ensures { Reads ParamsText r.old.rest.now r.new.rest.now result }
+        ensures stands { Reads ParamsText r.old.rest.now r.new.rest.now result }
+        ensures place { r.new.read + length r.new.rest.now ≡ r.old.read + length r.old.rest.now }
     {
         Ok(params_in_front(alloc, r)?)
     }
@@ -167,7 +170,8 @@ impl Pkcs12PbeParams {
 impl AlgorithmIdentifier {
     /// The algorithm that stands next. `Malformed` exactly where none does; the reader then stands where it stood.
     pub fn parse(alloc: Global, r: &mut SliceReader<'_>) -> Result<AlgorithmIdentifier, Error>
-        ensures { Reads AlgorithmText r.old.rest.now r.new.rest.now result }
+        ensures stands { Reads AlgorithmText r.old.rest.now r.new.rest.now result }
+        ensures place { r.new.read + length r.new.rest.now ≡ r.old.read + length r.old.rest.now }
     {
         Ok(algorithm_in_front(alloc, r)?)
     }

@@ -1,5 +1,5 @@
 //! A digest and its algorithm.
-ghost use Rattle.std.specs.Prelude.{◌≡◌, ◌<◌, length, OnOk, IfOk, IfErr};
+ghost use Rattle.std.specs.Prelude.{◌+◌, ◌≡◌, ◌<◌, length, OnOk, IfOk, IfErr};
 ghost use Rattle.asn1_core.specs.Gives.{ReadsIn, GivesIn};
 ghost use Rattle.p12.specs.DigestInfo.{DigestText};
 ghost use Rattle.p12.specs.Error.{Reads};
@@ -26,7 +26,8 @@ pub(crate) fn digest_in_front(
     alloc: Global,
     r: &mut SliceReader<'_>,
 ) -> Result<DigestInfo, asn1_core::Error>
-    ensures { ReadsIn digest_at (λ x. x) r.old.rest.now r.new.rest.now result }
+    ensures exact { ReadsIn digest_at (λ x. x) r.old.rest.now r.new.rest.now result }
+    ensures place { r.new.read + length r.new.rest.now ≡ r.old.read + length r.old.rest.now }
 {
     let mut ahead = *r;
     let mut body = read_inner(&mut ahead, Tag::SEQUENCE)?;
@@ -44,7 +45,8 @@ pub(crate) fn digest_in_front(
 impl DigestInfo {
     /// The digest that stands next. `Malformed` exactly where none does; the reader then stands where it stood.
     pub fn parse(alloc: Global, r: &mut SliceReader<'_>) -> Result<DigestInfo, Error>
-        ensures { Reads DigestText r.old.rest.now r.new.rest.now result }
+        ensures stands { Reads DigestText r.old.rest.now r.new.rest.now result }
+        ensures place { r.new.read + length r.new.rest.now ≡ r.old.read + length r.old.rest.now }
     {
         Ok(digest_in_front(alloc, r)?)
     }

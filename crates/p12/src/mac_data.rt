@@ -1,5 +1,5 @@
 //! The MAC of a store.
-ghost use Rattle.std.specs.Prelude.{◌≡◌, ◌<◌, length, OnOk, IfOk, IfErr};
+ghost use Rattle.std.specs.Prelude.{◌+◌, ◌≡◌, ◌<◌, length, OnOk, IfOk, IfErr};
 ghost use Rattle.asn1_core.specs.Gives.{ReadsIn, GivesIn};
 ghost use Rattle.p12.specs.MacData.{MacText};
 ghost use Rattle.p12.specs.Error.{Reads};
@@ -27,7 +27,8 @@ pub(crate) fn mac_in_front(
     alloc: Global,
     r: &mut SliceReader<'_>,
 ) -> Result<MacData, asn1_core::Error>
-    ensures { ReadsIn mac_at (λ x. x) r.old.rest.now r.new.rest.now result }
+    ensures exact { ReadsIn mac_at (λ x. x) r.old.rest.now r.new.rest.now result }
+    ensures place { r.new.read + length r.new.rest.now ≡ r.old.read + length r.old.rest.now }
 {
     let mut ahead = *r;
     let mut body = read_inner(&mut ahead, Tag::SEQUENCE)?;
@@ -47,7 +48,8 @@ pub(crate) fn mac_in_front(
 impl MacData {
     /// The MAC that stands next. `Malformed` exactly where none does; the reader then stands where it stood.
     pub fn parse(alloc: Global, r: &mut SliceReader<'_>) -> Result<MacData, Error>
-        ensures { Reads MacText r.old.rest.now r.new.rest.now result }
+        ensures stands { Reads MacText r.old.rest.now r.new.rest.now result }
+        ensures place { r.new.read + length r.new.rest.now ≡ r.old.read + length r.old.rest.now }
     {
         Ok(mac_in_front(alloc, r)?)
     }
