@@ -1,6 +1,6 @@
 #!/bin/sh
-# shellcheck disable=SC2317 # the checks are called by name
-# What ./pkcs12 promises: what it writes, what it refuses and by which number, and that nothing is left half done.
+# shellcheck disable=SC2154,SC2317 # the checks are called by name, and tests/shared/checks.sh sets names
+# What ./pkcs12 writes, what it refuses and by which number, and that nothing is left half done.
 # Prints `ok NAME` or `not ok NAME` for each, `skipped NAME` with the reason for what this machine has no means for, and ends with 1
 # where one is not ok.
 set -eu
@@ -11,37 +11,8 @@ trap 'rm -rf "$work"' EXIT
 # shellcheck source=tests/shared/checks.sh
 . "$home/tests/shared/checks.sh"
 
-plain=$home/examples/openssl-plain.p12
-plain_password=$home/examples/password
-keyed=$home/examples/openssl-key/store.p12
-keyed_password=$home/examples/openssl-key/password
-echo 'new password' >"$work/new"
-: >"$work/empty"
-out=$work/out
-
-# The store with a key into the folder $1, with the further words.
-export_keyed() {
-    folder=$1
-    shift
-    ends 0 export "$keyed" --out "$folder" --password-file "$keyed_password" --new-password-file "$work/new" --rounds 1000 "$@"
-}
-
-# OpenSSL, which not every machine has.
-have_openssl() {
-    command -v openssl >/dev/null || {
-        echo "skipped $1: there is no openssl"
-        return 1
-    }
-}
-
-"$home/pkcs12" --version >/dev/null # builds it, where it is not built
-
 # --- what is written ---
 
-opens_to_the_key() {
-    openssl pkey -in "$1" -passin "$2" -outform DER 2>"$work/told" | cmp -s - "$home/examples/openssl-key/key-0.der" ||
-        openssl pkcs8 -topk8 -nocrypt -in "$1" -passin "$2" -outform DER 2>"$work/told" | cmp - "$home/examples/openssl-key/key-0.der"
-}
 is_the_certificate() {
     openssl x509 -in "$1" -outform DER | cmp - "$2"
 }
@@ -104,7 +75,12 @@ longest_password() {
     ends 0 export "$keyed" --out "$work/longest-new" --password-file "$keyed_password" --new-password-file "$work/longest" --rounds 1 ||
         return 1
     have_openssl longest_password || return 0
-    opens_to_the_key "$work/longest-new/key-0.pem" "file:$work/longest"
+    # openssl's own limit for a password file is shorter
+    LONGEST=$(cat "$work/longest")
+    export LONGEST
+    openssl pkcs8 -in "$work/longest-new/key-0.pem" -passin env:LONGEST -outform DER 2>"$work/told" >"$work/key.der" &&
+        openssl pkey -inform DER -in "$work/key.der" -outform DER 2>"$work/told" >"$work/key-again.der" &&
+        openssl pkey -inform DER -in "$home/examples/openssl-key/key-0.der" -outform DER | cmp - "$work/key-again.der"
 }
 holds password_of_1024_octets longest_password
 { cat "$work/longest" && echo x; } >"$work/longer"
@@ -128,62 +104,6 @@ holds input_gives_one_thing fails 2 Usage "only one of" check - --password-stdin
 holds new_password_for_a_pipe fails 9 NewPasswordMissing "read once" export - --out "$work/none" --password-file "$plain_password"
 holds two_passwords fails 2 Usage "cannot be used" check "$plain" --password-stdin --password-file "$plain_password"
 holds no_such_variable fails 3 ReadFault NO_SUCH check "$plain" --password-env NO_SUCH
-
-# Looks at the arguments of every process while the command works, asked at a terminal: no password is among them.
-never_among_arguments() {
-    "$home/tests/shared/at_terminal.py" --answer "$(cat "$keyed_password")" --answer typed-secret --answer typed-secret -- \
-        "$home/pkcs12" export "$keyed" --out "$work/arguments" --rounds 3000000 >"$work/told" 2>&1 &
-    typed=$!
-    seen=
-    while kill -0 "$typed" 2>/dev/null; do
-        for arguments in /proc/[0-9]*/cmdline; do
-            [ "$arguments" != "/proc/$typed/cmdline" ] || continue
-            found=$(tr '\0' ' ' <"$arguments" 2>/dev/null) || continue
-            case $found in
-                */out/pkcs12*)
-                    seen=yes
-                    case $found in
-                        *typed-secret* | *"$(cat "$keyed_password")"*) return 1 ;;
-                    esac
-                    ;;
-            esac
-        done
-    done
-    wait "$typed" && [ -n "$seen" ] && [ -s "$work/arguments/key-0.pem" ]
-}
-holds passwords_are_never_arguments never_among_arguments
-
-# --- at a terminal ---
-
-asks() {
-    code=0
-    "$home/tests/shared/at_terminal.py" "$@" >"$work/told" || code=$?
-}
-asks_for_both() {
-    asks --answer "$(cat "$keyed_password")" --answer other --answer other -- "$home/pkcs12" export "$keyed" --out "$work/asked" --rounds 1
-    [ "$code" -eq 0 ] && grep -q '^echo on' "$work/told" && ! grep -q other "$work/told" || return 1
-    have_openssl asks_for_both || return 0
-    opens_to_the_key "$work/asked/key-0.pem" pass:other
-}
-holds asks_for_both_passwords asks_for_both
-asks_for_one() {
-    asks --answer "$(cat "$plain_password")" -- "$home/pkcs12" export "$plain" --out "$work/asked-plain"
-    [ "$code" -eq 0 ] && [ -s "$work/asked-plain/cert-1.pem" ]
-}
-holds asks_for_no_new_password_without_keys asks_for_one
-asks_and_differ() {
-    asks --answer "$(cat "$keyed_password")" --answer one --answer two -- "$home/pkcs12" export "$keyed" --out "$work/none"
-    [ "$code" -eq 22 ] && grep -q differ "$work/told" && nothing_at "$work/none"
-}
-holds new_passwords_that_differ asks_and_differ
-signal_while_asking() {
-    asks --signal "$1" -- "$home/pkcs12" check "$plain"
-    [ "$code" -eq "$2" ] && grep -q '^echo on' "$work/told"
-}
-holds echo_is_back_after_INT signal_while_asking INT 130
-holds echo_is_back_after_HUP signal_while_asking HUP 129
-holds echo_is_back_after_QUIT signal_while_asking QUIT 131
-holds echo_is_back_after_TERM signal_while_asking TERM 143
 
 # --- the output folder ---
 
@@ -221,11 +141,11 @@ full_disk() {
         echo "skipped full_disk: no tmpfs can be mounted"
         return 0
     fi
-    code=0
+    outcome=0
     fails 4 WriteFault "output folder" export "$home/examples/keytool/store.p12" --out "$work/disk/out" \
-        --password-file "$home/examples/keytool/password" && [ -z "$(ls -A "$work/disk")" ] || code=1
+        --password-file "$home/examples/keytool/password" && [ -z "$(ls -A "$work/disk")" ] || outcome=1
     umount "$work/disk"
-    return "$code"
+    return "$outcome"
 }
 holds a_full_disk_leaves_nothing full_disk
 full_output() {
@@ -290,39 +210,27 @@ recipe() {
 }
 holds the_recipe_makes_a_store_that_is_opened recipe
 
+# README's command of Java, with passwords in place of questions, for a store of two keys.
+recipe_of_java() {
+    command -v keytool >/dev/null || {
+        echo "skipped recipe_of_java: there is no keytool"
+        return 0
+    }
+    echo password >"$work/java-password"
+    for name in one two; do
+        keytool -genkeypair -alias "$name" -keyalg EC -dname "CN=$name" -keystore "$work/java.p12" -storetype PKCS12 \
+            -storepass password -keypass password >"$work/told" 2>&1 || return 1
+    done
+    fails 13 MacUnsupported SHA-256 check "$work/java.p12" --password-file "$work/java-password" || return 1
+    sed -n '/^    keytool /,/HmacPBESHA1$/p' "$home/README.md" | sed -e "s|STORE.p12|$work/java.p12 -srcstorepass password|" \
+        -e "s|NEW.p12|$work/java-anew.p12 -deststorepass password|" >"$work/recipe.sh"
+    sh -e "$work/recipe.sh" >"$work/told" 2>&1 && ends 0 check "$work/java-anew.p12" --password-file "$work/java-password" &&
+        [ "$(cat "$work/said")" = "$(printf 'certificates: 2\nprivate keys: 2')" ]
+}
+holds the_recipe_of_java recipe_of_java
+
 # --- stores made by hand ---
 
-PYTHONPATH=$home/tests "${PYTHON:-python3}" - "$work" <<'END'
-import sys
-
-from make_store import certificate_bag, context, data, element, identifier, number, octet_string, sequence, store, store_with_mac
-
-work = sys.argv[1]
-PASSWORD = "p"
-
-
-def write(name, octets):
-    with open(f"{work}/{name}", "wb") as file:
-        file.write(octets)
-
-
-def bag(kind, value):
-    return sequence(identifier("1.2.840.113549.1.12.10.1." + kind), context(0, value))
-
-
-def plain_store(bags):
-    return store_with_mac(sequence(data(sequence(*bags))), PASSWORD, b"salt", 1)
-
-
-any_value = sequence(number(0))
-write("passed.p12", plain_store([bag("1", any_value), bag("4", any_value), bag("4", any_value), bag("5", any_value), bag("6", any_value)]))
-write("many.p12", plain_store([certificate_bag(octet_string(bytes([n % 256]) * 700)) for n in range(3000)]))
-whole = plain_store([certificate_bag(b"certificate")])
-header = 2 if whole[1] < 128 else 2 + whole[1] % 128
-write("ber.p12", whole[:1] + b"\x80" + whole[header:] + b"\0\0")
-write("pem.p12", b"-----BEGIN CERTIFICATE-----\nAAAA\n-----END CERTIFICATE-----\n")
-END
-echo p >"$work/p"
 
 passed_over() {
     ends 0 check "$work/passed.p12" --password-file "$work/p" || return 1
@@ -340,6 +248,10 @@ END
 holds what_is_passed_over_is_named passed_over
 holds ber_is_named fails 10 Malformed "in BER, and only DER is read: an element of indefinite length begins at octet 0" \
     check "$work/ber.p12" --password-file "$work/p"
+holds a_long_length_is_named fails 10 Malformed "a length in more octets than it takes begins at octet 0" \
+    check "$work/long.p12" --password-file "$work/p"
+holds a_string_in_parts_is_named fails 10 Malformed "a string in parts begins at octet 20" \
+    check "$work/parts.p12" --password-file "$work/p"
 holds pem_is_named fails 10 Malformed "PEM text" check "$work/pem.p12" --password-file "$work/p"
 
 many() {
@@ -351,123 +263,45 @@ many() {
 }
 holds three_thousand_certificates_in_a_second many
 
-# --- signals ---
+# --- memory ---
 
-# Sends the signal $1 to the whole group after each of some times: what is there then is the whole folder, or nothing.
-interrupted() {
-    "${PYTHON:-python3}" - "$1" "$home/pkcs12" "$work" <<'END'
-import os
-import signal
-import subprocess
-import sys
-import time
-
-name, command, work = sys.argv[1:]
-number = getattr(signal, "SIG" + name)
-signal.signal(number, signal.SIG_DFL)
-words = [command, "export", f"{work}/many.p12", "--out", f"{work}/cut", "--password-file", f"{work}/p"]
-whole = cut = 0
-for step in range(24):
-    started = subprocess.Popen(words, start_new_session=True, stdin=subprocess.DEVNULL, stderr=subprocess.DEVNULL)
-    if step % 2 == 0:
-        # in the middle: as soon as something is written
-        end = time.time() + 5
-        while time.time() < end and started.poll() is None and not any(each.startswith("cut") for each in os.listdir(work)):
-            pass
-    time.sleep(step * 0.002)
-    try:
-        os.killpg(started.pid, number)
-    except ProcessLookupError:
-        pass
-    started.wait(60)
-    time.sleep(0.01)
-    left = sorted(each for each in os.listdir(work) if each.startswith("cut"))
-    if left == ["cut"] and len(os.listdir(f"{work}/cut")) == 3000:
-        whole += 1
-        subprocess.run(["rm", "-rf", f"{work}/cut"], check=True)
-    elif left:
-        sys.exit(f"left after {name}: {left}")
-    else:
-        cut += 1
-print(f"{name}: {cut} cut short, {whole} whole")
-sys.exit(0 if cut else 1)
-END
-}
-holds INT_leaves_nothing_half_written interrupted INT
-holds HUP_leaves_nothing_half_written interrupted HUP
-holds TERM_leaves_nothing_half_written interrupted TERM
-
-# --- the wrapper ---
-
-through_a_link() {
-    mkdir -p "$work/elsewhere/crates" && ln -s "$home/pkcs12" "$work/elsewhere/one" && ln -s one "$work/elsewhere/two" &&
-        (cd "$work/elsewhere" && CDPATH=/tmp:/ ./two check "$plain" --password-file "$plain_password" >"$work/said") &&
-        (cd "$home" && CDPATH=/tmp:/ sh pkcs12 check "$plain" --password-file "$plain_password" >"$work/said")
-}
-holds links_and_cdpath through_a_link
-
-# A copy with a program that is older than its source, and an rt that does what $1 says.
-fake_home() {
-    rm -rf "$work/fake" && mkdir -p "$work/fake/crates/pkcs12/src" "$work/fake/crates/pkcs12/out" "$work/fake/crates/low" "$work/fake/bin"
-    cp "$home/pkcs12" "$work/fake/pkcs12"
-    printf 'low:\npkcs12: low clap\n' >"$work/fake/crates.txt"
-    printf '#!/bin/sh\necho old program\n' >"$work/fake/crates/pkcs12/out/pkcs12"
-    chmod +x "$work/fake/crates/pkcs12/out/pkcs12"
-    sleep 0.01
-    echo >"$work/fake/crates/pkcs12/src/main.rt"
-    printf '#!/bin/sh\n%s\n' "$1" >"$work/fake/bin/rt"
-    chmod +x "$work/fake/bin/rt"
-}
-failed_build() {
-    fake_home 'echo "error: not proved"; exit 1'
-    code=0
-    PATH=$work/fake/bin:$PATH "$work/fake/pkcs12" check "$plain" >"$work/said" 2>"$work/told" || code=$?
-    [ "$code" -eq 1 ] && grep -q '^pkcs12: BuildFailed (1): ' "$work/told" && ! grep -q 'old program' "$work/said"
-}
-holds no_program_older_than_a_failed_build failed_build
-first_build() {
-    # shellcheck disable=SC2016
-    fake_home '[ "$1" = check ] || { printf "#!/bin/sh\necho new program\n" >out/pkcs12 && chmod +x out/pkcs12; }'
-    PATH=$work/fake/bin:$PATH "$work/fake/pkcs12" check "$plain" >"$work/said" 2>"$work/told" || return 1
-    grep -q 'new program' "$work/said" && grep -q 'proved low, 1 of 2' "$work/told" && grep -q 'proved pkcs12, 2 of 2' "$work/told"
-}
-holds each_crate_is_named_as_it_is_proved first_build
-
-# --- the texts ---
-
-# The table of exit numbers, each as `number name`.
-numbers() {
-    sed -n 's/^ *\([0-9][0-9]*\)  *\([A-Z][A-Za-z]*\) .*/\1 \2/p' "$1" | sort -n
-}
-options() {
-    grep -o -- '--[a-z][a-z-]*' "$1" | sort -u
-}
-texts_agree() {
-    "$home/pkcs12" --help >"$work/help" && "$home/pkcs12" export --help >"$work/help-export" &&
-        "$home/pkcs12" check --help >"$work/help-check" || return 1
-    cat "$work/help" "$work/help-export" "$work/help-check" >"$work/help-all"
-    # man's marks: \- is a dash, .B and .BR begin lines, and \fB stands round names
-    sed -e 's/\\-/-/g' -e 's/\\f[BIRP]//g' -e 's/^\.[BI]R* //' "$home/docs/pkcs12.1" >"$work/man"
-    sed -n 's/^TABLE \([0-9]*\) \([A-Za-z]*\).*/\1 \2/p' "$work/man" >/dev/null
-    numbers "$work/help" >"$work/numbers-help"
-    sed -n 's/^\([0-9][0-9]*\) \([A-Z][A-Za-z]*\)$/\1 \2/p' "$work/man" | sort -n >"$work/numbers-man"
-    sed -n 's/^| \([0-9][0-9]*\) | `\([A-Za-z]*\)` |.*/\1 \2/p' "$home/README.md" | sort -n >"$work/numbers-readme"
-    [ "$(wc -l <"$work/numbers-help")" -gt 20 ] && cmp "$work/numbers-help" "$work/numbers-man" &&
-        cmp "$work/numbers-help" "$work/numbers-readme" || return 1
-    options "$work/help-all" >"$work/options-help"
-    options "$work/man" | grep -v -e --legacy >"$work/options-man"
-    options "$home/docs/pkcs12.bash" >"$work/options-bash"
-    diff "$work/options-help" "$work/options-man" && diff "$work/options-help" "$work/options-bash"
-}
-holds help_man_page_readme_and_completion_agree texts_agree
-completion() {
-    command -v bash >/dev/null || {
-        echo "skipped completion: there is no bash"
+# Each allocation fails in turn, by a library in front of the C library's.
+each_allocation_fails() {
+    command -v cc >/dev/null || {
+        echo "skipped each_allocation_fails: there is no C compiler"
         return 0
     }
-    bash -c '. "$1"; COMP_WORDS=(pkcs12 export --new-password-f); COMP_CWORD=2; _pkcs12; [ "${COMPREPLY[*]}" = "--new-password-file" ]' \
-        bash "$home/docs/pkcs12.bash"
+    cat >"$work/fail_alloc.c" <<'END'
+#define _GNU_SOURCE
+#include <dlfcn.h>
+#include <stdlib.h>
+static int fails(void) {
+    static long left = -1;
+    if (left == -1) left = atol(getenv("FAIL_ALLOC"));
+    return left > 0 && --left == 0;
 }
-holds completion_in_bash completion
+void *malloc(size_t size) {
+    void *(*next)(size_t) = (void *(*)(size_t))dlsym(RTLD_NEXT, "malloc");
+    return fails() ? NULL : next(size);
+}
+void *realloc(void *old, size_t size) {
+    void *(*next)(void *, size_t) = (void *(*)(void *, size_t))dlsym(RTLD_NEXT, "realloc");
+    return fails() ? NULL : next(old, size);
+}
+END
+    cc -shared -fPIC -o "$work/fail_alloc.so" "$work/fail_alloc.c" -ldl || return 1
+    number=0
+    code=7
+    while [ "$code" -eq 7 ] && [ "$number" -lt 1000 ]; do
+        number=$((number + 1))
+        nothing_at "$work/memory" || return 1
+        code=0
+        FAIL_ALLOC=$number LD_PRELOAD=$work/fail_alloc.so "$home/crates/pkcs12/out/pkcs12" export "$keyed" --out "$work/memory" \
+            --password-file "$keyed_password" --new-password-file "$work/new" --rounds 1 2>"$work/told" || code=$?
+    done
+    echo "$((number - 1)) allocations"
+    [ "$code" -eq 0 ] && [ "$number" -gt 50 ] && [ -s "$work/memory/key-0.pem" ]
+}
+holds each_allocation_that_fails_is_an_error each_allocation_fails
 
 exit "$failed"

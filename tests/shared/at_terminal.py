@@ -4,8 +4,8 @@
 usage: at_terminal.py [--signal NAME] [--answer TEXT].. -- COMMAND ARGUMENT..
 
 Each TEXT is typed when the command asks, which ends in `: `. With a signal, this is sent to the command's whole process group at the
-first question that has no answer left. Prints what the terminal showed, and then `echo on` or `echo off`; ends with the command's
-status, or 128 and the signal's number.
+first question that has no answer left. Prints what the terminal showed, and then how its echo was; ends with the command's status, or
+128 and the signal's number.
 """
 
 import os
@@ -28,6 +28,10 @@ def words():
     return answers, sent, rest[1:]
 
 
+def has_echo(terminal):
+    return bool(termios.tcgetattr(terminal)[3] & termios.ECHO)
+
+
 def main():
     answers, sent, command = words()
     shell, terminal = pty.openpty()
@@ -43,6 +47,7 @@ def main():
         os.execvp(command[0], command)
     shown = b""
     asked = 0
+    hidden = True
     deadline = time.time() + 60
     status = None
     while time.time() < deadline:
@@ -52,6 +57,7 @@ def main():
         if shown.count(b": ") > asked and shown.endswith(b": "):
             asked = shown.count(b": ")
             time.sleep(0.1)  # until the echo is off
+            hidden = hidden and not has_echo(terminal)
             if answers:
                 os.write(shell, answers.pop(0).encode() + b"\n")
             elif sent:
@@ -64,9 +70,8 @@ def main():
     else:
         os.killpg(child, signal.SIGKILL)
         _, status = os.waitpid(child, 0)
-    echo = termios.tcgetattr(terminal)[3] & termios.ECHO
     sys.stdout.write(shown.decode(errors="replace").replace("\r\n", "\n"))
-    print("echo on" if echo else "echo off")
+    print(f"echo {'off' if hidden else 'on'} while asking, {'on' if has_echo(terminal) else 'off'} afterwards")
     sys.exit(os.WEXITSTATUS(status) if os.WIFEXITED(status) else 128 + os.WTERMSIG(status))
 
 

@@ -45,3 +45,37 @@ nothing_at() {
         fi
     done
 }
+
+plain=$home/examples/openssl-plain.p12
+plain_password=$home/examples/password
+keyed=$home/examples/openssl-key/store.p12
+keyed_password=$home/examples/openssl-key/password
+echo 'new password' >"$work/new"
+: >"$work/empty"
+out=$work/out
+
+# The store with a key into the folder $1, with the further words.
+export_keyed() {
+    folder=$1
+    shift
+    ends 0 export "$keyed" --out "$folder" --password-file "$keyed_password" --new-password-file "$work/new" --rounds 1000 "$@"
+}
+
+# OpenSSL, which not every machine has.
+have_openssl() {
+    command -v openssl >/dev/null || {
+        echo "skipped $1: there is no openssl"
+        return 1
+    }
+}
+
+# The key in the file $1 opens under the password, as openssl takes it in $2, to the one of openssl-key.
+opens_to_the_key() {
+    openssl pkey -in "$1" -passin "$2" -outform DER 2>"$work/told" | cmp -s - "$home/examples/openssl-key/key-0.der" ||
+        openssl pkcs8 -topk8 -nocrypt -in "$1" -passin "$2" -outform DER 2>"$work/told" | cmp - "$home/examples/openssl-key/key-0.der"
+}
+
+"${PYTHON:-python3}" "$home/tests/shared/make_command_stores.py" "$work"
+echo p >"$work/p"
+
+"$home/pkcs12" --version >/dev/null # builds it, where it is not built

@@ -68,12 +68,12 @@ joined_lines (suc n) (c ∷ cs) fits plain =
     let shorter = length-drop 64 (c ∷ cs) in
     let first = filter-append is_in_line line (10 ∷ []) ∙ append-nil (joined line) ∙ joined_plain line (All-take IsPlain 64 (c ∷ cs) plain) in
     filter-append is_in_line (line ++ 10 ∷ []) (lines_of n rest)
-        ∙ ap (λ (t : List ℕ). t ++ joined (lines_of n rest)) first
-        ∙ ap (λ (t : List ℕ). line ++ t) (joined_lines n rest (omega arith) (All-drop IsPlain 64 (c ∷ cs) plain))
-        ∙ take-append-drop 64 (c ∷ cs)
+    ∙ ap (λ (t : List ℕ). t ++ joined (lines_of n rest)) first
+    ∙ ap (λ (t : List ℕ). line ++ t) (joined_lines n rest (omega arith) (All-drop IsPlain 64 (c ∷ cs) plain))
+    ∙ take-append-drop 64 (c ∷ cs)
 
 -- the lines of an encoding decode to what was encoded
 pub lines_decode : (m : List ℕ) → IsBytes m → decode_of standard (joined (in_lines (encode_of standard m))) ≡ Ok m
 lines_decode m bytes =
     ap (decode_of standard) (joined_lines (length (encode_of standard m)) (encode_of standard m) (omega arith) (encoded_plain m))
-        ∙ decode_of-encode_of standard m refl bytes
+    ∙ decode_of-encode_of standard m refl bytes

@@ -50,6 +50,7 @@ fn limit<'a>(alloc: Global) -> Arg<'a> {
     Arg::new(alloc, "limit")
         .long("limit")
         .value_name("STEPS")
+        .allow_negative_numbers(true)
         .default_value("100000000")
         .help("The most SHA-1 digests that opening may take: 0 to 18446744073709551615")
 }
@@ -81,6 +82,7 @@ fn rounds<'a>(alloc: Global) -> Arg<'a> {
     Arg::new(alloc, "rounds")
         .long("rounds")
         .value_name("ROUNDS")
+        .allow_negative_numbers(true)
         .default_value("600000")
         .help("How many rounds of PBKDF2 a try of the new password costs: 1 to 100000000")
 }
@@ -146,7 +148,9 @@ fn with_new_password<'a>(alloc: Global, command: Command<'a>) -> Result<Command<
 
 fn export<'a>(alloc: Global) -> Result<Command<'a>, AllocError> {
     let command = Command::new(alloc, "export")
-        .about("Write the certificates, and the private keys sealed under a new password, into a new folder")
+        .about(
+            "Write the certificates, and the private keys sealed under a new password, into a new folder",
+        )
         .after_help(PASSWORDS)
         .arg(store(alloc))?
         .arg(out(alloc))?

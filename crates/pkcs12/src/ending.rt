@@ -3,8 +3,7 @@ ghost use Rattle.std.specs.Prelude.{◌≡◌};
 ghost use Rattle.pkcs12.specs.Ending.{code_of};
 
 use std::alloc::{AllocError, AllocFailed, Global};
-use std::fmt;
-use std::io;
+use std::{fmt, io};
 use transfer::{Status, TransferError};
 
 /// The kinds of failure. The text of `--help` has them in a table, with their numbers.
@@ -109,7 +108,13 @@ impl Failure {
     }
 
     /// The failure of a call on the system, for this purpose and at this path.
-    pub fn io(alloc: Global, ending: Ending, purpose: &str, path: &str, error: io::Error) -> Failure {
+    pub fn io(
+        alloc: Global,
+        ending: Ending,
+        purpose: &str,
+        path: &str,
+        error: io::Error,
+    ) -> Failure {
         if error.kind() == io::ErrorKind::OutOfMemory {
             return Failure::from(AllocError);
         }
@@ -136,7 +141,10 @@ impl From<asn1_core::Error> for Failure {
     fn from(error: asn1_core::Error) -> Failure {
         match error {
             asn1_core::Error::Memory => Failure::from(AllocError),
-            _ => Failure::new(Ending::Refused(TransferError::Malformed), "the store is damaged"),
+            _ => Failure::new(
+                Ending::Refused(TransferError::Malformed),
+                "the store is damaged",
+            ),
         }
     }
 }
@@ -145,7 +153,10 @@ impl From<p12::Error> for Failure {
     fn from(error: p12::Error) -> Failure {
         match error {
             p12::Error::Memory => Failure::from(AllocError),
-            _ => Failure::new(Ending::Refused(TransferError::Malformed), "the store is damaged"),
+            _ => Failure::new(
+                Ending::Refused(TransferError::Malformed),
+                "the store is damaged",
+            ),
         }
     }
 }

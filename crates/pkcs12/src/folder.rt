@@ -4,12 +4,11 @@ use crate::request::Format;
 use asn1_core::Octets;
 use pem_text::pem_of;
 use std::alloc::Global;
-use std::fs;
 use std::fs::{DirBuilder, OpenFile, OpenOptions};
-use std::io;
 use std::io::Write;
 use std::os::unix::fs::{DirBuilderExt, OpenOptionsExt};
 use std::rt::Files;
+use std::{fs, io};
 use transfer::Transferred;
 
 /// Where the answer goes: a folder that is not there yet, is empty, or is to be replaced.
@@ -70,7 +69,13 @@ fn new_folder<'a, R: Files + AllocGlobal>(rt: &R, path: &'a str) -> Result<Folde
             path,
             replaces: false,
         }),
-        Err(error) => Err(Failure::io(rt.alloc(), Ending::WriteFault, "the folder", parent(path), error)),
+        Err(error) => Err(Failure::io(
+            rt.alloc(),
+            Ending::WriteFault,
+            "the folder",
+            parent(path),
+            error,
+        )),
     }
 }
 
@@ -87,7 +92,13 @@ impl<'a> Folder<'a> {
             Ok(there) => there,
             Err(error) if error.kind() == io::ErrorKind::NotFound => return new_folder(rt, path),
             Err(error) => {
-                return Err(Failure::io(rt.alloc(), Ending::WriteFault, "the output folder", path, error));
+                return Err(Failure::io(
+                    rt.alloc(),
+                    Ending::WriteFault,
+                    "the output folder",
+                    path,
+                    error,
+                ));
             }
         };
         if there.is_symlink() {
@@ -105,12 +116,14 @@ impl<'a> Folder<'a> {
                 path,
                 replaces: true,
             }),
-            Ok(false) => Err(in_the_way(
+            Ok(false) => Err(in_the_way(rt.alloc(), path, "is there already, and is not empty")),
+            Err(error) => Err(Failure::io(
                 rt.alloc(),
+                Ending::WriteFault,
+                "the output folder",
                 path,
-                "is there already, and is not empty",
+                error,
             )),
-            Err(error) => Err(Failure::io(rt.alloc(), Ending::WriteFault, "the output folder", path, error)),
         }
     }
 
@@ -127,7 +140,13 @@ impl<'a> Folder<'a> {
         let part = format!(in rt.alloc(); "{path}.part-{process}")?;
         let old = format!(in rt.alloc(); "{path}.old-{process}")?;
         if let Err(error) = DirBuilder::new().mode(0o700).create(rt, &part) {
-            return Err(Failure::io(rt.alloc(), Ending::WriteFault, "the folder", part.as_str(), error));
+            return Err(Failure::io(
+                rt.alloc(),
+                Ending::WriteFault,
+                "the folder",
+                part.as_str(),
+                error,
+            ));
         }
         let written = match fill(rt, part.as_str(), format, transferred) {
             Ok(()) if self.replaces => replace(rt, part.as_str(), path, old.as_str()),
@@ -141,7 +160,13 @@ impl<'a> Folder<'a> {
                 match fs::remove_dir_all(rt, &part) {
                     Ok(()) | Err(_) => {}
                 }
-                Err(Failure::io(rt.alloc(), Ending::WriteFault, "the output folder", path, error))
+                Err(Failure::io(
+                    rt.alloc(),
+                    Ending::WriteFault,
+                    "the output folder",
+                    path,
+                    error,
+                ))
             }
         }
     }

@@ -81,13 +81,8 @@ fn contents_of(alloc: Global, store: &[u8]) -> Result<Items<ContentInfo>, Failur
     }
 }
 
-
 /// The plain octets of a content under the password; None where it does not open.
-fn plain_of(
-    alloc: Global,
-    content: &ContentInfo,
-    units: &[u8],
-) -> Result<Option<Octets>, Failure>
+fn plain_of(alloc: Global, content: &ContentInfo, units: &[u8]) -> Result<Option<Octets>, Failure>
     requires { length units.now < 2 ^ 59 }
 {
     match content {
@@ -195,7 +190,10 @@ fn named(alloc: Global, identifier: ObjectIdentifier) -> Result<String, AllocErr
 }
 
 /// An algorithm under which nothing is opened; None for Triple DES.
-fn not_opened(alloc: Global, algorithm: &AlgorithmIdentifier) -> Result<Option<String>, AllocError> {
+fn not_opened(
+    alloc: Global,
+    algorithm: &AlgorithmIdentifier,
+) -> Result<Option<String>, AllocError> {
     match algorithm {
         AlgorithmIdentifier::PbeWithSHAAnd3KeyTripleDESCBC(_) => Ok(None),
         AlgorithmIdentifier::PbewithSHAAnd40BitRC2CBC(_) => {
@@ -212,9 +210,7 @@ fn key_not_opened(alloc: Global, bags: &[SafeBag]) -> Result<Option<String>, Fai
     for bag in bags {
         if let SafeBagKind::Pkcs8ShroudedKeyBag(key) = &bag.bag {
             if let Some(algorithm) = not_opened(alloc, &key.encryption_algorithm)? {
-                return Ok(Some(
-                    format!(in alloc; "a private key is encrypted by {algorithm}")?,
-                ));
+                return Ok(Some(format!(in alloc; "a private key is encrypted by {algorithm}")?));
             }
         }
     }
@@ -228,7 +224,7 @@ fn content_not_opened(alloc: Global, content: &ContentInfo) -> Result<Option<Str
         ContentInfo::EncryptedData(data) => {
             let algorithm = &data.encrypted_content_info.content_encryption_algorithm;
             match not_opened(alloc, algorithm)? {
-                Some(name) => Ok(Some(format!(in alloc; "certificates are encrypted by {name}")?)),
+                Some(name) => Ok(Some(format!(in alloc; "a content is encrypted by {name}")?)),
                 None => Ok(None),
             }
         }
@@ -294,7 +290,11 @@ fn part_not_opened(
 
 /// What of the store is unsupported, where `transfer` said so: the kind of the outer content, the first content that is not
 /// opened, or the first key.
-pub fn unsupported(alloc: Global, store: &[u8], password: &Password) -> Result<Option<String>, Failure> {
+pub fn unsupported(
+    alloc: Global,
+    store: &[u8],
+    password: &Password,
+) -> Result<Option<String>, Failure> {
     let outer = PFX::parse(alloc, store)?;
     if let Some(text) = outer_not_opened(alloc, &outer.auth_safe)? {
         return Ok(Some(text));

@@ -70,7 +70,11 @@ fn step_over(octets: &[u8]) -> Step<'_> {
         return Step::End;
     }
     if length == 0x80 {
-        return if constructed { Step::Found(Form::IndefiniteLength) } else { Step::End };
+        return if constructed {
+            Step::Found(Form::IndefiniteLength)
+        } else {
+            Step::End
+        };
     }
     if constructed && is_string(tag) {
         return Step::Found(Form::StringInParts);
@@ -90,7 +94,10 @@ fn step_over(octets: &[u8]) -> Step<'_> {
 
 /// Whether the tag is that of a string type of the universal class, in parts.
 fn is_string(tag: u8) -> bool {
-    matches!(tag, 0x23 | 0x24 | 0x2c | 0x33 | 0x34 | 0x36 | 0x3a | 0x3c | 0x3e)
+    matches!(
+        tag,
+        0x23 | 0x24 | 0x2c | 0x33 | 0x34 | 0x36 | 0x3a | 0x3c | 0x3e
+    )
 }
 
 /// Whether fewer than `count` octets would do for the length.

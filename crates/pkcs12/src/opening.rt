@@ -74,20 +74,29 @@ fn transfer_from<D: Draw, L: Ledger>(
     )
 }
 
-/// The transfer over the system's random octets.
-fn open_store<R: Files + AllocGlobal>(rt: &R, order: &Order<'_>) -> Result<Transferred, Failure>
+/// Opens a store, and seals its keys under the new password, over the system's random octets.
+pub fn open_store<R: Files + AllocGlobal>(rt: &R, order: &Order<'_>) -> Result<Transferred, Failure>
     requires rounds { (1 ≤ order.now.rounds) × (order.now.rounds ≤ 100000000) }
 {
     let random = match fs::open(rt, RANDOM) {
         Ok(random) => random,
         Err(error) => {
-            return Err(Failure::io(rt.alloc(), Ending::ReadFault, "random octets", RANDOM, error));
+            return Err(Failure::io(
+                rt.alloc(),
+                Ending::ReadFault,
+                "random octets",
+                RANDOM,
+                error,
+            ));
         }
     };
     let mut draw = ReadDraw::new(random);
     match transfer_from::<_, Brand>(rt.alloc(), order, &mut draw, Blank::new(1)) {
         Ok(transferred) => Ok(transferred),
-        Err(TransferError::Memory) => Err(Failure::new(Ending::Memory, "there was not enough memory")),
+        Err(TransferError::Memory) => Err(Failure::new(
+            Ending::Memory,
+            "there was not enough memory",
+        )),
         Err(refusal) => Err(Failure::new(Ending::Refused(refusal), meaning_of(refusal))),
     }
 }
@@ -142,26 +151,23 @@ pub fn export_certificates<R: Files + AllocGlobal>(
     })
 }
 
-/// Opens a store and seals its keys under the new password.
-pub fn export_all<R: Files + AllocGlobal>(rt: &R, order: &Order<'_>) -> Result<Transferred, Failure>
-    requires rounds { (1 ≤ order.now.rounds) × (order.now.rounds ≤ 100000000) }
-{
-    open_store(rt, order)
-}
-
 /// What a refusal means.
 fn meaning_of(refusal: TransferError) -> &'static str {
     match refusal {
         TransferError::TooLong => "the store has more than 16,777,215 octets",
         TransferError::Malformed => "the file is not a PKCS#12 store in DER",
-        TransferError::Unsupported => "something in the store is encrypted by an algorithm that is not opened",
-        TransferError::MacMissing => "the store has no MAC, so nobody can tell whether it was changed",
+        TransferError::Unsupported =>
+            "something in the store is encrypted by an algorithm that is not opened",
+        TransferError::MacMissing =>
+            "the store has no MAC, so nobody can tell whether it was changed",
         TransferError::MacUnsupported => "the MAC of the store is not made with SHA-1",
-        TransferError::ZeroIterations => "the store asks for zero iterations, which no honest program writes",
+        TransferError::ZeroIterations =>
+            "the store asks for zero iterations, which no honest program writes",
         TransferError::WorkLimit => "opening the store takes more work than --limit allows",
         TransferError::MacMismatch => "the password is wrong, or the store was changed",
         TransferError::ContentMalformed => "the MAC agrees, but the contents are damaged",
-        TransferError::DecryptFailed => "a part of the store does not open under the password of its MAC",
+        TransferError::DecryptFailed =>
+            "a part of the store does not open under the password of its MAC",
         TransferError::KeyMalformed => "a private key of the store opens, but is not a PKCS#8 key",
         TransferError::Rng => "no random octets could be had for a sealed key",
         TransferError::Memory => "there was not enough memory",

@@ -5,11 +5,10 @@ ghost use Rattle.pkcs12.specs.Origin.{line_of, without_return};
 use crate::ending::{Ending, Failure};
 use crate::password::{LONGEST, Password};
 use std::alloc::{AllocError, Global};
-use std::env;
 use std::env::VarError;
-use std::fs;
 use std::io::Read;
 use std::rt::{Env, Files};
+use std::{env, fs};
 
 /// The most octets that are read: the longest password, CR LF, and one more, which tells that the line is longer.
 const ENOUGH: u64 = 1027;
@@ -66,7 +65,9 @@ fn password_of(alloc: Global, octets: &[u8], purpose: &'static str) -> Result<Pa
 fn not_utf8(alloc: Global, purpose: &'static str) -> Result<Failure, AllocError> {
     Ok(Failure::with(
         Ending::PasswordUnusable,
-        format!(in alloc; "the {purpose} is not UTF-8; is it in another encoding, such as Latin-1 or UTF-16?")?,
+        format!(in alloc;
+            "the {purpose} is not UTF-8; is it in another encoding, such as Latin-1 or UTF-16?"
+        )?,
     ))
 }
 
@@ -84,7 +85,11 @@ fn read_line<R: Read + Drop>(
     }
 }
 
-fn variable<R: Env + AllocGlobal>(rt: &R, purpose: &'static str, name: &str) -> Result<Password, Failure> {
+fn variable<R: Env + AllocGlobal>(
+    rt: &R,
+    purpose: &'static str,
+    name: &str,
+) -> Result<Password, Failure> {
     match env::var(rt, name) {
         Ok(text) => Password::new(text),
         Err(VarError::NotUnicode) => Err(not_utf8(rt.alloc(), purpose)?),

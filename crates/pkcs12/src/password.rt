@@ -57,10 +57,7 @@ pub fn as_new_password(password: Password, allow_empty: bool) -> Result<Password
     ensures err { IfErr result (λ e. (e.ending ≡ Ending.PasswordUnusable) × (length password ≡ 0)) }
 {
     if password.as_str().is_empty() && !allow_empty {
-        return Err(Failure::new(
-            Ending::PasswordUnusable,
-            "the new password is empty",
-        ));
+        return Err(Failure::new(Ending::PasswordUnusable, "the new password is empty"));
     }
     Ok(password)
 }

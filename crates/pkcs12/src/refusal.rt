@@ -1,4 +1,6 @@
 //! What exactly was wrong with a store that is refused.
+ghost use Rattle.std.specs.Prelude.{◌≡◌};
+
 use crate::ending::{Ending, Failure, Message};
 use crate::inspection::{mac_digest, outer_text, unsupported};
 use crate::not_der::not_der;
@@ -21,9 +23,9 @@ fn malformed(alloc: Global, octets: &[u8]) -> Result<Option<String>, Failure> {
         return Ok(Some(format!(in alloc; "the file is PEM text, and not a store")?));
     }
     if octets.starts_with(&JKS) {
-        return Ok(Some(
-            format!(in alloc; "the file is a JKS store of Java; keytool -importkeystore makes a PKCS#12 store of it")?,
-        ));
+        return Ok(Some(format!(in alloc;
+            "the file is a JKS store of Java; keytool -importkeystore makes a PKCS#12 store of it"
+        )?));
     }
     if octets.first() != Some(&SEQUENCE) {
         return Ok(None);
@@ -32,9 +34,9 @@ fn malformed(alloc: Global, octets: &[u8]) -> Result<Option<String>, Failure> {
         Some(sign) => {
             let form = sign.form;
             let at = sign.at;
-            Ok(Some(
-                format!(in alloc; "the store is in BER, and only DER is read: {form} begins at octet {at}")?,
-            ))
+            Ok(Some(format!(in alloc;
+                "the store is in BER, and only DER is read: {form} begins at octet {at}"
+            )?))
         }
         None => Ok(None),
     }
@@ -55,9 +57,9 @@ fn detail(
         }
         TransferError::Unsupported => unsupported(alloc, store, password),
         TransferError::MacUnsupported => match mac_digest(alloc, store)? {
-            Some(digest) => Ok(Some(
-                format!(in alloc; "the MAC of the store is made with {digest}, and only SHA-1 is tested")?,
-            )),
+            Some(digest) => Ok(Some(format!(in alloc;
+                "the MAC of the store is made with {digest}, and only SHA-1 is tested"
+            )?)),
             None => Ok(None),
         },
         _ => Ok(None),
@@ -65,7 +67,9 @@ fn detail(
 }
 
 /// The failure with what more there is to say of it. Its kind stays.
-pub fn with_detail(alloc: Global, failure: Failure, store: &[u8], password: &Password) -> Failure {
+pub fn with_detail(alloc: Global, failure: Failure, store: &[u8], password: &Password) -> Failure
+    ensures { result.ending ≡ failure.ending }
+{
     let Ending::Refused(refusal) = failure.ending else {
         return failure;
     };

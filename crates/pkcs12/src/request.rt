@@ -64,7 +64,9 @@ pub fn rounds_of(alloc: Global, text: &str) -> Result<u32, Failure>
         Ok(rounds) if rounds >= 1 && rounds <= MOST_ROUNDS => Ok(rounds),
         _ => Err(Failure::with(
             Ending::Usage,
-            format!(in alloc; "--rounds takes a whole number from 1 to 100000000, and not {text:?}")?,
+            format!(in alloc;
+                "--rounds takes a whole number from 1 to 100000000, and not {text:?}"
+            )?,
         )),
     }
 }
@@ -74,7 +76,9 @@ fn limit_of(alloc: Global, text: &str) -> Result<u64, Failure> {
         Ok(limit) => Ok(limit),
         Err(_) => Err(Failure::with(
             Ending::Usage,
-            format!(in alloc; "--limit takes a whole number from 0 to 18446744073709551615, and not {text:?}")?,
+            format!(in alloc;
+                "--limit takes a whole number from 0 to 18446744073709551615, and not {text:?}"
+            )?,
         )),
     }
 }

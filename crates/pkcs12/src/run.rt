@@ -4,7 +4,7 @@ use crate::command_line::command;
 use crate::ending::{Ending, Failure};
 use crate::folder::Folder;
 use crate::inspection::{passed_over, visible_work};
-use crate::opening::{Order, check_store, export_all, export_certificates, read_store};
+use crate::opening::{Order, check_store, export_certificates, open_store, read_store};
 use crate::origin::{Origin, read_password};
 use crate::password::{Password, as_new_password};
 use crate::refusal::with_detail;
@@ -12,9 +12,8 @@ use crate::request::{Check, Export, Request, request_of};
 use crate::summary::{Counts, summary};
 use clap::error::ErrorKind;
 use std::alloc::{AllocError, Global};
-use std::env;
-use std::io;
 use std::rt::Runtime;
+use std::{env, io};
 use transfer::{TransferError, Transferred};
 
 /// Where this variable is set, the wrapper asks for a password that is missing, so the program itself keeps silent.
@@ -63,14 +62,21 @@ fn refused_unasked<R: Runtime + AllocGlobal>(rt: &R, store: &[u8], limit: u64) -
 }
 
 /// Says at a terminal that the work takes a while.
-fn tell_long_work<R: Runtime + AllocGlobal>(rt: &R, around: Surroundings, store: &[u8], rounds: u32) {
+fn tell_long_work<R: Runtime + AllocGlobal>(
+    rt: &R,
+    around: Surroundings,
+    store: &[u8],
+    rounds: u32,
+) {
     let work = match visible_work(rt.alloc(), store) {
         Ok(work) => work,
         Err(_) => 0,
     };
     if around.at_terminal && (work > LONG_WORK || rounds > LONG_ROUNDS) {
         // A terminal that cannot be written to is no failure of the work.
-        match eprintln!(rt; "pkcs12: working: {work} digests to open the store, {rounds} rounds for each key ..") {
+        match eprintln!(rt;
+            "pkcs12: working: {work} digests to open the store, {rounds} rounds for each key .."
+        ) {
             Ok(()) | Err(_) => {}
         }
     }
@@ -171,7 +177,7 @@ fn sealed<R: Runtime + AllocGlobal>(
         rounds: asked.rounds,
         limit: asked.limit,
     };
-    export_all(rt, &order)
+    open_store(rt, &order)
 }
 
 /// What is written of a store, where there may be a new password.
@@ -237,7 +243,13 @@ fn shown<R: Runtime + AllocGlobal>(rt: &R, error: clap::Error) -> Result<(), Fai
         ErrorKind::OutOfMemory => Err(Failure::from(AllocError)),
         ErrorKind::DisplayHelp | ErrorKind::DisplayVersion => match error.print(rt) {
             Ok(()) => Ok(()),
-            Err(error) => Err(Failure::io(rt.alloc(), Ending::WriteFault, "the", "standard output", error)),
+            Err(error) => Err(Failure::io(
+                rt.alloc(),
+                Ending::WriteFault,
+                "the",
+                "standard output",
+                error,
+            )),
         },
         _ => {
             let text = format!(in rt.alloc(); "{error}")?;

@@ -1,4 +1,4 @@
-use Rattle.std.proofs.Common.{rules, ◌≡◌, ◌++◌}
+use Rattle.std.proofs.Common.{rules, ◌≡◌}
 use Rattle.base64.specs.Engines.{standard}
 use Rattle.base64.specs.GeneralPurpose.{IsBytes, encode_of}
 use Rattle.pem_text.specs.Pem.{in_lines, pem}
@@ -12,5 +12,5 @@ returns-clause-read_back c =
     record {
       lines = in_lines (encode_of standard c.args.octets.now);
       parts = text;
-      decodes = lines_decode c.args.octets.now bytes
+      decodes = lines_decode c.args.octets.now bytes;
     }
