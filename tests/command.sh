@@ -101,7 +101,10 @@ through_pipes() {
 }
 holds passwords_and_stores_through_pipes through_pipes
 holds input_gives_one_thing fails 2 Usage "only one of" check - --password-stdin
-holds new_password_for_a_pipe fails 9 NewPasswordMissing "read once" export - --out "$work/none" --password-file "$plain_password"
+certificates_from_a_pipe() {
+    cat "$plain" | ends 0 export - --out "$work/piped" --password-file "$plain_password" && [ -s "$work/piped/cert-1.pem" ]
+}
+holds certificates_from_a_pipe certificates_from_a_pipe
 holds two_passwords fails 2 Usage "cannot be used" check "$plain" --password-stdin --password-file "$plain_password"
 holds no_such_variable fails 3 ReadFault NO_SUCH check "$plain" --password-env NO_SUCH
 

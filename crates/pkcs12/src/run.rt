@@ -12,8 +12,8 @@ use crate::request::{Check, Export, Request, request_of};
 use crate::summary::{Counts, summary};
 use clap::error::ErrorKind;
 use std::alloc::{AllocError, Global};
-use std::rt::Runtime;
-use std::{env, io};
+use std::rt::{Env, Files, Runtime};
+use std::{env, fs, io};
 use transfer::{TransferError, Transferred};
 
 /// Where this variable is set, the wrapper asks for a password that is missing, so the program itself keeps silent.
@@ -42,8 +42,44 @@ fn password_missing() -> Failure {
 fn new_password_missing() -> Failure {
     Failure::new(
         Ending::NewPasswordMissing,
-        "a store on the standard input is read once, so the new password is needed from the beginning",
+        "the store or its password is read once alone, so the new password is needed from the beginning",
     )
+}
+
+/// Whether what stands at the path can be read once alone, as the standard input and a pipe.
+fn is_read_once<R: Files>(rt: &R, path: &str) -> bool {
+    if path == "-" {
+        return true;
+    }
+    match fs::metadata(rt, path) {
+        Ok(there) => !there.is_file() && !there.is_dir(),
+        // What cannot be looked at is told where it is read.
+        Err(_) => false,
+    }
+}
+
+/// Whether the password can be read once alone.
+fn is_password_read_once<R: Files>(rt: &R, origin: Origin<'_>) -> bool {
+    match origin {
+        Origin::File(path) => is_read_once(rt, path),
+        Origin::Variable(_) => false,
+        Origin::Standard => true,
+    }
+}
+
+/// Whether the wrapper is there, which asks for a password that is missing and then runs the program again.
+fn is_asking<R: Env + AllocGlobal>(rt: &R) -> bool {
+    env::var(rt, ASKING).is_ok()
+}
+
+/// Whether to say at once that the new password is missing: later, a second run could not read again what this one read.
+fn needs_new_password<R: Files + Env + AllocGlobal>(rt: &R, asked: &Export<'_>) -> bool {
+    match asked.password {
+        Some(origin) if asked.new_password.is_none() && is_asking(rt) => {
+            is_read_once(rt, asked.store) || is_password_read_once(rt, origin)
+        }
+        _ => false,
+    }
 }
 
 /// What refuses a store that has no password yet: its own fault where that needs none, else that the password is missing.
@@ -96,7 +132,7 @@ fn read_given<R: Runtime + AllocGlobal>(
     origin: Option<Origin<'_>>,
     limit: u64,
 ) -> Result<Given, Failure> {
-    if path == "-" && origin.is_none() {
+    if origin.is_none() && is_read_once(rt, path) {
         return Err(password_missing());
     }
     let store = read_store(rt, path)?;
@@ -220,7 +256,7 @@ fn run_export<R: Runtime + AllocGlobal>(
     asked: &Export<'_>,
 ) -> Result<(), Failure> {
     let folder = Folder::find(rt, asked.out, asked.force)?;
-    if asked.store == "-" && asked.password.is_some() && asked.new_password.is_none() {
+    if needs_new_password(rt, asked) {
         return Err(new_password_missing());
     }
     let given = read_given(rt, asked.store, asked.password, asked.limit)?;
@@ -293,7 +329,7 @@ pub fn run<R: Runtime + AllocGlobal>(rt: &R, around: Surroundings) -> Result<(),
 /// Whether the wrapper asks for what is missing.
 fn is_asked_for<R: Runtime + AllocGlobal>(rt: &R, ending: Ending) -> bool {
     match ending {
-        Ending::PasswordMissing | Ending::NewPasswordMissing => env::var(rt, ASKING).is_ok(),
+        Ending::PasswordMissing | Ending::NewPasswordMissing => is_asking(rt),
         _ => false,
     }
 }
