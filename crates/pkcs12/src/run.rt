@@ -16,7 +16,8 @@ use std::rt::{Env, Files, Runtime};
 use std::{env, fs, io};
 use transfer::{TransferError, Transferred};
 
-/// Where this variable is set, the wrapper asks for a password that is missing, so the program itself keeps silent.
+/// Where this variable is set, the wrapper asks for a password that is missing and runs the program again, so the program itself
+/// keeps silent. Its value is the path under which the wrapper gives the store's password in each run.
 const ASKING: &str = "PKCS12_ASKING";
 
 /// More digests than a machine takes in about a second.
@@ -58,25 +59,23 @@ fn is_read_once<R: Files>(rt: &R, path: &str) -> bool {
     }
 }
 
-/// Whether the password can be read once alone.
-fn is_password_read_once<R: Files>(rt: &R, origin: Origin<'_>) -> bool {
+/// Whether the password can be read once alone; the one that the wrapper gives stands in `given_again`.
+fn is_password_read_once<R: Files>(rt: &R, origin: Origin<'_>, given_again: &str) -> bool {
     match origin {
-        Origin::File(path) => is_read_once(rt, path),
+        Origin::File(path) => path != given_again && is_read_once(rt, path),
         Origin::Variable(_) => false,
         Origin::Standard => true,
     }
 }
 
-/// Whether the wrapper is there, which asks for a password that is missing and then runs the program again.
-fn is_asking<R: Env + AllocGlobal>(rt: &R) -> bool {
-    env::var(rt, ASKING).is_ok()
-}
-
 /// Whether to say at once that the new password is missing: later, a second run could not read again what this one read.
 fn needs_new_password<R: Files + Env + AllocGlobal>(rt: &R, asked: &Export<'_>) -> bool {
+    let Ok(given_again) = env::var(rt, ASKING) else {
+        return false;
+    };
     match asked.password {
-        Some(origin) if asked.new_password.is_none() && is_asking(rt) => {
-            is_read_once(rt, asked.store) || is_password_read_once(rt, origin)
+        Some(origin) if asked.new_password.is_none() => {
+            is_read_once(rt, asked.store) || is_password_read_once(rt, origin, given_again.as_str())
         }
         _ => false,
     }
@@ -329,7 +328,7 @@ pub fn run<R: Runtime + AllocGlobal>(rt: &R, around: Surroundings) -> Result<(),
 /// Whether the wrapper asks for what is missing.
 fn is_asked_for<R: Runtime + AllocGlobal>(rt: &R, ending: Ending) -> bool {
     match ending {
-        Ending::PasswordMissing | Ending::NewPasswordMissing => is_asking(rt),
+        Ending::PasswordMissing | Ending::NewPasswordMissing => env::var(rt, ASKING).is_ok(),
         _ => false,
     }
 }
