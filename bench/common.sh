@@ -4,7 +4,7 @@ home=$(cd "$(dirname "$0")/.." && pwd)
 program=${PROGRAM:-$home/crates/transfer_app/out/transfer_app}
 runs=${RUNS:-5}
 [ -x "$program" ] || {
-    echo "bench: the program is not built; ./transfer builds it" >&2
+    echo "bench: the program is not built: run rt run in crates/transfer_app" >&2
     exit 1
 }
 work=$(mktemp -d)

@@ -30,7 +30,7 @@ else
     row "one plain certificate, store of 16,000,000 octets" seconds MiB
     measured "  this program, hexadecimal on its input" ours large
 fi
-measured "  basenc and tr, which ./transfer runs before this program" to_hexadecimal
+measured "  basenc and tr, which make its input" to_hexadecimal
 
 runs=50
 row "starting" seconds MiB

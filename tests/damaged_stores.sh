@@ -4,17 +4,16 @@
 set -eu
 
 home=$(cd "$(dirname "$0")/.." && pwd)
-program=${PROGRAM:-$home/crates/transfer_app/out/transfer_app}
+# shellcheck source=tests/shared/building.sh
+. "$home/tests/shared/building.sh"
+if [ -n "${PROGRAM-}" ]; then
+    program=$PROGRAM
+else
+    build transfer_app
+fi
 work=$(mktemp -d)
 trap 'rm -rf "$work"' EXIT
 failed=0
-
-# ./transfer builds the program where it is missing.
-[ -x "$program" ] || (cd "$work" && "$home/transfer" >/dev/null)
-[ -x "$program" ] || {
-    echo "damaged_stores: the program is not built" >&2
-    exit 1
-}
 
 # The exit code of a status.
 code_of() {

@@ -1,12 +1,15 @@
 #!/bin/sh
-# Runs ./transfer on every store of examples/ and compares what it writes, octet for octet, with the certificates that went in; and what
-# the documents of private keys open to, by OpenSSL, with the keys that went in.
+# Runs ./pkcs12 on every store of examples/ and compares what it writes, octet for octet, with the certificates that went in; and what
+# the documents of private keys open to, by OpenSSL, with the keys that went in. transfer_app has to write the same certificates.
 # Prints `ok NAME` or `not ok NAME` for each, and ends with 1 where one differs.
 set -eu
 
 home=$(cd "$(dirname "$0")/.." && pwd)
 examples=$home/examples
 new_password=$examples/openssl-key/new-password
+# shellcheck source=tests/shared/building.sh
+. "$home/tests/shared/building.sh"
+build transfer_app
 work=$(mktemp -d)
 trap 'rm -rf "$work"' EXIT
 failed=0
@@ -56,12 +59,23 @@ same_keys() {
     done <"$work/expected"
 }
 
+# transfer_app's lines for the store $1 under the first line of the file $2 are the certificates of the folder $3.
+same_lines() {
+    basenc --base16 --wrap=0 "$1" | "$program" transfer "$(head -n 1 "$2" | tr -d '\r')" unused 1 100000000 | grep '^cert ' >"$work/lines"
+    number=0
+    while [ -e "$3/cert-$number.der" ]; do
+        printf 'cert %s\n' "$(basenc --base16 --wrap=0 "$3/cert-$number.der" | tr A-F a-f)"
+        number=$((number + 1))
+    done | cmp - "$work/lines" >&2
+}
+
 # Opens the store $2 with the password file $3, and compares with the certificates and the private keys of the folder $4.
 opens() {
     out=$work/$1
     good=no
-    if "$home/transfer" --password-file "$3" --new-password-file "$new_password" --rounds 2048 "$2" "$out" >"$work/written" 2>"$work/told"; then
-        if same_certificates "$4" "$out" && openssl_reads "$out" && same_keys "$4" "$out"; then
+    if "$home/pkcs12" export "$2" --out "$out" --format der --password-file "$3" --new-password-file "$new_password" --rounds 2048 \
+        >"$work/written" 2>"$work/told"; then
+        if same_certificates "$4" "$out" && openssl_reads "$out" && same_keys "$4" "$out" && same_lines "$2" "$3" "$4"; then
             good=yes
         fi
     else
@@ -75,8 +89,9 @@ refuses() {
     name=$1 store=$2 password=$3 cause=$4
     shift 4
     good=no
-    if ! "$home/transfer" --password-file "$password" "$@" "$store" "$work/$name" >"$work/written" 2>"$work/told"; then
-        if grep -q "^transfer: $cause " "$work/told" && [ ! -e "$work/$name" ]; then
+    if ! "$home/pkcs12" export "$store" --out "$work/$name" --password-file "$password" --new-password-file "$new_password" "$@" \
+        >"$work/written" 2>"$work/told"; then
+        if grep -q "^pkcs12: $cause " "$work/told" && [ ! -e "$work/$name" ]; then
             good=yes
         else
             cat "$work/told" >&2

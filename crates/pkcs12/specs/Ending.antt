@@ -1,0 +1,17 @@
+-- How the command ends where it has not done what was asked.
+use Rattle.std.specs.Prelude.{ℕ}
+use Rattle.pkcs12.specs.declared.ending.Ending.{Ending}
+use Rattle.pkcs12.specs.declared.ending.Ending.TheVariants.{Usage, ReadFault, WriteFault, Memory, PasswordMissing, NewPasswordMissing, PasswordUnusable, OutputExists, Refused}
+use Rattle.transfer.specs.Status.{status_code, status_of}
+
+-- the number that the program ends with: for a store that is refused it is that of the refusal's status
+unfoldable pub code_of : Ending → ℕ
+code_of Usage = 2
+code_of ReadFault = 3
+code_of WriteFault = 4
+code_of Memory = 7
+code_of PasswordMissing = 8
+code_of NewPasswordMissing = 9
+code_of PasswordUnusable = 22
+code_of OutputExists = 23
+code_of (Refused refusal) = status_code (status_of refusal)

@@ -1,0 +1,64 @@
+//! What to do after each failure.
+use crate::ending::Ending;
+use transfer::TransferError;
+
+/// How to make a store whose algorithms are opened.
+const EXPORT_ANEW: &str = "\
+Write the store anew with algorithms that are opened (OpenSSL takes one private key a store):
+    openssl pkcs12 -in STORE.p12 -out all.pem
+    openssl pkcs12 -export -in all.pem -out NEW.p12 -certpbe PBE-SHA1-3DES -keypbe PBE-SHA1-3DES -macalg sha1
+    rm all.pem
+The first takes -legacy too where the store is under RC2, and the second -nokeys where it has no private key.";
+
+const LOOK: &str = "\
+Look whether it is the right file; PEM has to be decoded first. What it is:
+    openssl asn1parse -inform DER -in STORE.p12 | head";
+
+const PASSWORD: &str = "\
+Give it by one of these, or run ./pkcs12 at a terminal, which asks for it:
+    --password-file FILE    --password-env NAME    --password-stdin";
+
+const NEW_PASSWORD: &str = "\
+Give it by one of these, or run ./pkcs12 at a terminal, which asks for it:
+    --new-password-file FILE    --new-password-env NAME    --new-password-stdin";
+
+/// The next command to type, or what to look at.
+pub fn advice(ending: Ending) -> &'static str {
+    match ending {
+        Ending::Usage => "See pkcs12 --help, pkcs12 export --help and pkcs12 check --help.",
+        Ending::ReadFault => "Look whether the file is there and can be read:\n    ls -l FILE",
+        Ending::WriteFault =>
+            "Nothing was left behind. Look at the folder above it, and whether its disk is full:\n    df -h .",
+        Ending::Memory =>
+            "Nothing was left behind. Close other programs, or use a machine with more memory.",
+        Ending::PasswordMissing => PASSWORD,
+        Ending::NewPasswordMissing => NEW_PASSWORD,
+        Ending::PasswordUnusable =>
+            "A password is 1 to 1,024 octets of UTF-8; a new one may be empty with --allow-empty-password. To convert:\n    iconv -f LATIN1 -t UTF-8 FILE >NEWFILE",
+        Ending::OutputExists =>
+            "Give the name of a new folder, or --force to replace a folder with all that is in it.",
+        Ending::Refused(refusal) => advice_on_store(refusal),
+    }
+}
+
+fn advice_on_store(refusal: TransferError) -> &'static str {
+    match refusal {
+        TransferError::Malformed => LOOK,
+        TransferError::Unsupported
+        | TransferError::MacMissing
+        | TransferError::MacUnsupported
+        | TransferError::ContentMalformed
+        | TransferError::DecryptFailed
+        | TransferError::KeyMalformed => EXPORT_ANEW,
+        TransferError::ZeroIterations =>
+            "Do not trust the store; have it exported again where it came from.",
+        TransferError::WorkLimit =>
+            "If you trust the store, give a larger limit:\n    --limit 1000000000",
+        TransferError::MacMismatch =>
+            "Try the password again. Whether it is the password:\n    openssl pkcs12 -in STORE.p12 -noout",
+        TransferError::Rng => "Look whether /dev/urandom can be read:\n    ls -l /dev/urandom",
+        TransferError::TooLong =>
+            "Look whether it is the right file, or export the store in smaller parts.",
+        TransferError::Memory => "Close other programs, or use a machine with more memory.",
+    }
+}

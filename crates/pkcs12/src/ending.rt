@@ -1,0 +1,162 @@
+//! Why the command ends without having done what was asked.
+ghost use Rattle.std.specs.Prelude.{◌≡◌};
+ghost use Rattle.pkcs12.specs.Ending.{code_of};
+
+use std::alloc::{AllocError, AllocFailed, Global};
+use std::{fmt, io};
+use transfer::{Status, TransferError};
+
+/// The kinds of failure. The text of `--help` has them in a table, with their numbers.
+#[derive(Clone, Copy, Debug, PartialEq, Eq)]
+pub enum Ending {
+    /// The arguments are not those of a subcommand, or one of them is outside its bounds.
+    Usage,
+    /// The store, a password or `/dev/urandom` could not be read.
+    ReadFault,
+    /// The answer could not be written.
+    WriteFault,
+    /// There was not enough memory.
+    Memory,
+    /// The store's password was not given.
+    PasswordMissing,
+    /// The store has private keys, and no new password was given.
+    NewPasswordMissing,
+    /// A password is not UTF-8, has more than 1,024 octets, or is an empty new one.
+    PasswordUnusable,
+    /// The output folder is there, and is not an empty folder.
+    OutputExists,
+    /// The store is refused.
+    Refused(TransferError),
+}
+
+impl Ending {
+    /// The number that the program ends with.
+    #[tactic(auto, unfolding(crate::specs::Ending::code_of))]
+    pub fn code(self) -> u8
+        ensures { result ≡ code_of self }
+    {
+        match self {
+            Ending::Usage => Status::Usage.code(),
+            Ending::ReadFault => Status::ReadFault.code(),
+            Ending::WriteFault => Status::WriteFault.code(),
+            Ending::Memory => Status::Memory.code(),
+            Ending::PasswordMissing => 8,
+            Ending::NewPasswordMissing => 9,
+            Ending::PasswordUnusable => 22,
+            Ending::OutputExists => 23,
+            Ending::Refused(refusal) => Status::from(refusal).code(),
+        }
+    }
+}
+
+impl fmt::Display for Ending {
+    fn fmt<W: fmt::Write>(&self, f: &mut fmt::Formatter<W>) -> fmt::Result {
+        match self {
+            Ending::Usage => f.write_str("Usage"),
+            Ending::ReadFault => f.write_str("ReadFault"),
+            Ending::WriteFault => f.write_str("WriteFault"),
+            Ending::Memory => f.write_str("Memory"),
+            Ending::PasswordMissing => f.write_str("PasswordMissing"),
+            Ending::NewPasswordMissing => f.write_str("NewPasswordMissing"),
+            Ending::PasswordUnusable => f.write_str("PasswordUnusable"),
+            Ending::OutputExists => f.write_str("OutputExists"),
+            Ending::Refused(refusal) => write!(f, "{refusal}"),
+        }
+    }
+}
+
+/// Text for the user.
+#[derive(Debug, Drop)]
+pub enum Message {
+    Fixed(&'static str),
+    Made(String),
+}
+
+impl Message {
+    pub fn as_str(&self) -> &str {
+        match self {
+            Message::Fixed(text) => text,
+            Message::Made(text) => text.as_str(),
+        }
+    }
+}
+
+/// A failure: its kind, and what exactly was wrong.
+#[derive(Debug, Drop)]
+pub struct Failure {
+    pub ending: Ending,
+    pub message: Message,
+}
+
+impl Failure {
+    pub fn new(ending: Ending, text: &'static str) -> Failure
+        ensures { result.ending ≡ ending }
+    {
+        Failure {
+            ending,
+            message: Message::Fixed(text),
+        }
+    }
+
+    pub fn with(ending: Ending, text: String) -> Failure
+        ensures { result.ending ≡ ending }
+    {
+        Failure {
+            ending,
+            message: Message::Made(text),
+        }
+    }
+
+    /// The failure of a call on the system, for this purpose and at this path.
+    pub fn io(
+        alloc: Global,
+        ending: Ending,
+        purpose: &str,
+        path: &str,
+        error: io::Error,
+    ) -> Failure {
+        if error.kind() == io::ErrorKind::OutOfMemory {
+            return Failure::from(AllocError);
+        }
+        match format!(in alloc; "{purpose} {path}: {error}") {
+            Ok(text) => Failure::with(ending, text),
+            Err(_) => Failure::from(AllocError),
+        }
+    }
+}
+
+impl From<AllocError> for Failure {
+    fn from(_refused: AllocError) -> Failure {
+        Failure::new(Ending::Memory, "there was not enough memory")
+    }
+}
+
+impl<T: Drop> From<AllocFailed<T>> for Failure {
+    fn from(_refused: AllocFailed<T>) -> Failure {
+        Failure::from(AllocError)
+    }
+}
+
+impl From<asn1_core::Error> for Failure {
+    fn from(error: asn1_core::Error) -> Failure {
+        match error {
+            asn1_core::Error::Memory => Failure::from(AllocError),
+            _ => Failure::new(
+                Ending::Refused(TransferError::Malformed),
+                "the store is damaged",
+            ),
+        }
+    }
+}
+
+impl From<p12::Error> for Failure {
+    fn from(error: p12::Error) -> Failure {
+        match error {
+            p12::Error::Memory => Failure::from(AllocError),
+            _ => Failure::new(
+                Ending::Refused(TransferError::Malformed),
+                "the store is damaged",
+            ),
+        }
+    }
+}

@@ -1,0 +1,333 @@
+//! What stands in a store beside what is transferred: bags that are passed over, and algorithms that are not opened.
+ghost use Rattle.std.specs.Prelude.{◌≡◌, ◌<◌, ◌^◌, length};
+
+use crate::ending::{Ending, Failure};
+use crate::password::Password;
+use asn1_core::{Items, ObjectIdentifier, Octets};
+use p12::{AlgorithmIdentifier, CertBag, ContentInfo, PFX, SafeBag, SafeBagKind, bmp_string};
+use std::alloc::{AllocError, Global};
+use std::fmt;
+use transfer::TransferError;
+
+/// The most octets of a store that is transferred, and so of each of its parts.
+const STORE_LIMIT: usize = 16_777_215;
+
+/// The arcs that the kinds of bags have in common (RFC 7292 appendix D: 1.2.840.113549.1.12.10.1), in octets.
+const BAG_TYPES: [u8; 10] = [0x2a, 0x86, 0x48, 0x86, 0xf7, 0x0d, 0x01, 0x0c, 0x0a, 0x01];
+
+/// A bag that is not transferred.
+#[derive(Clone, Copy, Debug, PartialEq, Eq)]
+pub enum PassedOver {
+    /// keyBag: a private key that is not encrypted.
+    PlainKey,
+    /// crlBag
+    Crl,
+    /// secretBag
+    Secret,
+    /// safeContentsBag
+    Nested,
+    SdsiCertificate,
+    /// A bag of a kind that RFC 7292 does not name.
+    Other(ObjectIdentifier),
+}
+
+impl PassedOver {
+    /// The kind of a bag by its identifier.
+    fn of_identifier(identifier: ObjectIdentifier) -> PassedOver {
+        let [front @ .., kind] = identifier.as_bytes() else {
+            return PassedOver::Other(identifier);
+        };
+        if front != BAG_TYPES.as_slice() {
+            return PassedOver::Other(identifier);
+        }
+        match *kind {
+            1 => PassedOver::PlainKey,
+            4 => PassedOver::Crl,
+            5 => PassedOver::Secret,
+            6 => PassedOver::Nested,
+            _ => PassedOver::Other(identifier),
+        }
+    }
+
+    /// None for an X.509 certificate and an encrypted private key.
+    fn of(bag: &SafeBagKind) -> Option<PassedOver> {
+        match bag {
+            SafeBagKind::CertBag(CertBag::X509(_)) | SafeBagKind::Pkcs8ShroudedKeyBag(_) => None,
+            SafeBagKind::CertBag(CertBag::SDSI(_)) => Some(PassedOver::SdsiCertificate),
+            SafeBagKind::OtherBagKind(other) => Some(PassedOver::of_identifier(other.bag_id)),
+        }
+    }
+}
+
+impl fmt::Display for PassedOver {
+    fn fmt<W: fmt::Write>(&self, f: &mut fmt::Formatter<W>) -> fmt::Result {
+        match self {
+            PassedOver::PlainKey => f.write_str("a private key that is not encrypted (keyBag)"),
+            PassedOver::Crl => f.write_str("a certificate revocation list (crlBag)"),
+            PassedOver::Secret => f.write_str("a secret (secretBag)"),
+            PassedOver::Nested => f.write_str("bags inside a bag (safeContentsBag)"),
+            PassedOver::SdsiCertificate => f.write_str("an SDSI certificate (certBag)"),
+            PassedOver::Other(identifier) => write!(f, "a bag of the kind {identifier}"),
+        }
+    }
+}
+
+/// The contents of a store; none where the outer content is encrypted or of another kind.
+fn contents_of(alloc: Global, store: &[u8]) -> Result<Items<ContentInfo>, Failure> {
+    let store = PFX::parse(alloc, store)?;
+    match &store.auth_safe {
+        ContentInfo::Data(text) => Ok(ContentInfo::parse_all(alloc, text.as_slice())?),
+        ContentInfo::EncryptedData(_) | ContentInfo::OtherContext(_) => Ok(Items::new(alloc)),
+    }
+}
+
+/// The plain octets of a content under the password; None where it does not open.
+fn plain_of(alloc: Global, content: &ContentInfo, units: &[u8]) -> Result<Option<Octets>, Failure>
+    requires { length units.now < 2 ^ 59 }
+{
+    match content {
+        ContentInfo::Data(plain) => Ok(Some(plain.try_clone(alloc)?)),
+        ContentInfo::EncryptedData(data) => {
+            let info = &data.encrypted_content_info;
+            let AlgorithmIdentifier::PbeWithSHAAnd3KeyTripleDESCBC(parameters) =
+                &info.content_encryption_algorithm
+            else {
+                return Ok(None);
+            };
+            if info.encrypted_content.len() > STORE_LIMIT || parameters.salt.len() > STORE_LIMIT {
+                return Ok(None);
+            }
+            Ok(info.data(alloc, units)?)
+        }
+        ContentInfo::OtherContext(_) => Ok(None),
+    }
+}
+
+/// Adds those of the bags that are passed over.
+fn add_passed_over(bags: &[SafeBag], found: &mut Items<PassedOver>) -> Result<(), Failure> {
+    for bag in bags {
+        if let Some(kind) = PassedOver::of(&bag.bag) {
+            found.push(kind)?;
+        }
+    }
+    Ok(())
+}
+
+/// The bags of a store that are passed over, in store order. The store is one that was transferred under the password.
+pub fn passed_over(
+    alloc: Global,
+    store: &[u8],
+    password: &Password,
+) -> Result<Items<PassedOver>, Failure> {
+    let contents = contents_of(alloc, store)?;
+    let units = bmp_string(alloc, password.as_str())?;
+    let mut found = Items::new(alloc);
+    if units.len() > STORE_LIMIT {
+        return Ok(found);
+    }
+    for content in contents.as_slice() {
+        let bags = bags_of(alloc, content, units.as_slice())?;
+        add_passed_over(bags.as_slice(), &mut found)?;
+    }
+    Ok(found)
+}
+
+/// How many digests opening a content takes, where it is under Triple DES.
+fn content_work(content: &ContentInfo) -> u64 {
+    let ContentInfo::EncryptedData(data) = content else {
+        return 0;
+    };
+    match &data.encrypted_content_info.content_encryption_algorithm {
+        AlgorithmIdentifier::PbeWithSHAAnd3KeyTripleDESCBC(parameters) => {
+            parameters.iterations.saturating_mul(3)
+        }
+        _ => 0,
+    }
+}
+
+/// How many digests opening the contents takes.
+pub fn visible_work(alloc: Global, store: &[u8]) -> Result<u64, Failure> {
+    let contents = contents_of(alloc, store)?;
+    let mut work: u64 = 0;
+    for content in contents.as_slice() {
+        work = work.saturating_add(content_work(content));
+    }
+    Ok(work)
+}
+
+/// The names of algorithms and of kinds of content that stores of other programs have, by identifier.
+fn name_of(identifier: &str) -> Option<&'static str> {
+    Some(match identifier {
+        "1.2.840.113549.1.5.3" => "pbeWithMD5AndDES-CBC",
+        "1.2.840.113549.1.5.10" => "pbeWithSHA1AndDES-CBC",
+        "1.2.840.113549.1.5.13" => "PBES2",
+        "1.2.840.113549.1.5.14" => "PBMAC1",
+        "1.2.840.113549.1.7.2" => "signedData",
+        "1.2.840.113549.1.7.3" => "envelopedData",
+        "1.2.840.113549.1.7.6" => "encryptedData",
+        "1.2.840.113549.1.12.1.1" => "pbeWithSHAAnd128BitRC4",
+        "1.2.840.113549.1.12.1.2" => "pbeWithSHAAnd40BitRC4",
+        "1.2.840.113549.1.12.1.4" => "pbeWithSHAAnd2-KeyTripleDES-CBC",
+        "1.2.840.113549.1.12.1.5" => "pbeWithSHAAnd128BitRC2-CBC",
+        "1.2.840.113549.1.12.1.6" => "pbeWithSHAAnd40BitRC2-CBC",
+        "1.2.840.113549.2.5" => "MD5",
+        "1.3.14.3.2.26" => "SHA-1",
+        "2.16.840.1.101.3.4.2.1" => "SHA-256",
+        "2.16.840.1.101.3.4.2.2" => "SHA-384",
+        "2.16.840.1.101.3.4.2.3" => "SHA-512",
+        "2.16.840.1.101.3.4.2.4" => "SHA-224",
+        _ => return None,
+    })
+}
+
+/// An identifier in decimal, and its name where it is known.
+fn named(alloc: Global, identifier: ObjectIdentifier) -> Result<String, AllocError> {
+    let text = format!(in alloc; "{identifier}")?;
+    match name_of(text.as_str()) {
+        Some(name) => format!(in alloc; "{name} ({text})"),
+        None => Ok(text),
+    }
+}
+
+/// An algorithm under which nothing is opened; None for Triple DES.
+fn not_opened(
+    alloc: Global,
+    algorithm: &AlgorithmIdentifier,
+) -> Result<Option<String>, AllocError> {
+    match algorithm {
+        AlgorithmIdentifier::PbeWithSHAAnd3KeyTripleDESCBC(_) => Ok(None),
+        AlgorithmIdentifier::PbewithSHAAnd40BitRC2CBC(_) => {
+            let text = format!(in alloc; "pbeWithSHAAnd40BitRC2-CBC (1.2.840.113549.1.12.1.6)")?;
+            Ok(Some(text))
+        }
+        AlgorithmIdentifier::Sha1 => Ok(Some(format!(in alloc; "SHA-1 (1.3.14.3.2.26)")?)),
+        AlgorithmIdentifier::OtherAlg(other) => Ok(Some(named(alloc, other.algorithm_type)?)),
+    }
+}
+
+/// The first private key among the bags that is under another algorithm than Triple DES.
+fn key_not_opened(alloc: Global, bags: &[SafeBag]) -> Result<Option<String>, Failure> {
+    for bag in bags {
+        if let SafeBagKind::Pkcs8ShroudedKeyBag(key) = &bag.bag {
+            if let Some(algorithm) = not_opened(alloc, &key.encryption_algorithm)? {
+                return Ok(Some(format!(in alloc; "a private key is encrypted by {algorithm}")?));
+            }
+        }
+    }
+    Ok(None)
+}
+
+/// Why one content is not opened, by its kind or its algorithm.
+fn content_not_opened(alloc: Global, content: &ContentInfo) -> Result<Option<String>, Failure> {
+    match content {
+        ContentInfo::Data(_) => Ok(None),
+        ContentInfo::EncryptedData(data) => {
+            let algorithm = &data.encrypted_content_info.content_encryption_algorithm;
+            match not_opened(alloc, algorithm)? {
+                Some(name) => Ok(Some(format!(in alloc; "a content is encrypted by {name}")?)),
+                None => Ok(None),
+            }
+        }
+        ContentInfo::OtherContext(other) => {
+            let name = named(alloc, other.content_type)?;
+            Ok(Some(format!(in alloc; "a content is of the kind {name}")?))
+        }
+    }
+}
+
+/// The first of the contents that is not opened.
+fn contents_not_opened(alloc: Global, contents: &[ContentInfo]) -> Result<Option<String>, Failure> {
+    for content in contents {
+        if let Some(text) = content_not_opened(alloc, content)? {
+            return Ok(Some(text));
+        }
+    }
+    Ok(None)
+}
+
+/// The bags of a content under the password; none where it does not open.
+fn bags_of(alloc: Global, content: &ContentInfo, units: &[u8]) -> Result<Items<SafeBag>, Failure>
+    requires { length units.now < 2 ^ 59 }
+{
+    match plain_of(alloc, content, units)? {
+        Some(plain) => Ok(SafeBag::parse_all(alloc, plain.as_slice())?),
+        None => Ok(Items::new(alloc)),
+    }
+}
+
+/// The first of the contents' keys that is not opened.
+fn keys_not_opened(
+    alloc: Global,
+    contents: &[ContentInfo],
+    units: &[u8],
+) -> Result<Option<String>, Failure>
+    requires { length units.now < 2 ^ 59 }
+{
+    for content in contents {
+        let bags = bags_of(alloc, content, units)?;
+        if let Some(text) = key_not_opened(alloc, bags.as_slice())? {
+            return Ok(Some(text));
+        }
+    }
+    Ok(None)
+}
+
+/// What of the contents is unsupported.
+fn part_not_opened(
+    alloc: Global,
+    contents: &[ContentInfo],
+    password: &Password,
+) -> Result<Option<String>, Failure> {
+    if let Some(text) = contents_not_opened(alloc, contents)? {
+        return Ok(Some(text));
+    }
+    let units = bmp_string(alloc, password.as_str())?;
+    if units.len() > STORE_LIMIT {
+        return Ok(None);
+    }
+    keys_not_opened(alloc, contents, units.as_slice())
+}
+
+/// What of the store is unsupported, where `transfer` said so: the kind of the outer content, the first content that is not
+/// opened, or the first key.
+pub fn unsupported(
+    alloc: Global,
+    store: &[u8],
+    password: &Password,
+) -> Result<Option<String>, Failure> {
+    let outer = PFX::parse(alloc, store)?;
+    if let Some(text) = outer_not_opened(alloc, &outer.auth_safe)? {
+        return Ok(Some(text));
+    }
+    let contents = contents_of(alloc, store)?;
+    part_not_opened(alloc, contents.as_slice(), password)
+}
+
+/// Why the outer content is not opened: it has to be data, in which the contents stand.
+fn outer_not_opened(alloc: Global, outer: &ContentInfo) -> Result<Option<String>, Failure> {
+    match outer {
+        ContentInfo::Data(_) => Ok(None),
+        _ => {
+            let name = named(alloc, outer.oid())?;
+            Ok(Some(format!(in alloc; "the outer content is of the kind {name}")?))
+        }
+    }
+}
+
+/// The digest of the MAC, where it is not SHA-1.
+pub fn mac_digest(alloc: Global, store: &[u8]) -> Result<Option<String>, Failure> {
+    let store = PFX::parse(alloc, store)?;
+    match &store.mac_data {
+        Some(mac) => Ok(not_opened(alloc, &mac.mac.digest_algorithm)?),
+        None => Ok(None),
+    }
+}
+
+/// The octets of the outer content, where that is data.
+pub fn outer_text(alloc: Global, store: &[u8]) -> Result<Octets, Failure> {
+    let store = PFX::parse(alloc, store)?;
+    match &store.auth_safe {
+        ContentInfo::Data(text) => Ok(text.try_clone(alloc)?),
+        _ => Ok(Octets::new(alloc)),
+    }
+}

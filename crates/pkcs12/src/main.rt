@@ -1,0 +1,38 @@
+//! The command for people: `pkcs12 export STORE --out DIR` and `pkcs12 check STORE`.
+#![tactic(auto)]
+
+mod advice;
+mod command_line;
+mod ending;
+mod folder;
+mod inspection;
+mod not_der;
+mod opening;
+mod origin;
+mod password;
+mod refusal;
+mod request;
+mod run;
+mod summary;
+
+use run::Surroundings;
+use std::io::IsTerminal;
+use std::process;
+use std::process::ExitCode;
+
+fn main(rt: HostRuntime) -> ExitCode {
+    let around = Surroundings {
+        process: process::id(rt.process()),
+        at_terminal: rt.stderr().is_terminal(),
+    };
+    match run::run(&rt, around) {
+        Ok(()) => ExitCode::from(0),
+        Err(failure) => {
+            let code = failure.ending.code();
+            // Where even the standard error is gone, the exit number still tells.
+            match run::explain(&rt, &failure) {
+                Ok(()) | Err(_) => ExitCode::from(code),
+            }
+        }
+    }
+}

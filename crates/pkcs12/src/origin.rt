@@ -1,0 +1,118 @@
+//! Where a password comes from.
+ghost use Rattle.std.specs.Prelude.{◌≡◌, ◌<◌, ◌==◌, IfSome, length, position};
+ghost use Rattle.pkcs12.specs.Origin.{line_of, without_return};
+
+use crate::ending::{Ending, Failure};
+use crate::password::{LONGEST, Password};
+use std::alloc::{AllocError, Global};
+use std::env::VarError;
+use std::io::Read;
+use std::rt::{Env, Files};
+use std::{env, fs};
+
+/// The most octets that are read: the longest password, CR LF, and one more, which tells that the line is longer.
+const ENOUGH: u64 = 1027;
+
+/// Where a password comes from.
+#[derive(Clone, Copy)]
+pub enum Origin<'a> {
+    /// The first line of a file, which may be a pipe.
+    File(&'a str),
+    /// An environment variable.
+    Variable(&'a str),
+    /// The first line of the standard input.
+    Standard,
+}
+
+/// The place of the first line feed.
+fn line_feed(octets: &[u8]) -> Option<usize>
+    ensures found { result ≡ position (λ octet. octet == 10) octets.now }
+    ensures within { IfSome result (λ i. i < length octets.now) }
+{
+    octets.iter().position(|octet| *octet == b'\n')
+}
+
+/// A line without a carriage return at its end.
+#[tactic(auto, unfolding(crate::specs::Origin::without_return))]
+fn without_return(line: &[u8]) -> &[u8]
+    ensures { result.now ≡ without_return line.now }
+{
+    match line.strip_suffix(b"\r") {
+        Some(front) => front,
+        None => line,
+    }
+}
+
+/// The first line of these octets, without its LF or CR LF.
+#[tactic(auto, unfolding(crate::specs::Origin::line_to))]
+pub fn first_line(octets: &[u8]) -> &[u8]
+    ensures { result.now ≡ line_of octets.now }
+{
+    match line_feed(octets) {
+        Some(end) => without_return(&octets[..end]),
+        None => octets,
+    }
+}
+
+/// A password for this purpose, from the octets of a file.
+fn password_of(alloc: Global, octets: &[u8], purpose: &'static str) -> Result<Password, Failure> {
+    match std::str::from_utf8(first_line(octets)) {
+        Ok(text) => Password::new(String::from_str(alloc, text)?),
+        Err(_) => Err(not_utf8(alloc, purpose)?),
+    }
+}
+
+fn not_utf8(alloc: Global, purpose: &'static str) -> Result<Failure, AllocError> {
+    Ok(Failure::with(
+        Ending::PasswordUnusable,
+        format!(in alloc;
+            "the {purpose} is not UTF-8; is it in another encoding, such as Latin-1 or UTF-16?"
+        )?,
+    ))
+}
+
+/// The first line of what a reader gives.
+fn read_line<R: Read + Drop>(
+    alloc: Global,
+    purpose: &'static str,
+    path: &str,
+    reader: R,
+) -> Result<Password, Failure> {
+    let mut octets = Vec::new(alloc);
+    match reader.take(ENOUGH).read_to_end(&mut octets) {
+        Ok(_) => password_of(alloc, octets.as_slice(), purpose),
+        Err(error) => Err(Failure::io(alloc, Ending::ReadFault, purpose, path, error)),
+    }
+}
+
+fn variable<R: Env + AllocGlobal>(
+    rt: &R,
+    purpose: &'static str,
+    name: &str,
+) -> Result<Password, Failure> {
+    match env::var(rt, name) {
+        Ok(text) => Password::new(text),
+        Err(VarError::NotUnicode) => Err(not_utf8(rt.alloc(), purpose)?),
+        Err(VarError::OutOfMemory) => Err(Failure::from(AllocError)),
+        Err(VarError::NotPresent) => Err(Failure::with(
+            Ending::ReadFault,
+            format!(in rt.alloc(); "the {purpose}: there is no environment variable {name}")?,
+        )),
+    }
+}
+
+/// The password of an origin; `purpose` says which password it is.
+pub fn read_password<R: Files + Env + Input + AllocGlobal>(
+    rt: &R,
+    purpose: &'static str,
+    origin: Origin<'_>,
+) -> Result<Password, Failure> {
+    match origin {
+        Origin::File(path) => match fs::open(rt, path) {
+            Ok(file) => read_line(rt.alloc(), purpose, path, file),
+            Err(error) => Err(Failure::io(rt.alloc(), Ending::ReadFault, purpose, path, error)),
+        },
+        Origin::Variable(name) => variable(rt, purpose, name),
+        Origin::Standard => read_line(rt.alloc(), purpose, "standard input", rt.reader()),
+    }
+}

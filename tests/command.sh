@@ -1,0 +1,326 @@
+#!/bin/sh
+# shellcheck disable=SC2154,SC2317 # the checks are called by name, and tests/shared/checks.sh sets names
+# What ./pkcs12 writes, what it refuses and by which number, and that nothing is left half done.
+# Prints `ok NAME` or `not ok NAME` for each, `skipped NAME` with the reason for what this machine has no means for, and ends with 1
+# where one is not ok.
+set -eu
+
+home=$(cd "$(dirname "$0")/.." && pwd)
+work=$(mktemp -d)
+trap 'rm -rf "$work"' EXIT
+# shellcheck source=tests/shared/checks.sh
+. "$home/tests/shared/checks.sh"
+
+# --- what is written ---
+
+is_the_certificate() {
+    openssl x509 -in "$1" -outform DER | cmp - "$2"
+}
+pem_is_read() {
+    export_keyed "$out" && [ "$(ls "$out")" = "$(printf 'cert-0.pem\nkey-0.pem')" ] || return 1
+    have_openssl pem_is_read || return 0
+    is_the_certificate "$out/cert-0.pem" "$home/examples/openssl-key/cert-0.der" && opens_to_the_key "$out/key-0.pem" "file:$work/new"
+}
+holds pem_is_read_by_openssl pem_is_read
+
+only_for_the_owner() {
+    (umask 0 && export_keyed "$work/modes") || return 1
+    [ "$(stat -c %a "$work/modes" "$work/modes/cert-0.pem" "$work/modes/key-0.pem" | tr '\n' ' ')" = "700 600 600 " ]
+}
+holds files_are_only_for_the_owner only_for_the_owner
+
+der_is_written() {
+    ends 0 export "$plain" --out "$work/der" --format der --password-file "$plain_password" || return 1
+    cmp "$work/der/cert-0.der" "$home/examples/cert-0.der" && cmp "$work/der/cert-1.der" "$home/examples/cert-1.der" &&
+        [ "$(ls "$work/der")" = "$(printf 'cert-0.der\ncert-1.der')" ]
+}
+holds der_without_new_password der_is_written
+
+check_says() {
+    ends 0 check "$keyed" --password-file "$keyed_password" || return 1
+    [ "$(cat "$work/said")" = "$(printf 'certificates: 1\nprivate keys: 1')" ]
+}
+holds check_says_what_is_there check_says
+
+# --- passwords ---
+
+holds empty_new_password_file fails 22 PasswordUnusable empty export "$keyed" --out "$work/none" --password-file "$keyed_password" \
+    --new-password-file "$work/empty"
+new_password_at_end_of_input() {
+    fails 22 PasswordUnusable empty export "$keyed" --out "$work/none" --password-file "$keyed_password" --new-password-stdin </dev/null
+}
+holds new_password_at_end_of_input new_password_at_end_of_input
+holds nothing_is_written_then nothing_at "$work/none"
+empty_if_asked_for() {
+    ends 0 export "$keyed" --out "$work/empty-new" --password-file "$keyed_password" --new-password-file "$work/empty" \
+        --allow-empty-password --rounds 1 || return 1
+    have_openssl empty_if_asked_for || return 0
+    opens_to_the_key "$work/empty-new/key-0.pem" pass:
+}
+holds empty_new_password_if_asked_for empty_if_asked_for
+
+holds no_password_and_no_terminal fails 8 PasswordMissing "no terminal" check "$plain"
+holds no_new_password_and_no_terminal fails 9 NewPasswordMissing "private keys" export "$keyed" --out "$work/none" \
+    --password-file "$keyed_password"
+printf 'na\357ve\n' >"$work/latin1"
+holds password_not_utf8 fails 22 PasswordUnusable UTF-8 check "$plain" --password-file "$work/latin1"
+latin1_variable() {
+    OLD=$(cat "$work/latin1")
+    export OLD
+    fails 22 PasswordUnusable UTF-8 check "$plain" --password-env OLD
+}
+holds variable_not_utf8 latin1_variable
+head -c 1024 /dev/zero | tr '\0' x >"$work/longest"
+longest_password() {
+    ends 0 export "$keyed" --out "$work/longest-new" --password-file "$keyed_password" --new-password-file "$work/longest" --rounds 1 ||
+        return 1
+    have_openssl longest_password || return 0
+    # openssl's own limit for a password file is shorter
+    LONGEST=$(cat "$work/longest")
+    export LONGEST
+    openssl pkcs8 -in "$work/longest-new/key-0.pem" -passin env:LONGEST -outform DER 2>"$work/told" >"$work/key.der" &&
+        openssl pkey -inform DER -in "$work/key.der" -outform DER 2>"$work/told" >"$work/key-again.der" &&
+        openssl pkey -inform DER -in "$home/examples/openssl-key/key-0.der" -outform DER | cmp - "$work/key-again.der"
+}
+holds password_of_1024_octets longest_password
+{ cat "$work/longest" && echo x; } >"$work/longer"
+holds password_of_1025_octets fails 22 PasswordUnusable 1,024 check "$plain" --password-file "$work/longer"
+empty_store_password() {
+    have_openssl empty_store_password || return 0
+    openssl x509 -inform DER -in "$home/examples/cert-0.der" |
+        openssl pkcs12 -export -nokeys -certpbe PBE-SHA1-3DES -macalg sha1 -passout pass: -out "$work/empty.p12" 2>"$work/told" || return 1
+    ends 0 check "$work/empty.p12" --password-file "$work/empty"
+}
+holds store_with_an_empty_password empty_store_password
+through_pipes() {
+    printf '%s\r\nsecond line\n' "$(cat "$plain_password")" | ends 0 check "$plain" --password-file /dev/fd/3 3<&0 </dev/null || return 1
+    cat "$plain" | ends 0 check - --password-file "$plain_password" || return 1
+    ends 0 check "$plain" --password-stdin <"$plain_password" || return 1
+    OLD=$(cat "$plain_password") && export OLD && ends 0 check "$plain" --password-env OLD || return 1
+    mkfifo "$work/pipe" && { cat "$plain" >"$work/pipe" & } && ends 0 check "$work/pipe" --password-file "$plain_password"
+}
+holds passwords_and_stores_through_pipes through_pipes
+holds input_gives_one_thing fails 2 Usage "only one of" check - --password-stdin
+certificates_from_a_pipe() {
+    cat "$plain" | ends 0 export - --out "$work/piped" --password-file "$plain_password" && [ -s "$work/piped/cert-1.pem" ]
+}
+holds certificates_from_a_pipe certificates_from_a_pipe
+holds two_passwords fails 2 Usage "cannot be used" check "$plain" --password-stdin --password-file "$plain_password"
+holds no_such_variable fails 3 ReadFault NO_SUCH check "$plain" --password-env NO_SUCH
+
+# --- the output folder ---
+
+mkdir "$work/full" "$work/free"
+echo old >"$work/full/key-7.pem"
+ln -s full "$work/link"
+holds folder_not_empty_before_any_password fails 23 OutputExists "not empty" export "$keyed" --out "$work/full"
+holds folder_is_a_file fails 23 OutputExists "not a folder" export "$keyed" --out "$plain"
+holds folder_is_a_link fails 23 OutputExists "is a link" export "$keyed" --out "$work/link"
+holds what_was_there_stays cmp -s "$work/full/key-7.pem" - <<END
+old
+END
+holds folder_that_is_empty export_keyed "$work/free"
+replaced_whole() {
+    export_keyed "$work/full" --force && [ "$(ls "$work/full")" = "$(printf 'cert-0.pem\nkey-0.pem')" ] &&
+        [ "$(ls -d "$work/full"*)" = "$work/full" ]
+}
+holds force_replaces_the_folder_whole replaced_whole
+wrong_password_with_force() {
+    fails 16 MacMismatch password export "$keyed" --out "$work/full" --force --password-file "$work/new" --new-password-file "$work/new" &&
+        [ -s "$work/full/key-0.pem" ]
+}
+holds a_refusal_replaces_nothing wrong_password_with_force
+holds no_folder_above fails 4 WriteFault "no-such" export "$keyed" --out "$work/no-such/out" --password-file "$keyed_password" \
+    --new-password-file "$work/new"
+holds folder_without_a_name fails 2 Usage "--out" export "$keyed" --out "$work/.."
+slashes() {
+    export_keyed "$work/slashes//" && [ -s "$work/slashes/key-0.pem" ]
+}
+holds folder_with_slashes_behind slashes
+
+full_disk() {
+    mkdir "$work/disk"
+    if ! mount -t tmpfs -o size=8k tmpfs "$work/disk" 2>/dev/null; then
+        echo "skipped full_disk: no tmpfs can be mounted"
+        return 0
+    fi
+    outcome=0
+    fails 4 WriteFault "output folder" export "$home/examples/keytool/store.p12" --out "$work/disk/out" \
+        --password-file "$home/examples/keytool/password" && [ -z "$(ls -A "$work/disk")" ] || outcome=1
+    umount "$work/disk"
+    return "$outcome"
+}
+holds a_full_disk_leaves_nothing full_disk
+full_output() {
+    code=0
+    setsid -w "$home/pkcs12" check "$plain" --password-file "$plain_password" >/dev/full 2>"$work/told" || code=$?
+    [ "$code" -eq 4 ] && grep -q '^pkcs12: WriteFault (4): ' "$work/told"
+}
+holds an_output_that_is_full full_output
+
+strange_names() {
+    cp "$plain" "$work/-dash é.p12"
+    (cd "$work" && ends 0 export --password-file "$plain_password" --out='-out é x' -- '-dash é.p12') &&
+        [ -s "$work/-out é x/cert-1.pem" ]
+}
+holds names_with_spaces_dashes_and_letters strange_names
+
+# --- refusals, by their numbers ---
+
+holds no_store_of_an_empty_name fails 3 ReadFault "the store" check "" --password-file "$plain_password"
+holds empty_subcommand ends 2 ""
+holds no_arguments ends 2
+holds wrong_password fails 16 MacMismatch "password is wrong" check "$plain" --password-file "$work/new"
+holds low_limit fails 15 WorkLimit "--limit" check "$plain" --password-file "$plain_password" --limit 2047
+holds no_store fails 10 Malformed "not a PKCS#12 store" check "$home/examples/cert-0.der" --password-file "$plain_password"
+holds no_store_before_any_password fails 10 Malformed "not a PKCS#12 store" check "$home/examples/cert-0.der"
+holds rounds_have_bounds fails 2 Usage "1 to 100000000" export "$keyed" --out "$work/none" --rounds 0
+holds limit_has_bounds fails 2 Usage "0 to 18446744073709551615" check "$plain" --limit -1
+holds format_has_two_values fails 2 Usage "pem or der" export "$keyed" --out "$work/none" --format txt
+holds no_such_store fails 3 ReadFault "No such file" check "$work/no-such.p12"
+
+# Stores as OpenSSL writes them by default, under RC2, and as the recipe makes them anew.
+other_algorithms() {
+    have_openssl other_algorithms || return 0
+    openssl pkey -inform DER -in "$home/examples/openssl-key/key-0.der" -out "$work/key.pem" &&
+        openssl x509 -inform DER -in "$home/examples/openssl-key/cert-0.der" -out "$work/cert.pem" &&
+        openssl pkcs12 -export -inkey "$work/key.pem" -in "$work/cert.pem" -passout pass:p -out "$work/default.p12" &&
+        openssl pkcs12 -export -inkey "$work/key.pem" -in "$work/cert.pem" -macalg sha1 -passout pass:p -out "$work/pbes2.p12" &&
+        openssl pkcs12 -export -inkey "$work/key.pem" -in "$work/cert.pem" -certpbe PBE-SHA1-3DES -macalg sha1 -passout pass:p \
+            -out "$work/pbes2-key.p12" || return 1
+    echo p >"$work/p"
+    fails 13 MacUnsupported "SHA-256 (2.16.840.1.101.3.4.2.1)" check "$work/default.p12" --password-file "$work/p" &&
+        fails 11 Unsupported "PBES2 (1.2.840.113549.1.5.13)" check "$work/pbes2.p12" --password-file "$work/p" &&
+        fails 11 Unsupported "a private key is encrypted by PBES2" check "$work/pbes2-key.p12" --password-file "$work/p" || return 1
+    if ! openssl pkcs12 -export -legacy -inkey "$work/key.pem" -in "$work/cert.pem" -passout pass:p -out "$work/rc2.p12" 2>/dev/null; then
+        echo "skipped RC2: this openssl does not write it"
+        return 0
+    fi
+    fails 11 Unsupported "pbeWithSHAAnd40BitRC2-CBC (1.2.840.113549.1.12.1.6)" check "$work/rc2.p12" --password-file "$work/p"
+}
+holds other_algorithms_are_named other_algorithms
+
+# The commands that the refusal prints, with passwords in place of questions: what they make is opened to the same key.
+recipe() {
+    have_openssl recipe || return 0
+    fails 13 MacUnsupported SHA-256 check "$work/default.p12" --password-file "$work/p" || return 1
+    grep -E '^    (openssl|rm) ' "$work/told" | sed -e "s|STORE.p12|$work/default.p12 -passin pass:p -passout pass:middle|" \
+        -e "s|-in all.pem|-in all.pem -passin pass:middle|" -e "s|NEW.p12|$work/anew.p12 -passout pass:q|" >"$work/recipe.sh"
+    [ "$(wc -l <"$work/recipe.sh")" -eq 3 ] && (cd "$work" && sh -e recipe.sh) || return 1
+    echo q >"$work/q"
+    ends 0 export "$work/anew.p12" --out "$work/anew" --password-file "$work/q" --new-password-file "$work/new" --rounds 1 &&
+        opens_to_the_key "$work/anew/key-0.pem" "file:$work/new" && [ ! -e "$work/all.pem" ]
+}
+holds the_recipe_makes_a_store_that_is_opened recipe
+
+# README's command of Java, with passwords in place of questions, for a store of two keys.
+recipe_of_java() {
+    command -v keytool >/dev/null || {
+        echo "skipped recipe_of_java: there is no keytool"
+        return 0
+    }
+    echo password >"$work/java-password"
+    for name in one two; do
+        keytool -genkeypair -alias "$name" -keyalg EC -dname "CN=$name" -keystore "$work/java.p12" -storetype PKCS12 \
+            -storepass password -keypass password >"$work/told" 2>&1 || return 1
+    done
+    fails 13 MacUnsupported SHA-256 check "$work/java.p12" --password-file "$work/java-password" || return 1
+    sed -n '/^    keytool /,/HmacPBESHA1$/p' "$home/README.md" | sed -e "s|STORE.p12|$work/java.p12 -srcstorepass password|" \
+        -e "s|NEW.p12|$work/java-anew.p12 -deststorepass password|" >"$work/recipe.sh"
+    sh -e "$work/recipe.sh" >"$work/told" 2>&1 && ends 0 check "$work/java-anew.p12" --password-file "$work/java-password" &&
+        [ "$(cat "$work/said")" = "$(printf 'certificates: 2\nprivate keys: 2')" ]
+}
+holds the_recipe_of_java recipe_of_java
+
+# --- stores made by hand ---
+
+
+passed_over() {
+    ends 0 check "$work/passed.p12" --password-file "$work/p" || return 1
+    cat >"$work/due" <<'END'
+certificates: 0
+private keys: 0
+passed over: 1, a private key that is not encrypted (keyBag)
+passed over: 2, a certificate revocation list (crlBag)
+passed over: 1, a secret (secretBag)
+passed over: 1, bags inside a bag (safeContentsBag)
+END
+    cmp "$work/due" "$work/said" || return 1
+    ends 0 export "$work/passed.p12" --out "$work/passed" --password-file "$work/p" && grep -q 'passed over: 1, a private key' "$work/told"
+}
+holds what_is_passed_over_is_named passed_over
+holds ber_is_named fails 10 Malformed "in BER, and only DER is read: an element of indefinite length begins at octet 0" \
+    check "$work/ber.p12" --password-file "$work/p"
+holds a_long_length_is_named fails 10 Malformed "a length in more octets than it takes begins at octet 0" \
+    check "$work/long.p12" --password-file "$work/p"
+holds a_string_in_parts_is_named fails 10 Malformed "a string in parts begins at octet 20" \
+    check "$work/parts.p12" --password-file "$work/p"
+holds pem_is_named fails 10 Malformed "PEM text" check "$work/pem.p12" --password-file "$work/p"
+
+# In processor time, the least of three, so that other work on the machine does not count.
+many() {
+    "${PYTHON:-python3}" - "$home/pkcs12" export "$work/many.p12" --out "$work/many" --force --password-file "$work/p" <<'END' || return 1
+import resource
+import subprocess
+import sys
+
+
+def used():
+    usage = resource.getrusage(resource.RUSAGE_CHILDREN)
+    return usage.ru_utime + usage.ru_stime
+
+
+least = 60
+for _ in range(3):
+    before = used()
+    subprocess.run(sys.argv[1:], check=True, stderr=subprocess.DEVNULL)
+    least = min(least, used() - before)
+print(f"3,000 certificates: {least:.3f} seconds of a processor")
+sys.exit(0 if least < 1 else 1)
+END
+    [ "$(find "$work/many" -type f | wc -l)" -eq 3000 ]
+}
+holds three_thousand_certificates_in_a_second many
+
+# --- memory ---
+
+# Each allocation fails in turn, by a library in front of the C library's.
+each_allocation_fails() {
+    command -v cc >/dev/null || {
+        echo "skipped each_allocation_fails: there is no C compiler"
+        return 0
+    }
+    cat >"$work/fail_alloc.c" <<'END'
+#define _GNU_SOURCE
+#include <dlfcn.h>
+#include <stdlib.h>
+static int fails(void) {
+    static long left = -1;
+    if (left == -1) left = atol(getenv("FAIL_ALLOC"));
+    return left > 0 && --left == 0;
+}
+void *malloc(size_t size) {
+    void *(*next)(size_t) = (void *(*)(size_t))dlsym(RTLD_NEXT, "malloc");
+    return fails() ? NULL : next(size);
+}
+void *realloc(void *old, size_t size) {
+    void *(*next)(void *, size_t) = (void *(*)(void *, size_t))dlsym(RTLD_NEXT, "realloc");
+    return fails() ? NULL : next(old, size);
+}
+END
+    cc -shared -fPIC -o "$work/fail_alloc.so" "$work/fail_alloc.c" -ldl || return 1
+    number=0
+    code=7
+    while [ "$code" -eq 7 ] && [ "$number" -lt 1000 ]; do
+        number=$((number + 1))
+        nothing_at "$work/memory" || return 1
+        code=0
+        FAIL_ALLOC=$number LD_PRELOAD=$work/fail_alloc.so "$home/crates/pkcs12/out/pkcs12" export "$keyed" --out "$work/memory" \
+            --password-file "$keyed_password" --new-password-file "$work/new" --rounds 1 2>"$work/told" || code=$?
+    done
+    echo "$((number - 1)) allocations"
+    [ "$code" -eq 0 ] && [ "$number" -gt 50 ] && [ -s "$work/memory/key-0.pem" ]
+}
+holds each_allocation_that_fails_is_an_error each_allocation_fails
+
+exit "$failed"
