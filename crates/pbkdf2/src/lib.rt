@@ -23,4 +23,4 @@ pub use derivation::{pbkdf2, pbkdf2_array, pbkdf2_counted};
 pub use hasher::Pbkdf2;
 pub use params::Params;
 pub use phc_core::{PasswordHasher, PasswordVerifier};
-pub use with_hmac::{pbkdf2_hmac, pbkdf2_hmac_array, pbkdf2_hmac_with_params};
+pub use with_hmac::{pbkdf2_hmac, pbkdf2_hmac_array, pbkdf2_hmac_counted, pbkdf2_hmac_with_params};

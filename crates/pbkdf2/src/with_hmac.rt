@@ -1,13 +1,15 @@
 //! PBKDF2 over HMAC.
-ghost use Rattle.std.specs.Prelude.{◌≡◌, ◌<◌, ◌^◌, length};
+ghost use Rattle.std.specs.Prelude.{◌≡◌, ◌+◌, ◌*◌, ◌<◌, ◌^◌, length, max};
 ghost use Rattle.mac_modes.specs.Hmac.{hmac};
 ghost use Rattle.pbkdf2.specs.Pbkdf2.{block_count, pbkdf2};
 ghost use Rattle.pbkdf2.specs.Algorithm.{derived, output_of};
 
 use crate::algorithm::Algorithm;
-use crate::derivation::pbkdf2;
+use crate::derivation::{pbkdf2, pbkdf2_counted};
 use crate::params::Params;
 use mac_modes::{HashFn, Hmac, Sha256, Sha512};
+use std::sync::ledger::Ledger;
+use steps::Steps;
 
 /// Fills `res` with a key that is derived from a password and a salt by HMAC over this hash function, in this number of
 /// rounds; 0 rounds run like 1. Caller: `res` has fewer than 2^32 blocks of `H::OUTPUT` octets.
@@ -16,6 +18,21 @@ pub fn pbkdf2_hmac<H: HashFn>(password: &[u8], salt: &[u8], rounds: u32, res: &m
     ensures { res.new ≡ pbkdf2 (hmac H.digest H.BLOCK password.now) H.OUTPUT salt.now rounds (length res.old) }
 {
     let _ = pbkdf2::<Hmac<H>>(password, salt, rounds, res);
+}
+
+/// `pbkdf2_hmac` that counts a step for each answer of HMAC: `max(rounds, 1)` times the blocks of `res`.
+pub fn pbkdf2_hmac_counted<H: HashFn, L: Ledger>(
+    password: &[u8],
+    salt: &[u8],
+    rounds: u32,
+    res: &mut [u8],
+    steps: &mut Steps<L>,
+)
+    requires { block_count (length res.old) H.OUTPUT < 2 ^ 32 }
+    ensures key { res.new ≡ pbkdf2 (hmac H.digest H.BLOCK password.now) H.OUTPUT salt.now rounds (length res.old) }
+    ensures steps { steps.new ≡ steps.old + max rounds 1 * block_count (length res.old) H.OUTPUT }
+{
+    let _ = pbkdf2_counted::<Hmac<H>, L>(password, salt, rounds, res, steps);
 }
 
 /// `pbkdf2_hmac` that answers an array of `N` octets. Caller: they are fewer than 2^32 blocks of `H::OUTPUT` octets.

@@ -41,3 +41,7 @@ abbrev pub iv_of : EncryptionScheme → List ℕ
 iv_of (Aes128Cbc iv) = iv
 iv_of (Aes192Cbc iv) = iv
 iv_of (Aes256Cbc iv) = iv
+
+-- how many rounds derive the key
+abbrev pub rounds_of : Kdf → ℕ
+rounds_of (Pbkdf2 p) = p.iteration_count

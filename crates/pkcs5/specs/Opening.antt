@@ -1,6 +1,6 @@
 -- What PBES2 derives from a password, and which text a ciphertext opens to (RFC 8018 sections 5.2 and 6.2). Encryption is
 -- never defined: a cipher is a permutation under each key, so the ciphertext of a text is the one that opens to it.
-use Rattle.std.specs.Prelude.{◌≡◌, ℕ, ◌+◌, ◌<◌, ◌%◌, List, length, IfSome}
+use Rattle.std.specs.Prelude.{◌≡◌, ℕ, ◌+◌, ◌*◌, ◌<◌, ◌%◌, ◌==◌, max, Bool, true, List, length, Some, None, IfSome}
 use Rattle.sha1.specs.Sha1.{sha1}
 use Rattle.sha2.specs.Sha256.{sha224, sha256}
 use Rattle.sha2.specs.Sha512.{sha384, sha512}
@@ -8,8 +8,8 @@ use Rattle.block_core.specs.Aes.{inv_aes_128, inv_aes_192, inv_aes_256}
 use Rattle.mac_modes.specs.Cbc.{uncbc}
 use Rattle.mac_modes.specs.Hmac.{hmac}
 use Rattle.mac_modes.specs.Padding.{pad_count, padded}
-use Rattle.pbkdf2.specs.Pbkdf2.{pbkdf2}
-use Rattle.pkcs5.specs.Kinds.{key_size, iv_of, stated_length}
+use Rattle.pbkdf2.specs.Pbkdf2.{block_count, pbkdf2}
+use Rattle.pkcs5.specs.Kinds.{key_size, iv_of, rounds_of, stated_length}
 use Rattle.pkcs5.specs.declared.pbes2.kdf.Kdf.{Kdf}
 use Rattle.pkcs5.specs.declared.pbes2.kdf.Kdf.TheVariants.{Pbkdf2}
 use Rattle.pkcs5.specs.declared.pbes2.pbkdf2_prf.Pbkdf2Prf.{Pbkdf2Prf}
@@ -44,6 +44,18 @@ derived (Pbkdf2 p) q n = pbkdf2 (prf_of p.prf q) (prf_output p.prf) p.salt p.ite
 abbrev pub StatesLength : Kdf → ℕ → Type 0
 StatesLength kdf n = IfSome (stated_length kdf) (λ stated. stated ≡ n)
 
+-- the same, as a test
+abbrev pub states_length : Kdf → ℕ → Bool
+states_length kdf n = elim (stated_length kdf) [ None ↦ true | Some stated ↦ stated == n ]
+
+-- the answers of the pseudorandom function that a round of n octets of key takes
+abbrev pub answers_of : Kdf → ℕ → ℕ
+answers_of (Pbkdf2 p) n = block_count n (prf_output p.prf)
+
+-- the steps of deriving n octets of key: those answers in each round, and 0 rounds are one
+abbrev pub key_steps : Kdf → ℕ → ℕ
+key_steps kdf n = max (rounds_of kdf) 1 * answers_of kdf n
+
 -- ---- the cipher (RFC 8018 section 6.2 and appendix B.2.5)
 
 -- the inverse of a cipher on blocks of 16 octets, under a key
@@ -67,6 +79,14 @@ pub record Decrypts (D : List ℕ → List ℕ) (iv c m : List ℕ) : Type 0 whe
 -- a length of the key that is stated is that of the cipher
 abbrev pub FitsKey : Parameters → Type 0
 FitsKey par = StatesLength par.kdf (key_size par.encryption)
+
+-- the answers of the pseudorandom function that a round takes
+abbrev pub steps_of : Parameters → ℕ
+steps_of par = answers_of par.kdf (key_size par.encryption)
+
+-- the steps of an opening
+abbrev pub opening_steps : Parameters → ℕ
+opening_steps par = key_steps par.kdf (key_size par.encryption)
 
 -- the inverse of the cipher under the key that is derived from the password q
 unfoldable pub inverse_under : Parameters → List ℕ → List ℕ → List ℕ

@@ -1,5 +1,5 @@
 -- When the calls of PBES2 refuse a text, by cases on the error: one with ⊥ never comes. And what a call in place leaves then.
-use Rattle.std.specs.Prelude.{◌≡◌, ◌<◌, ⊤, ℕ, List}
+use Rattle.std.specs.Prelude.{◌≡◌, ◌<◌, ◌+◌, ⊤, ℕ, List}
 use Rattle.asn1_core.specs.Oid.{oid_octets}
 use Rattle.pkcs5.specs.Kinds.{kdf_oid}
 use Rattle.pkcs5.specs.Opening.{FitsKey, IsBlocks, Opens, ciphertext_size, decrypted}
@@ -28,6 +28,11 @@ RefusesToOpenIn par q c e = RefusesToOpen par q c e
 abbrev pub LeftUnopened : Parameters → List ℕ → List ℕ → List ℕ → Error → Type 0
 LeftUnopened par q before now errors.DecryptFailed = (IsBlocks before → now ≡ decrypted par q before) × (¬ IsBlocks before → now ≡ before)
 LeftUnopened par q before now e = now ≡ before
+
+-- the steps of a refusal: none where the key is refused, and else n
+abbrev pub RefusedAfter : ℕ → ℕ → ℕ → Error → Type 0
+RefusedAfter n before now errors.DecryptFailed = now ≡ before + n
+RefusedAfter n before now e = now ≡ before
 
 -- ---- encryption
 

@@ -1,8 +1,8 @@
 //! Decryption by PBES2 (RFC 8018 section 6.2.2).
-ghost use Rattle.std.specs.Prelude.{◌≡◌, ◌≤◌, length, take, IfOk, IfErr};
+ghost use Rattle.std.specs.Prelude.{◌≡◌, ◌+◌, ◌≤◌, length, take, IfOk, IfErr, OnOk};
 ghost use Rattle.mac_modes.specs.Padding.{padded};
-ghost use Rattle.pkcs5.specs.Opening.{FitsKey, Opens};
-ghost use Rattle.pkcs5.specs.Refusals.{LeftUnopened, RefusesToOpen, RefusesToOpenIn};
+ghost use Rattle.pkcs5.specs.Opening.{FitsKey, Opens, opening_steps};
+ghost use Rattle.pkcs5.specs.Refusals.{LeftUnopened, RefusedAfter, RefusesToOpen, RefusesToOpenIn};
 
 use crate::error::Result;
 use crate::pbes2::cipher::decrypt_under;
@@ -10,6 +10,8 @@ use crate::pbes2::encryption_key::EncryptionKey;
 use crate::pbes2::parameters::Parameters;
 use asn1_core::Octets;
 use std::alloc::Global;
+use std::sync::ledger::Ledger;
+use steps::Steps;
 
 impl Parameters {
     /// The text that a ciphertext opens to under a password, in memory of its own (RFC 8018 section 6.2.2).
@@ -60,6 +62,25 @@ impl Parameters {
         ensures left { IfErr result (λ e. LeftUnopened self.now password.now buffer.old buffer.new e) }
     {
         let key = EncryptionKey::of_parameters(alloc, password, self)?;
+        decrypt_under(&self.encryption, key.as_slice(), buffer)
+    }
+
+    /// `decrypt_in_place_len` that counts a step for each answer of the pseudorandom function: `max(r, 1)` times the blocks
+    /// of the key for r rounds, on Ok and where the text does not open; none where the parameters are refused. It takes no memory.
+    pub fn decrypt_in_place_counted<L: Ledger>(
+        &self,
+        password: &[u8],
+        buffer: &mut [u8],
+        steps: &mut Steps<L>,
+    ) -> Result<usize>
+        ensures ok { IfOk result (λ len. FitsKey self.now × Opens self.now password.now buffer.old (take len buffer.new)) }
+        ensures padding { IfOk result (λ len. (len ≤ length buffer.old) × (buffer.new ≡ padded (take len buffer.new) 16)) }
+        ensures err { IfErr result (λ e. RefusesToOpen self.now password.now buffer.old e) }
+        ensures left { IfErr result (λ e. LeftUnopened self.now password.now buffer.old buffer.new e) }
+        ensures steps { OnOk result (steps.new ≡ steps.old + opening_steps self.now) }
+        ensures refused { IfErr result (λ e. RefusedAfter (opening_steps self.now) steps.old steps.new e) }
+    {
+        let key = EncryptionKey::of_parameters_counted(password, self, steps)?;
         decrypt_under(&self.encryption, key.as_slice(), buffer)
     }
 }
