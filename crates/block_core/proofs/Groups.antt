@@ -1,15 +1,14 @@
 -- Lists of bits, group by group.
-use Rattle.std.proofs.Common.{◌≡◌, ◌∙◌, sym, ap, ap₂, ℕ, zero, suc, ◌+◌, ◌-◌, ◌*◌, ◌^◌, ◌<◌, ◌≤◌, List, [], ◌∷◌, ◌++◌, length, get_or, take, drop, refl, arith, map, Bool, true, false}
+use Rattle.std.proofs.Common.{◌≡◌, ◌∙◌, sym, ap, ap₂, ℕ, zero, suc, ◌+◌, ◌*◌, ◌<◌, ◌≤◌, List, [], ◌∷◌, ◌++◌, length, get_or, take, drop, refl, arith, map}
 use borrow.Rule.Slice.PartMut.{put_mid}
-use Rattle.std.specs.Prelude.{bit_xor, cond}
 use Rattle.std.specs.List.{flat_map}
-use Rattle.std.proofs.lemmas.List.{take_at, drop_at, take_all, length-map, append_assoc, same_lists, get_or-map, get_or_default, drop_more, take_more, get_or-reverse, length-reverse, drop-drop, append-nil}
+use Rattle.std.proofs.lemmas.List.{take_at, drop_at, take_all, length-map, append_assoc, same_lists, get_or-map, get_or_default, drop_more, take_more, drop-drop, append-nil}
 use Rattle.std.proofs.Math.ListN.{drop_of_length-le}
 use Rattle.std.proofs.lemmas.Slice.{take-put_mid}
-use Rattle.block_core.specs.Bits.{AreBits, pick, bits_of, number_of, number_from, cut, bits_of_octets, octets_of_bits, xor_each, rotated}
-use Rattle.block_core.specs.Des.{substitute, substitute_all, Halves, round, rounds, keys_of, keys_from, round_keys, ordered}
-use Rattle.block_core.specs.DesTables.{s_boxes, permuted_choice_1, permuted_choice_2, left_shifts}
-use Rattle.block_core.specs.BitsLaws.{length-xor_each, length-pick, bits_pick, bits_append, bits_take, bits_drop, bits_none, bits_map, bits_octets, number_of-lt}
+use Rattle.block_core.specs.Bits.{AreBits, pick, bits_of, number_of, number_from, cut, bits_of_octets, octets_of_bits, rotated}
+use Rattle.block_core.specs.Des.{Halves, round, rounds, keys_of, keys_from, round_keys}
+use Rattle.block_core.specs.DesTables.{permuted_choice_1, permuted_choice_2, left_shifts}
+use Rattle.block_core.specs.BitsLaws.{length-pick, bits_pick, bits_append, bits_take, bits_drop, bits_none, bits_octets}
 
 pub mapped_by : (f : ℕ → ℕ) (xs table : List ℕ) → length xs ≡ length table
     → ((k : ℕ) → k < length table → get_or xs k 0 ≡ f (get_or table k 0)) → xs ≡ map f table
@@ -17,22 +16,6 @@ mapped_by f xs table l here =
     same_lists xs (map f table) (l ∙ sym (length-map table f)) (λ k d h.
     let lt : k < length table = omega (arith, l) in
     sym (get_or_default xs k 0 d h) ∙ here k lt ∙ sym (get_or-map f table k 0 d lt))
-
-get_or-xor_each : (xs ys : List ℕ) (i : ℕ) → length xs ≡ length ys → get_or (xor_each xs ys) i 0 ≡ bit_xor (get_or xs i 0) (get_or ys i 0)
-unfolding xor_each
-get_or-xor_each [] [] i l = refl
-get_or-xor_each [] (y ∷ ys) i l = absurd (omega arith)
-get_or-xor_each (x ∷ xs) [] i l = absurd (omega arith)
-get_or-xor_each (x ∷ xs) (y ∷ ys) zero l = refl
-get_or-xor_each (x ∷ xs) (y ∷ ys) (suc i) l = get_or-xor_each xs ys i (omega arith)
-
-pub xored : (xs ys zs : List ℕ) → length xs ≡ length ys → length zs ≡ length xs
-    → ((k : ℕ) → k < length xs → get_or zs k 0 ≡ bit_xor (get_or xs k 0) (get_or ys k 0)) → zs ≡ xor_each xs ys
-xored xs ys zs l m here =
-    same_lists zs (xor_each xs ys) (m ∙ sym (length-xor_each xs ys l)) (λ k d h.
-    let lt : k < length xs = omega (arith, m) in
-    sym (get_or_default zs k 0 d h) ∙ here k lt ∙ sym (get_or-xor_each xs ys k l)
-    ∙ get_or_default (xor_each xs ys) k 0 d (omega (arith, m, length-xor_each xs ys l)))
 
 number_snoc : (xs : List ℕ) (b n : ℕ) → number_from n (xs ++ b ∷ []) ≡ 2 * number_from n xs + b
 unfolding number_from
@@ -79,33 +62,10 @@ pub octets_step : (os : List ℕ) (i : ℕ) → i < length os → bits_of_octets
 unfolding bits_of_octets
 octets_step os i h = ap (flat_map (bits_of 8)) (drop_more os i 0 h)
 
-pub boxes_step : (bs : List ℕ) (j : ℕ) → j < 8
-    → substitute_all (drop j s_boxes) (drop (6 * j) bs)
-    ≡ substitute (get_or s_boxes j []) (take 6 (drop (6 * j) bs)) ++ substitute_all (drop (j + 1) s_boxes) (drop (6 * (j + 1)) bs)
-unfolding substitute_all
-boxes_step bs j h =
-    ap (λ (x : List (List ℕ)). substitute_all x (drop (6 * j) bs)) (drop_more s_boxes j [] h)
-    ∙ ap (λ (x : List ℕ). substitute (get_or s_boxes j []) (take 6 (drop (6 * j) bs)) ++ substitute_all (drop (j + 1) s_boxes) x)
-    (drop_to (6 * j) 6 (6 * (j + 1)) bs (omega arith))
-
 pub rounds_step : (ks : List (List ℕ)) (i : ℕ) (h : Halves) → i < length ks
     → rounds (drop i ks) h ≡ rounds (drop (i + 1) ks) (round (get_or ks i []) h)
 unfolding rounds
 rounds_step ks i h lt = ap (λ (js : List (List ℕ)). rounds js h) (drop_more ks i [] lt)
-
-pub length-ordered : (backwards : Bool) (keys : List ℕ) → length (ordered backwards (keys_of keys)) ≡ 16
-length-ordered true keys = length-reverse (keys_of keys) ∙ length-cut 48 16 keys
-length-ordered false keys = length-cut 48 16 keys
-
-pub ordered_at : (backwards : Bool) (keys : List ℕ) (i : ℕ) → i < 16
-    → get_or (ordered backwards (keys_of keys)) i [] ≡ take 48 (drop (48 * cond backwards (15 - i) i) keys)
-ordered_at true keys i h =
-    let l : length (keys_of keys) ≡ 16 = length-cut 48 16 keys in
-    let e : length (keys_of keys) - 1 - i ≡ 15 - i = omega (arith, l) in
-    get_or-reverse (keys_of keys) i [] (omega (arith, l))
-    ∙ ap (λ (k : ℕ). get_or (keys_of keys) k []) e
-    ∙ cut_at 48 16 keys (15 - i) (omega arith)
-ordered_at false keys i h = cut_at 48 16 keys i h
 
 -- lists one after the other
 abbrev pub flat : List (List ℕ) → List ℕ
@@ -160,15 +120,3 @@ bits_round_keys key =
     let k : List ℕ = pick permuted_choice_1 (bits_of_octets key) in
     let h : AreBits k = bits_pick permuted_choice_1 (bits_of_octets key) (bits_octets key) in
     bits_flat left_shifts (take 28 k) (drop 28 k) (bits_take 28 k h) (bits_drop 28 k h)
-
--- six bits choose one of the 64 entries of an S-box
-pub entry_below : (six : List ℕ) → AreBits six
-    → 16 * number_of (get_or six 0 0 ∷ get_or six 5 0 ∷ [])
-    + number_of (get_or six 1 0 ∷ get_or six 2 0 ∷ get_or six 3 0 ∷ get_or six 4 0 ∷ []) < 64
-entry_below six h =
-    let one : List ℕ = get_or six 0 0 ∷ get_or six 5 0 ∷ [] in
-    let two : List ℕ = get_or six 1 0 ∷ get_or six 2 0 ∷ get_or six 3 0 ∷ get_or six 4 0 ∷ [] in
-    let at : ℕ → ℕ = λ i. get_or six i 0 in
-    let row : number_of one < 2 ^ 2 = number_of-lt one 2 (bits_map at h (0 ∷ 5 ∷ [])) (omega arith) in
-    let column : number_of two < 2 ^ 4 = number_of-lt two 4 (bits_map at h (1 ∷ 2 ∷ 3 ∷ 4 ∷ [])) (omega arith) in
-    omega (arith, row, column)

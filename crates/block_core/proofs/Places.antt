@@ -3,7 +3,7 @@ use Rattle.std.proofs.Common.{◌≡◌, sym, ℕ, ◌+◌, ◌<◌, ◌≤◌, 
 use Rattle.std.proofs.lemmas.Bool.{and_parts}
 use Rattle.std.proofs.lemmas.Bool.Decides.{Decides-ltb}
 use Rattle.block_core.specs.Bits.{Places}
-use Rattle.block_core.specs.DesTables.{initial_permutation, expansion, permutation, permuted_choice_1, permuted_choice_2, left_shifts}
+use Rattle.block_core.specs.DesTables.{permuted_choice_1, permuted_choice_2, left_shifts}
 use Rattle.block_core.specs.Des.{final_permutation, place_of}
 use Rattle.block_core.specs.TableLaws.{all_below, all_below_at}
 
@@ -17,34 +17,6 @@ places n table t i h =
     let low : 0 < get_or table i 0 = (Decides-ltb _ _).0 both.0 in
     let high : get_or table i 0 < n + 1 = (Decides-ltb _ _).0 both.1 in
     (omega (arith, low), omega (arith, high))
-
-initial_all : all_below (place_in 64 initial_permutation) (length initial_permutation) ≡ true
-unfolding place_in final_permutation place_of
-initial_all = refl
-
-pub initial_places : (bs : List ℕ) → length bs ≡ 64 → Places (length bs) initial_permutation
-initial_places bs l = subst (λ (n : ℕ). Places n initial_permutation) (sym l) (places 64 initial_permutation initial_all)
-
-final_all : all_below (place_in 64 final_permutation) (length final_permutation) ≡ true
-unfolding place_in final_permutation place_of
-final_all = refl
-
-pub final_places : (bs : List ℕ) → length bs ≡ 64 → Places (length bs) final_permutation
-final_places bs l = subst (λ (n : ℕ). Places n final_permutation) (sym l) (places 64 final_permutation final_all)
-
-expansion_all : all_below (place_in 32 expansion) (length expansion) ≡ true
-unfolding place_in final_permutation place_of
-expansion_all = refl
-
-pub expansion_places : (bs : List ℕ) → length bs ≡ 32 → Places (length bs) expansion
-expansion_places bs l = subst (λ (n : ℕ). Places n expansion) (sym l) (places 32 expansion expansion_all)
-
-spread_all : all_below (place_in 32 permutation) (length permutation) ≡ true
-unfolding place_in final_permutation place_of
-spread_all = refl
-
-pub spread_places : (bs : List ℕ) → length bs ≡ 32 → Places (length bs) permutation
-spread_places bs l = subst (λ (n : ℕ). Places n permutation) (sym l) (places 32 permutation spread_all)
 
 choice_1_all : all_below (place_in 64 permuted_choice_1) (length permuted_choice_1) ≡ true
 unfolding place_in final_permutation place_of

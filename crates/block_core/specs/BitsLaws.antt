@@ -5,7 +5,7 @@ use Rattle.std.proofs.lemmas.Bool.{eqb-true}
 use Rattle.std.specs.Int.Bits.{xor_assoc, xor_self, xor_zero_r}
 use Rattle.std.proofs.lemmas.Nat.{xor_lt}
 use Rattle.std.specs.List.{range_with_len, flat_map}
-use Rattle.std.proofs.lemmas.List.{take_at, drop_at, length-map, length-append, length-take, length-take-le, length-drop, take-append-drop, reverse-append}
+use Rattle.std.proofs.lemmas.List.{same_lists, get_or_default, take_at, drop_at, length-map, length-append, length-take, length-take-le, length-drop, take-append-drop, reverse-append}
 use Rattle.std.proofs.Math.Nat.{mul-le-mul_right, mul_assoc, pow-succ'}
 use Rattle.std.proofs.Math.Pow.{pow_mono}
 use Rattle.std.proofs.lemmas.List.FromFn.{length-range_with_len}
@@ -26,6 +26,24 @@ unfolding xor_each
 length-xor_each [] ys l = refl
 length-xor_each (x ∷ xs) [] l = absurd (omega arith)
 length-xor_each (x ∷ xs) (y ∷ ys) l = let h : length (xor_each xs ys) ≡ length xs = length-xor_each xs ys (omega arith) in ap suc h
+
+get_or-xor_each : (xs ys : List ℕ) (i d : ℕ) → i < length xs → i < length ys
+    → get_or (xor_each xs ys) i d ≡ bit_xor (get_or xs i d) (get_or ys i d)
+unfolding xor_each
+get_or-xor_each [] ys i d h k = absurd (omega arith)
+get_or-xor_each (x ∷ xs) [] i d h k = absurd (omega arith)
+get_or-xor_each (x ∷ xs) (y ∷ ys) zero d h k = refl
+get_or-xor_each (x ∷ xs) (y ∷ ys) (suc i) d h k = get_or-xor_each xs ys i d (omega arith) (omega arith)
+
+-- a list that has each octet of the sum is the sum
+pub xored : (xs ys zs : List ℕ) → length xs ≡ length ys → length zs ≡ length xs
+    → ((i : ℕ) → i < length xs → get_or zs i 0 ≡ bit_xor (get_or xs i 0) (get_or ys i 0)) → zs ≡ xor_each xs ys
+xored xs ys zs l m e =
+    let n : length (xor_each xs ys) ≡ length xs = length-xor_each xs ys l in
+    same_lists zs (xor_each xs ys) (m ∙ sym n) (λ i d h.
+    get_or_default zs i d 0 h ∙ e i (omega arith)
+    ∙ sym (get_or-xor_each xs ys i 0 (omega arith) (omega arith))
+    ∙ get_or_default (xor_each xs ys) i 0 d (omega arith))
 
 pub length-pick : (table bs : List ℕ) → length (pick table bs) ≡ length table
 unfolding pick

@@ -24,7 +24,7 @@ unfoldable pub inverse_below : ℕ → ℕ → ℕ
 inverse_below zero a = 0
 inverse_below (suc n) a = cond (product a n == 1) n (inverse_below n a)
 
--- the inverse of a, and 0 for 0
+-- the inverse of a, and 0 for 0: that each octet but 0 has one is computed in proofs/AesVectors.antt
 unfoldable pub inverse : ℕ → ℕ
 inverse a = inverse_below 256 a
 

@@ -73,7 +73,7 @@ sum4 a b c d = bit_xor (bit_xor a b) (bit_xor c d)
 pub product-sum4 : (k a b c d : ℕ) → product k (sum4 a b c d) ≡ sum4 (product k a) (product k b) (product k c) (product k d)
 product-sum4 k a b c d = product-xor k (bit_xor a b) (bit_xor c d) ∙ ap₂ bit_xor (product-xor k a b) (product-xor k c d)
 
-sum4-xor : (a b c d e f g h : ℕ) → bit_xor (sum4 a b c d) (sum4 e f g h) ≡ sum4 (bit_xor a e) (bit_xor b f) (bit_xor c g) (bit_xor d h)
+pub sum4-xor : (a b c d e f g h : ℕ) → bit_xor (sum4 a b c d) (sum4 e f g h) ≡ sum4 (bit_xor a e) (bit_xor b f) (bit_xor c g) (bit_xor d h)
 sum4-xor a b c d e f g h =
     xor_interchange (bit_xor a b) (bit_xor c d) (bit_xor e f) (bit_xor g h)
     ∙ ap₂ bit_xor (xor_interchange a b e f) (xor_interchange c d g h)
@@ -204,57 +204,13 @@ unfolding product
 product-lt k a h = product_below-lt 8 k a h
 
 -- what the code computes, at each octet
-small_products : ℕ → Bool
-small_products a =
-    (bit_xor (a * 2 % 256) (a / 128 * 27) == times_x a)
-    && (product 1 a == a)
-    && (product 2 a == times_x a)
-    && (product 3 a == bit_xor (times_x a) a)
+is_times_x : ℕ → Bool
+is_times_x a = bit_xor (a * 2 % 256) (a / 128 * 27) == times_x a
 
-all_small_products : all_below small_products 256 ≡ true
-unfolding small_products product product_below times_x
-all_small_products = refl
-
-small_products_at : (a : ℕ) → a < 256
-    → (bit_xor (a * 2 % 256) (a / 128 * 27) ≡ times_x a) × (product 1 a ≡ a) × (product 2 a ≡ times_x a) × (product 3 a ≡ bit_xor (times_x a) a)
-unfolding small_products
-small_products_at a h =
-    let last = and_parts _ _ (all_below_at small_products 256 all_small_products a h) in
-    let third = and_parts _ _ last.0 in
-    let second = and_parts _ _ third.0 in
-    (eqb-true _ _ second.0, eqb-true _ _ second.1, eqb-true _ _ third.1, eqb-true _ _ last.1)
+all_times_x : all_below is_times_x 256 ≡ true
+unfolding is_times_x times_x
+all_times_x = refl
 
 pub times_x_code : (a : ℕ) → a < 256 → bit_xor (a * 2 % 256) (a / 128 * 27) ≡ times_x a
-times_x_code a h = (small_products_at a h).0
-
-pub product_1 : (a : ℕ) → a < 256 → product 1 a ≡ a
-product_1 a h = (small_products_at a h).1
-
-pub product_2 : (a : ℕ) → a < 256 → product 2 a ≡ times_x a
-product_2 a h = (small_products_at a h).2
-
-pub product_3 : (a : ℕ) → a < 256 → product 3 a ≡ bit_xor (times_x a) a
-product_3 a h = (small_products_at a h).3
-
-large_products : ℕ → Bool
-large_products a =
-    (product 9 a == bit_xor (times_x (times_x (times_x a))) a)
-    && (product 11 a == bit_xor (times_x (bit_xor (times_x (times_x a)) a)) a)
-    && (product 13 a == bit_xor (times_x (times_x (bit_xor (times_x a) a))) a)
-    && (product 14 a == times_x (bit_xor (times_x (bit_xor (times_x a) a)) a))
-
-all_large_products : all_below large_products 256 ≡ true
-unfolding large_products product product_below times_x
-all_large_products = refl
-
-pub large_products_at : (a : ℕ) → a < 256
-    → (product 9 a ≡ bit_xor (times_x (times_x (times_x a))) a)
-    × (product 11 a ≡ bit_xor (times_x (bit_xor (times_x (times_x a)) a)) a)
-    × (product 13 a ≡ bit_xor (times_x (times_x (bit_xor (times_x a) a))) a)
-    × (product 14 a ≡ times_x (bit_xor (times_x (bit_xor (times_x a) a)) a))
-unfolding large_products
-large_products_at a h =
-    let last = and_parts _ _ (all_below_at large_products 256 all_large_products a h) in
-    let third = and_parts _ _ last.0 in
-    let second = and_parts _ _ third.0 in
-    (eqb-true _ _ second.0, eqb-true _ _ second.1, eqb-true _ _ third.1, eqb-true _ _ last.1)
+unfolding is_times_x
+times_x_code a h = eqb-true _ _ (all_below_at is_times_x 256 all_times_x a h)

@@ -4,7 +4,7 @@ ghost use Rattle.std.specs.Prelude.{◌≡◌, ◌+◌, ◌-◌, ◌*◌, ◌/�
 ghost use Rattle.block_core.specs.Field.{power_of_x};
 ghost use Rattle.block_core.specs.AesKey.{AreOctets, scheduled, next_word, expand};
 
-use crate::aes_rounds::times_x;
+use crate::field::times_x;
 use crate::sbox::sub_byte;
 
 /// The round constant `n`, counted from 0: x to the power `n`.

@@ -6,17 +6,24 @@
 
 mod aes;
 mod aes_key;
-mod aes_rounds;
+mod aes_tables;
+mod aes_words;
 mod bits;
 mod block_cipher;
 mod des;
+mod des_joined;
+mod des_permutations;
 mod des_tables;
+mod des_words;
+mod field;
 mod sbox;
 mod tdes;
 #[cfg(test)]
 mod tests;
+mod xor;
 
 pub use aes::{Aes128, Aes192, Aes256};
 pub use block_cipher::BlockCipher;
 pub use des::Des;
 pub use tdes::TdesEde3;
+pub use xor::xor_into;

@@ -1,6 +1,6 @@
 //! Triple DES (FIPS 46-3).
 
-ghost use Rattle.block_core.specs.Des.{keys_of};
+ghost use Rattle.block_core.specs.DesWords.{keys_of_words};
 ghost use Rattle.block_core.specs.Tdes.{tdes, inv_tdes, under_three, back_under_three};
 ghost use Rattle.block_core.specs.TdesLaws.{tdes_laws};
 
@@ -29,11 +29,14 @@ impl BlockCipher for TdesEde3 {
 
     ghost inverse = { inv_tdes };
 
-    ghost encryption = { λ s. under_three (keys_of s.first.keys) (keys_of s.second.keys) (keys_of s.third.keys) };
+    ghost encryption = { λ s. under_three (keys_of_words 16 s.first.keys) (keys_of_words 16 s.second.keys)
+        (keys_of_words 16 s.third.keys) };
 
-    ghost decryption = { λ s. back_under_three (keys_of s.first.keys) (keys_of s.second.keys) (keys_of s.third.keys) };
+    ghost decryption = { λ s. back_under_three (keys_of_words 16 s.first.keys) (keys_of_words 16 s.second.keys)
+        (keys_of_words 16 s.third.keys) };
 
-    ghost laws = { tdes_laws Self (λ s. keys_of s.first.keys) (λ s. keys_of s.second.keys) (λ s. keys_of s.third.keys) };
+    ghost laws = { tdes_laws Self (λ s. keys_of_words 16 s.first.keys) (λ s. keys_of_words 16 s.second.keys)
+        (λ s. keys_of_words 16 s.third.keys) };
 
     fn new(key: &[u8]) -> TdesEde3 {
         let first = Des::new(&key[..8]);

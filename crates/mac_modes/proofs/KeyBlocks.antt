@@ -1,5 +1,5 @@
 -- The blocks that HMAC makes of a key.
-use Rattle.std.proofs.Common.{◌≡◌, ℕ, ◌+◌, ◌-◌, ◌<◌, ◌≤◌, List, [], ◌++◌, length, take, drop, replicate, sym, refl, ap, ◌∙◌, subst, arith, nat_lt, false, bit_xor}
+use Rattle.std.proofs.Common.{◌≡◌, ℕ, ◌+◌, ◌-◌, ◌<◌, ◌≤◌, List, ◌++◌, length, take, drop, replicate, sym, refl, ap, ◌∙◌, subst, arith, nat_lt, false, bit_xor}
 use Rattle.std.proofs.lemmas.List.{drop-replicate, take-replicate, take_at, take-map}
 use Rattle.std.proofs.Math.Seq.{take-append-add}
 use Rattle.std.proofs.lemmas.Bool.Decides.{nat_tests}
@@ -40,12 +40,10 @@ pub masked_front : (h : List ℕ → List ℕ) (b mask : ℕ) (k block made : Li
 masked_front h b mask k block made front e = ap (take b) e ∙ take-map (λ x. bit_xor x mask) b block ∙ ap (masked mask) front
 
 -- what the outer hash takes: the outer block, and the inner answer from the front of `out`
-pub outer_is : (h : List ℕ → List ℕ) (b u b' u' : ℕ) (k m block out z : List ℕ) → b' ≡ b → u' ≡ u → length (h (inner_block h b k ++ m)) ≡ u →
-    take b block ≡ outer_block h b k → out ≡ h (inner_block h b k ++ m) ++ z →
-    h (([] ++ take b' block) ++ take u' out) ≡ hmac h b k m
+pub outer_is : (h : List ℕ → List ℕ) (b u u' : ℕ) (k m out z : List ℕ) → u' ≡ u → length (h (inner_block h b k ++ m)) ≡ u →
+    out ≡ h (inner_block h b k ++ m) ++ z → h (outer_block h b k ++ take u' out) ≡ hmac h b k m
 unfolding hmac
-outer_is h b u b' u' k m block out z eb eu len front answer =
+outer_is h b u u' k m out z eu len answer =
     let inner = h (inner_block h b k ++ m) in
-    let first : take b' block ≡ outer_block h b k = ap (λ n. take n block) eb ∙ front in
-    let second : take u' out ≡ inner = ap (λ n. take n out) (eu ∙ sym len) ∙ ap (take (length inner)) answer ∙ take_at inner z (length inner) refl in
-    ap h (ap (λ x. x ++ take u' out) first ∙ ap (λ x. outer_block h b k ++ x) second)
+    let front : take u' out ≡ inner = ap (λ n. take n out) (eu ∙ sym len) ∙ ap (take (length inner)) answer ∙ take_at inner z (length inner) refl in
+    ap (λ x. h (outer_block h b k ++ x)) front

@@ -1,7 +1,11 @@
 pub mod KeyBlocks
-mod Xors
 mod Chains
 mod PaddedTexts
 mod Uniqueness
 mod HmacVectors
 mod CbcVectors
+mod Field
+mod Hashed
+mod Stream
+mod Sealed
+mod GcmVectors

@@ -7,17 +7,7 @@ ghost use Rattle.mac_modes.specs.declared.mode_error.ModeError.{ModeError};
 
 use crate::mode_error::ModeError;
 use crate::padding::unpadded_len;
-use block_core::BlockCipher;
-
-/// Xors `other` into `block`.
-fn xor_into(block: &mut [u8], other: &[u8])
-    requires { length block.old ≡ length other.now }
-    ensures { block.new ≡ xor_each block.old other.now }
-{
-    for i in 0..block.len() {
-        block[i] ^= other[i];
-    }
-}
+use block_core::{BlockCipher, xor_into};
 
 /// Encrypts one block in place, and keeps it for the next.
 fn encrypt_one<C: BlockCipher>(cipher: &C, previous: &mut [u8], text: &mut [u8])

@@ -1,5 +1,6 @@
 //! Laws of the definitions, each stated by the contract of a function that does nothing.
 ghost use Rattle.std.specs.Prelude.{◌≡◌, ℕ, ◌≤◌, ◌<◌, ◌%◌, List, length, All};
+ghost use Rattle.mac_modes.specs.Gcm.{gcm};
 ghost use Rattle.mac_modes.specs.Cbc.{uncbc};
 ghost use Rattle.mac_modes.specs.Padding.{padded};
 
@@ -18,4 +19,11 @@ pub fn ciphertext_is_unique<C: BlockCipher>()
 /// of its ciphertext.
 pub fn padded_text_is_unique()
     ensures { (n : ℕ) (m k : List ℕ) → 1 ≤ n → padded m n ≡ padded k n → m ≡ k }
+{}
+
+/// Two texts that GCM seals to the same are the same: so what `gcm_decrypt` answers is the only text of its ciphertext
+/// and tag.
+pub fn sealed_text_is_unique<C: BlockCipher>()
+    ensures { C.BLOCK ≡ 16 → (s : C) (nonce m k : List ℕ) → length nonce ≡ 12 → All (λ octet. octet < 256) nonce
+        → gcm (C.encryption s) nonce m ≡ gcm (C.encryption s) nonce k → m ≡ k }
 {}

@@ -1,7 +1,0 @@
-use Rattle.std.proofs.Common.{◌≡◌, ℕ, ◌<◌, ◌≤◌, get_or, bit_xor}
-use Rattle.mac_modes.proofs.cbc.xor_into.Given as goal
-
-abbrev pub invariant-loop-i : goal.invariant-loop-i
-invariant-loop-i l =
-    ((k : ℕ) → k < l.i → get_or l.block k 0 ≡ bit_xor (get_or l.fn.block k 0) (get_or l.fn.other k 0))
-    × ((k : ℕ) → l.i ≤ k → get_or l.block k 0 ≡ get_or l.fn.block k 0)
