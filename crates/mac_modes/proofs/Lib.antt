@@ -1,7 +1,7 @@
 pub mod KeyBlocks
 mod Chains
 mod PaddedTexts
-mod Uniqueness
+pub mod Uniqueness
 mod HmacVectors
 mod CbcVectors
 mod Field

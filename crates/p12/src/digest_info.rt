@@ -1,11 +1,12 @@
 //! A digest and its algorithm.
 ghost use Rattle.std.specs.Prelude.{◌≡◌, ◌<◌, length, OnOk, IfOk, IfErr};
-ghost use Rattle.asn1_core.specs.Gives.{ReadsIn, GivesIn};
+ghost use Rattle.asn1_core.specs.Gives.{ReadsAs, ReadsIn};
 ghost use Rattle.p12.specs.DigestInfo.{DigestText};
 ghost use Rattle.p12.specs.Error.{Reads};
+ghost use Rattle.p12.specs.MacView.{seen_digest};
 ghost use Rattle.p12.specs.Reading.{digest_at};
 
-use crate::algorithm_identifier::{AlgorithmIdentifier, algorithm_in_front};
+use crate::algorithm_identifier::{AlgorithmIdentifier, AlgorithmView, algorithm_view};
 use crate::error::Error;
 use asn1_core::{Octets, Reader, SliceReader, Tag, read_inner};
 use std::alloc::Global;
@@ -21,19 +22,38 @@ pub struct DigestInfo {
     pub digest: Octets,
 }
 
+/// A digest and the algorithm that made it, which lend their octets.
+#[derive(Clone, Copy, Drop)]
+pub(crate) struct DigestView<'a> {
+    pub(crate) algorithm: AlgorithmView<'a>,
+    pub(crate) digest: &'a [u8],
+}
+
 #[tactic(auto, unfolding(crate::specs::Reading::digest_at))]
-pub(crate) fn digest_in_front(
+pub(crate) fn digest_view<'a>(
+    r: &mut SliceReader<'a>,
+) -> Result<DigestView<'a>, asn1_core::Error>
+    ensures { ReadsAs digest_at seen_digest r.old.rest.now r.new.rest.now result }
+{
+    let mut ahead = *r;
+    let mut body = read_inner(&mut ahead, Tag::SEQUENCE)?;
+    let algorithm = algorithm_view(&mut body)?;
+    let digest = read_inner(&mut body, Tag::OCTET_STRING)?.rest;
+    body.finish()?;
+    *r = ahead;
+    Ok(DigestView { algorithm, digest })
+}
+
+fn digest_in_front(
     alloc: Global,
     r: &mut SliceReader<'_>,
 ) -> Result<DigestInfo, asn1_core::Error>
     ensures { ReadsIn digest_at (λ x. x) r.old.rest.now r.new.rest.now result }
 {
     let mut ahead = *r;
-    let mut body = read_inner(&mut ahead, Tag::SEQUENCE)?;
-    let digest_algorithm = algorithm_in_front(alloc, &mut body)?;
-    let digest = read_inner(&mut body, Tag::OCTET_STRING)?;
-    body.finish()?;
-    let digest = Octets::from_slice(alloc, digest.rest)?;
+    let view = digest_view(&mut ahead)?;
+    let digest_algorithm = view.algorithm.owned(alloc)?;
+    let digest = Octets::from_slice(alloc, view.digest)?;
     *r = ahead;
     Ok(DigestInfo {
         digest_algorithm,

@@ -1,11 +1,13 @@
 //! The MAC of a store.
 ghost use Rattle.std.specs.Prelude.{◌≡◌, ◌<◌, length, OnOk, IfOk, IfErr};
-ghost use Rattle.asn1_core.specs.Gives.{ReadsIn, GivesIn};
+ghost use Rattle.asn1_core.specs.Gives.{Gives, ReadsAs, ReadsIn};
 ghost use Rattle.p12.specs.MacData.{MacText};
 ghost use Rattle.p12.specs.Error.{Reads};
-ghost use Rattle.p12.specs.Reading.{mac_at};
+ghost use Rattle.p12.specs.MacView.{seen_mac};
+ghost use Rattle.p12.specs.Reading.{iterations_all, mac_at};
 
-use crate::digest_info::{DigestInfo, digest_in_front};
+use crate::algorithm_identifier::AlgorithmView;
+use crate::digest_info::{DigestInfo, digest_view};
 use crate::error::Error;
 use asn1_core::{Octets, Reader, SliceReader, Tag, read_inner, read_uint};
 use std::alloc::Global;
@@ -13,7 +15,7 @@ use std::alloc::Global;
 /// The MAC of a store (RFC 7292 section 4): its digest, the salt, and how many rounds derive its key.
 ///
 /// ```text
-/// MacData ::= SEQUENCE { mac DigestInfo, macSalt OCTET STRING, iterations INTEGER }
+/// MacData ::= SEQUENCE { mac DigestInfo, macSalt OCTET STRING, iterations INTEGER DEFAULT 1 }
 /// ```
 #[derive(Debug, Drop)]
 pub struct MacData {
@@ -22,7 +24,45 @@ pub struct MacData {
     pub iterations: u32,
 }
 
+/// The MAC of a store, which lends its parts from the octets that were parsed.
+#[derive(Clone, Copy, Debug, Drop)]
+pub struct MacView<'a> {
+    pub algorithm: AlgorithmView<'a>,
+    pub digest: &'a [u8],
+    pub salt: &'a [u8],
+    pub iterations: u32,
+}
+
+/// The count at the end of the MAC: 1 where it is left out.
+fn iterations_of(mut body: SliceReader<'_>) -> Result<u32, asn1_core::Error>
+    ensures { Gives (λ n. n) result (iterations_all body.entry.rest.now) }
+{
+    if body.is_finished() {
+        return Ok(1);
+    }
+    let iterations = read_uint(&mut body, 0xffff_ffff)?;
+    body.finish()?;
+    Ok(iterations as u32)
+}
+
 #[tactic(auto, unfolding(crate::specs::Reading::mac_at))]
+pub(crate) fn mac_view<'a>(r: &mut SliceReader<'a>) -> Result<MacView<'a>, asn1_core::Error>
+    ensures { ReadsAs mac_at seen_mac r.old.rest.now r.new.rest.now result }
+{
+    let mut ahead = *r;
+    let mut body = read_inner(&mut ahead, Tag::SEQUENCE)?;
+    let mac = digest_view(&mut body)?;
+    let salt = read_inner(&mut body, Tag::OCTET_STRING)?.rest;
+    let iterations = iterations_of(body)?;
+    *r = ahead;
+    Ok(MacView {
+        algorithm: mac.algorithm,
+        digest: mac.digest,
+        salt,
+        iterations,
+    })
+}
+
 pub(crate) fn mac_in_front(
     alloc: Global,
     r: &mut SliceReader<'_>,
@@ -30,18 +70,33 @@ pub(crate) fn mac_in_front(
     ensures { ReadsIn mac_at (λ x. x) r.old.rest.now r.new.rest.now result }
 {
     let mut ahead = *r;
-    let mut body = read_inner(&mut ahead, Tag::SEQUENCE)?;
-    let mac = digest_in_front(alloc, &mut body)?;
-    let salt = read_inner(&mut body, Tag::OCTET_STRING)?;
-    let iterations = read_uint(&mut body, 0xffff_ffff)?;
-    body.finish()?;
-    let salt = Octets::from_slice(alloc, salt.rest)?;
+    let view = mac_view(&mut ahead)?;
+    let digest_algorithm = view.algorithm.owned(alloc)?;
+    let digest = Octets::from_slice(alloc, view.digest)?;
+    let salt = Octets::from_slice(alloc, view.salt)?;
     *r = ahead;
     Ok(MacData {
-        mac,
+        mac: DigestInfo {
+            digest_algorithm,
+            digest,
+        },
         salt,
-        iterations: iterations as u32,
+        iterations: view.iterations,
     })
+}
+
+impl MacData {
+    /// The MAC, borrowed.
+    pub(crate) fn view(&self) -> MacView<'_>
+        ensures { seen_mac result ≡ self.now }
+    {
+        MacView {
+            algorithm: self.mac.digest_algorithm.view(),
+            digest: self.mac.digest.as_slice(),
+            salt: self.salt.as_slice(),
+            iterations: self.iterations,
+        }
+    }
 }
 
 impl MacData {

@@ -119,7 +119,9 @@ impl AlgorithmIdentifier {
                 open_blocks(alloc, params, ciphertext, password, steps)
             }
             AlgorithmIdentifier::Sha1
+            | AlgorithmIdentifier::Sha256
             | AlgorithmIdentifier::PbewithSHAAnd40BitRC2CBC(_)
+            | AlgorithmIdentifier::Pbes2(_)
             | AlgorithmIdentifier::OtherAlg(_) => Ok(None),
         }
     }

@@ -14,7 +14,7 @@ cause_same bad bad2 over memory room n before now f Memory c = c
 
 weaker : {W : Type 0} (S : Sink W) (bad bad2 over : Type 0) (t : List ℕ) (x y : W) (r : Result (Unit {0}) Error) → (bad → bad2) → Writes S bad over t x r y → Writes S bad2 over t x r y
 weaker S bad bad2 over t x y (Ok u) f h = h
-weaker S bad bad2 over t x y (Err e) f h = record { front = h.front; cause = cause_same bad bad2 over S.memory (S.room x) (length t) (S.faults x) (S.faults y) f e h.cause; rises = h.rises; stays = h.stays }
+weaker S bad bad2 over t x y (Err e) f h = record { front = h.front; rest = h.rest; is = h.is; adds = h.adds; falls = h.falls; cause = cause_same bad bad2 over S.memory (S.room x) (length t) (S.faults x) (S.faults y) f e h.cause; rises = h.rises; stays = h.stays }
 
 pub writes_same : {W : Type 0} (S : Sink W) (bad bad2 : Type 0) (t u : List ℕ) (x y : W) (r : Result (Unit {0}) Error) → t ≡ u → (bad → bad2)
     → Writes S bad (IsOverlong (length t)) t x r y → Writes S bad2 (IsOverlong (length u)) u x r y

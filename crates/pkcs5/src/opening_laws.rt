@@ -6,8 +6,7 @@ ghost use Rattle.pkcs5.specs.SchemeOpening.{SchemeOpens};
 ghost use Rattle.pkcs5.specs.declared.encryption_scheme.EncryptionScheme.{EncryptionScheme};
 ghost use Rattle.pkcs5.specs.declared.pbes2.parameters.Parameters.{Parameters};
 
-use block_core::{Aes128, Aes192, Aes256};
-use mac_modes::laws::{ciphertext_is_unique, padded_text_is_unique};
+use mac_modes::laws::padded_text_is_unique;
 
 /// A ciphertext opens to at most one text under the same parameters and password: so decryption of what encryption gave
 /// is the text that was encrypted.
@@ -34,8 +33,4 @@ pub fn ciphertext_length()
 pub fn one_ciphertext_opens_to_a_text()
     ensures { (par : Parameters) (q c d m : List ℕ) → All (λ octet. octet < 256) c → All (λ octet. octet < 256) d
         → length (iv_of par.encryption) ≡ 16 → Opens par q c m → Opens par q d m → c ≡ d }
-{
-    ciphertext_is_unique::<Aes128>();
-    ciphertext_is_unique::<Aes192>();
-    ciphertext_is_unique::<Aes256>();
-}
+{}

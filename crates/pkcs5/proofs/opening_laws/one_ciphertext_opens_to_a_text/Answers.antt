@@ -8,6 +8,5 @@ use Rattle.pkcs5.proofs.opening_laws.one_ciphertext_opens_to_a_text.Goals as goa
 pub returns : goal.returns
 unfolding inverse_under
 returns c = λ par q x y m octets_x octets_y long h k.
-    is_unique c.ciphertext_is_unique.ensures c.ciphertext_is_unique-2.ensures c.ciphertext_is_unique-3.ensures
-    par.encryption (derived par.kdf q (key_size par.encryption)) (bytes_derived par.kdf q (key_size par.encryption))
+    is_unique par.encryption (derived par.kdf q (key_size par.encryption)) (bytes_derived par.kdf q (key_size par.encryption))
     (iv_of par.encryption) x y long octets_x h.blocks.whole octets_y k.blocks.whole (h.text ∙ sym k.text)
