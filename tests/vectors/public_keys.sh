@@ -5,13 +5,13 @@
 #
 #     sh tests/vectors/public_keys.sh
 #
-# It writes crates/spki/src/tests/openssl_keys.rt: for each kind of key its name, the parameters of its algorithm as OpenSSL writes
-# them by themselves, the SubjectPublicKeyInfo, and the SHA-256 digest of that, in hexadecimal. The keys are random: a new run writes
-# others. Last run with OpenSSL 3.0.19.
+# It writes tests/vectors/public_keys.txt: for each kind of key a comment with its name and the parameters of its algorithm as
+# OpenSSL writes them by themselves, and a line with the SubjectPublicKeyInfo and the SHA-256 digest of that, in hexadecimal. The
+# keys are random: a new run writes others. Last run with OpenSSL 3.0.19.
 set -eu
 
 . tests/vectors/openssl_rows.sh
-rows=crates/spki/src/tests/openssl_keys.rt
+rows=tests/vectors/public_keys.txt
 
 # A key of the name $1, whose algorithm has the parameters $2, made by the further words of `genpkey`.
 row() {
@@ -21,12 +21,8 @@ row() {
     openssl genpkey "$@" -out "$work/key" 2>/dev/null
     openssl pkey -in "$work/key" -pubout -outform DER -out "$work/public"
     {
-        echo "    OpensslKey {"
-        echo "        name: \"$name\","
-        echo "        parameters: \"$parameters\","
-        echo "        text: \"$(digits <"$work/public")\","
-        echo "        fingerprint: \"$(openssl pkey -pubin -inform DER -in "$work/public" -outform DER | sha256sum | cut -d ' ' -f 1)\","
-        echo "    },"
+        echo "# $name: ${parameters:-no parameters}"
+        echo "spki-fingerprint $(digits <"$work/public") = $(openssl pkey -pubin -inform DER -in "$work/public" -outform DER | sha256sum | cut -d ' ' -f 1)"
     } >>"$rows"
 }
 
@@ -35,17 +31,8 @@ curve() {
 }
 
 cat >"$rows" <<'END'
-//! Public keys of OpenSSL, written by `tests/vectors/public_keys.sh`.
-
-/// A public key: the parameters of its algorithm, its text and the digest of that, in hexadecimal.
-pub struct OpensslKey {
-    pub name: &'static str,
-    pub parameters: &'static str,
-    pub text: &'static str,
-    pub fingerprint: &'static str,
-}
-
-pub const KEYS: [OpensslKey; 8] = [
+# Public keys of OpenSSL, written by tests/vectors/public_keys.sh with OpenSSL 3.0.19: of each its SubjectPublicKeyInfo, and the
+# SHA-256 digest of that. A comment says of which kind it is, and the parameters of its algorithm.
 END
 row RSA 0500 -algorithm RSA -pkeyopt rsa_keygen_bits:2048
 curve P-256
@@ -56,4 +43,3 @@ row X25519 "" -algorithm X25519
 openssl dsaparam -out "$work/parameters" 2048 2>/dev/null
 row DSA "$(openssl dsaparam -in "$work/parameters" -outform DER | digits)" -paramfile "$work/parameters"
 row "RSA of 4096 bits" 0500 -algorithm RSA -pkeyopt rsa_keygen_bits:4096
-echo "];" >>"$rows"

@@ -1,5 +1,5 @@
 -- The text of a value that may be missing: that of the value, or nothing.
-use Rattle.std.specs.Prelude.{List, [], ℕ, Option, Some, None}
+use Rattle.std.specs.Prelude.{◌≡◌, List, [], ℕ, Option, Some, None}
 
 abbrev pub canon_option : {A : Type 0} → (A → List ℕ) → Option A → List ℕ
 canon_option canon None = []
@@ -9,7 +9,7 @@ abbrev pub writable_option : {A : Type 0} → (A → Type 0) → Option A → Ty
 writable_option writable None = Unit {0}
 writable_option writable (Some a) = writable a
 
--- another spelling of a value that may be missing
-abbrev pub other_option : {A : Type 0} → (List ℕ → A → Type 0) → List ℕ → Option A → Type 0
-other_option other b None = ⊥
-other_option other b (Some a) = other b a
+-- which texts spell a value that may be missing
+abbrev pub SpellsOption : {A : Type 0} → (List ℕ → A → Type 0) → List ℕ → Option A → Type 0
+SpellsOption spell b None = b ≡ []
+SpellsOption spell b (Some a) = spell b a

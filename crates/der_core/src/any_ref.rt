@@ -5,7 +5,6 @@ ghost use Rattle.asn1_core.specs.Der.{IsHeader, el};
 ghost use Rattle.asn1_core.specs.Gives.{Gives};
 ghost use Rattle.asn1_core.specs.ElementLaws.{by_tag-exact, by_tag-whole};
 ghost use Rattle.asn1_core.specs.declared.error.Error.TheVariants.{Overlength};
-ghost use Rattle.std.proofs.Common.{inl};
 ghost use Rattle.der_core.specs.Order.{octet_cmp};
 ghost use Rattle.der_core.specs.Any.{seen_any, any_of, any_at, AnyOf, AnyText};
 ghost use Rattle.der_core.specs.AnyLaws.{any_of-exact, any_canonical, any_spelled};
@@ -194,9 +193,9 @@ impl<'a> Canonical<&'a [u8]> for AnyRef<'a> {
 }
 
 impl<'a> Spelled<&'a [u8]> for AnyRef<'a> {
-    ghost other = { λ b a. ⊥ };
+    ghost spell = { λ b a. b ≡ el a.tag.first a.value.now };
 
-    ghost spelled = { λ b a r. inl (any_spelled a.tag.first a.value.now b r) };
+    ghost spelled = { λ b a. any_spelled a.tag.first a.value.now b a.tag.is_tag };
 }
 
 impl<'a> ValueOrd for AnyRef<'a> {

@@ -2,10 +2,9 @@
 ghost use Rattle.std.specs.Prelude.{◌≡◌, ◌⊎◌, List, ℕ, ◌+◌, ◌∷◌, length, refl, IsTrue, MatchResult, IfOk, IfErr, ◌++◌};
 ghost use Rattle.asn1_core.specs.Reading.{whole, within};
 ghost use Rattle.asn1_core.specs.Gives.{GivesIn};
-ghost use Rattle.asn1_core.specs.Der.{IsHeader};
+ghost use Rattle.asn1_core.specs.Der.{IsHeader, el};
 ghost use Rattle.der_core.specs.BitString.{is_bits, seen_bits, bits_of, BitsOf};
 ghost use Rattle.asn1_core.specs.declared.error.Error.TheVariants.{Malformed, Overlength, Memory};
-ghost use Rattle.std.proofs.Common.{inl};
 ghost use Rattle.der_core.specs.Order.{octet_cmp};
 ghost use Rattle.der_core.specs.StringLaws.{bits_of-exact, bits_canonical, bits_spelled};
 ghost use Rattle.der_core.specs.SameLaws.{bits_same};
@@ -221,9 +220,9 @@ impl<'a> Canonical<&'a [u8]> for BitStringRef<'a> {
 }
 
 impl<'a> Spelled<&'a [u8]> for BitStringRef<'a> {
-    ghost other = { λ b s. ⊥ };
+    ghost spell = { λ b s. b ≡ el 3 (s.unused_bits ∷ s.octets.now) };
 
-    ghost spelled = { λ b s r. inl (bits_spelled s.unused_bits s.octets.now b r) };
+    ghost spelled = { λ b s. bits_spelled s.unused_bits s.octets.now b s.bits };
 }
 
 impl<S: AsSlice<u8>> PartialEq for BitStringOf<S> {

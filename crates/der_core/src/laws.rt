@@ -1,8 +1,9 @@
 //! Laws of types that are read and written, each a trait with no function, which generic code takes as a bound.
-ghost use Rattle.std.specs.Prelude.{◌≡◌, ◌↔◌, ◌⊎◌, ℕ, List, length, true, Ok};
+ghost use Rattle.std.specs.Prelude.{◌≡◌, ◌↔◌, ◌⊎◌, ◌++◌, ℕ, List, length, true, Ok};
 ghost use Rattle.asn1_core.specs.Reading.{whole};
 ghost use Rattle.asn1_core.specs.Gives.{Gives};
 ghost use Rattle.asn1_core.specs.Der.{el, IsShort};
+ghost use Rattle.asn1_core.specs.Sets.{Other};
 ghost use Rattle.der_core.specs.Tied.{Tied};
 ghost use Rattle.der_core.specs.TiedLaws.{tied_fixed};
 
@@ -22,11 +23,13 @@ pub trait Canonical<S: AsSlice<u8>>: Choice<S> + Encode {
     ghost canonical: { (v : Self) → Self.writable v → Self.text (Self.canon v) (Self.seen v) };
 }
 
-/// A type of which each text that is read is what is written of the value, or one of its `other` spellings.
-pub trait Spelled<S: AsSlice<u8>>: Choice<S> + Encode {
-    ghost other: { List ℕ → Self → Type 0 };
+/// A type whose texts are known by the values that they are of: `spell` says which octets spell a value.
+///
+/// The law `spelled`: octets are a text of the value exactly where it can be written and they spell it.
+pub trait Spelled<S: AsSlice<u8>>: Canonical<S> {
+    ghost spell: { List ℕ → Self → Type 0 };
 
-    ghost spelled: { (b : List ℕ) (v : Self) → Self.text b (Self.seen v) → (b ≡ Self.canon v) ⊎ other b v };
+    ghost spelled: { (b : List ℕ) (v : Self) → Self.text b (Self.seen v) ↔ (Self.writable v × spell b v) };
 }
 
 /// A type whose values are equal exactly where the same is seen of them.
@@ -59,13 +62,20 @@ pub fn texts_are_read<S: AsSlice<u8>, T: Choice<S>>(bytes: &[u8])
     let _ = bytes;
 }
 
-/// A law: octets that are read as a value are what is written of it, or one of its other spellings.
-pub fn texts_are_spelled<S: AsSlice<u8>, T: Spelled<S>>(bytes: &[u8], v: &T)
-    ensures { whole T.at bytes.now ≡ Ok (T.seen v.now) → (bytes.now ≡ T.canon v.now) ⊎ T.other bytes.now v.now }
+/// A law: the octets that are read as a value are those that are written of it and its other spellings, of at most 2^32 - 1 octets.
+pub fn exact_spellings<S: AsSlice<u8>, T: Spelled<S>>(bytes: &[u8], v: &T)
+    ensures written { whole T.at bytes.now ≡ Ok (T.seen v.now) → T.writable v.now }
+    ensures exact { T.writable v.now → (whole T.at bytes.now ≡ Ok (T.seen v.now))
+        ↔ (IsShort bytes.now × ((bytes.now ≡ T.canon v.now) ⊎ Other T.spell T.canon bytes.now v.now)) }
 {
     let _ = bytes;
     let _ = v;
 }
+
+/// A law: no text begins another one, and a text has one value.
+pub fn texts_are_parted<S: AsSlice<u8>, T: Choice<S>>()
+    ensures { (b c x y : List ℕ) (v w : T.Seen) → T.text b v → T.text c w → IsShort b → IsShort c → b ++ x ≡ c ++ y → (b ≡ c) × (v ≡ w) × (x ≡ y) }
+{}
 
 /// A law: what is written of a value is read as that value.
 pub fn canon_is_read<S: AsSlice<u8>, T: Canonical<S>>(v: &T)

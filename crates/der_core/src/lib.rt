@@ -9,7 +9,7 @@ mod context_specific;
 mod decode;
 mod document;
 mod encode;
-mod laws;
+pub mod laws;
 mod null;
 mod number;
 mod object_identifier;
@@ -30,8 +30,8 @@ pub use decode::{Choice, Decode, DecodeValue};
 pub use document::Document;
 pub use encode::{Encode, EncodeValue};
 pub use laws::{
-    Canonical, Compared, Spelled, WholeElement, canon_is_read, read_as, texts_are_read,
-    texts_are_spelled,
+    Canonical, Compared, Spelled, WholeElement, canon_is_read, exact_spellings, read_as,
+    texts_are_parted, texts_are_read,
 };
 pub use null::Null;
 pub use octet_string::{OctetString, OctetStringOf, OctetStringRef};

@@ -1,9 +1,9 @@
 //! NULL.
 ghost use Rattle.std.specs.Prelude.{◌≡◌, [], refl};
+ghost use Rattle.asn1_core.specs.Der.{null};
 ghost use Rattle.asn1_core.specs.Reading.{ended};
 ghost use Rattle.asn1_core.specs.Texts.{Ended};
 ghost use Rattle.asn1_core.specs.ExactLaws.{ended-exact};
-ghost use Rattle.std.proofs.Common.{inl};
 ghost use Rattle.der_core.specs.Null.{nothing};
 ghost use Rattle.der_core.specs.Order.{octet_cmp};
 ghost use Rattle.der_core.specs.StringLaws.{null_canonical, null_spelled};
@@ -68,9 +68,9 @@ impl<'a> Canonical<&'a [u8]> for Null {
 }
 
 impl<'a> Spelled<&'a [u8]> for Null {
-    ghost other = { λ b n. ⊥ };
+    ghost spell = { λ b n. b ≡ null };
 
-    ghost spelled = { λ b n r. inl (null_spelled b r) };
+    ghost spelled = { λ b n. null_spelled b };
 }
 
 impl ValueOrd for Null {

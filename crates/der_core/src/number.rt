@@ -4,7 +4,7 @@ ghost use Rattle.asn1_core.specs.Reading.{valued, uint_of};
 ghost use Rattle.asn1_core.specs.Texts.{UintOf};
 ghost use Rattle.asn1_core.specs.Gives.{ReadsAs};
 ghost use Rattle.asn1_core.specs.NumberLaws.{uint_of-exact};
-ghost use Rattle.asn1_core.specs.Der.{shortest};
+ghost use Rattle.asn1_core.specs.Der.{shortest, uint};
 ghost use Rattle.der_core.specs.StringLaws.{uint_canonical, uint_spelled};
 ghost use Rattle.der_core.specs.SameLaws.{number_same};
 ghost use Rattle.der_core.specs.Order.{octet_cmp};
@@ -161,7 +161,7 @@ impl<'a> Canonical<&'a [u8]> for u8 {
 }
 
 impl<'a> Spelled<&'a [u8]> for u8 {
-    ghost other = { λ b n. ⊥ };
+    ghost spell = { λ b n. b ≡ uint n };
 
     ghost spelled = { uint_spelled 255 };
 }
@@ -185,7 +185,7 @@ impl<'a> Canonical<&'a [u8]> for u16 {
 }
 
 impl<'a> Spelled<&'a [u8]> for u16 {
-    ghost other = { λ b n. ⊥ };
+    ghost spell = { λ b n. b ≡ uint n };
 
     ghost spelled = { uint_spelled 65535 };
 }
@@ -209,7 +209,7 @@ impl<'a> Canonical<&'a [u8]> for u32 {
 }
 
 impl<'a> Spelled<&'a [u8]> for u32 {
-    ghost other = { λ b n. ⊥ };
+    ghost spell = { λ b n. b ≡ uint n };
 
     ghost spelled = { uint_spelled 4294967295 };
 }
@@ -233,7 +233,7 @@ impl<'a> Canonical<&'a [u8]> for u64 {
 }
 
 impl<'a> Spelled<&'a [u8]> for u64 {
-    ghost other = { λ b n. ⊥ };
+    ghost spell = { λ b n. b ≡ uint n };
 
     ghost spelled = { uint_spelled 18446744073709551615 };
 }

@@ -1,13 +1,12 @@
 //! Object identifiers as typed values.
 ghost use Rattle.std.specs.Prelude.{◌≡◌, refl};
-ghost use Rattle.asn1_core.specs.Der.{el};
+ghost use Rattle.asn1_core.specs.Der.{el, oid};
 ghost use Rattle.asn1_core.specs.Reading.{whole, oid_at};
 ghost use Rattle.asn1_core.specs.Gives.{Gives};
 ghost use Rattle.asn1_core.specs.Reading.{oid_of};
 ghost use Rattle.asn1_core.specs.Texts.{OidOf};
 ghost use Rattle.asn1_core.specs.ElementLaws.{oid_of-exact};
 ghost use Rattle.asn1_core.specs.Oid.{oid_octets, oid_decides};
-ghost use Rattle.std.proofs.Common.{inl};
 ghost use Rattle.der_core.specs.Order.{octet_cmp};
 ghost use Rattle.der_core.specs.StringLaws.{oid_canonical, oid_spelled};
 ghost use Rattle.asn1_core.specs.declared.identifier.ObjectIdentifier.{ObjectIdentifier};
@@ -71,9 +70,9 @@ impl<'a> Canonical<&'a [u8]> for ObjectIdentifier {
 }
 
 impl<'a> Spelled<&'a [u8]> for ObjectIdentifier {
-    ghost other = { λ b o. ⊥ };
+    ghost spell = { λ b o. b ≡ oid (oid_octets o) };
 
-    ghost spelled = { λ b o r. inl (oid_spelled o b r) };
+    ghost spelled = { λ b o. oid_spelled o b };
 }
 
 impl ValueOrd for ObjectIdentifier {

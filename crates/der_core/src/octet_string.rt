@@ -1,12 +1,11 @@
 //! OCTET STRING.
 ghost use Rattle.std.specs.Prelude.{◌≡◌, List, ℕ, length, refl, MatchResult, IfOk, IfErr, ◌⊎◌};
-ghost use Rattle.asn1_core.specs.Der.{IsHeader};
+ghost use Rattle.asn1_core.specs.Der.{IsHeader, octets};
 ghost use Rattle.asn1_core.specs.Reading.{left, whole, within};
 ghost use Rattle.asn1_core.specs.Gives.{GivesIn};
 ghost use Rattle.asn1_core.specs.Texts.{Left};
 ghost use Rattle.asn1_core.specs.ElementLaws.{left-exact};
 ghost use Rattle.asn1_core.specs.declared.error.Error.TheVariants.{Overlength, Memory};
-ghost use Rattle.std.proofs.Common.{inl};
 ghost use Rattle.der_core.specs.Order.{octet_cmp};
 ghost use Rattle.der_core.specs.StringLaws.{octets_canonical, octets_spelled};
 ghost use Rattle.der_core.specs.SameLaws.{octets_same};
@@ -172,9 +171,9 @@ impl<'a> Canonical<&'a [u8]> for OctetStringRef<'a> {
 }
 
 impl<'a> Spelled<&'a [u8]> for OctetStringRef<'a> {
-    ghost other = { λ b s. ⊥ };
+    ghost spell = { λ b s. b ≡ octets s.octets.now };
 
-    ghost spelled = { λ b s r. inl (octets_spelled s.octets.now b r) };
+    ghost spelled = { λ b s. octets_spelled s.octets.now b };
 }
 
 impl<S: AsSlice<u8>> PartialEq for OctetStringOf<S> {

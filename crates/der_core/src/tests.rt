@@ -2,7 +2,7 @@
 use crate::{
     Any, AnyRef, BitString, BitStringRef, ContextSpecific, Decode, DerOrd, Document, Encode, Null,
     OctetString, OctetStringRef, Pair, SecretDocument, TagMode, Tagged, ValueOrd, canon_is_read,
-    pair_cmp, pair_len, texts_are_read, texts_are_spelled, write_pair,
+    exact_spellings, pair_cmp, pair_len, texts_are_parted, texts_are_read, write_pair,
 };
 use asn1_core::{Error, ObjectIdentifier, Reader, SliceReader, SliceWriter, Tag};
 use std::alloc::Global;
@@ -107,7 +107,7 @@ fn values_are_written_as_openssl_writes_them(rt: HostRuntime) {
         tag_mode: TagMode::Explicit,
         value: 5u8,
     };
-    assert!(rt; high.to_der(alloc).is_err());
+    assert!(rt; high.to_der(alloc) == Err(Error::Malformed));
 }
 
 #[test]
@@ -132,6 +132,13 @@ fn owned_values_are_what_was_borrowed(rt: HostRuntime) {
     assert!(rt; any.owned_to_ref() == AnyRef::from(borrowed));
     assert!(rt; Any::from_der(alloc, &[4, 2, 0x61, 0x62]).expect(&rt, "an element") == any);
     assert!(rt; any.try_clone(alloc).expect(&rt, "memory") == any);
+    assert!(rt; any.owned_to_ref().ref_to_owned(alloc).expect(&rt, "memory") == any);
+    assert!(rt;
+        bits.owned_to_ref()
+            .ref_to_owned(alloc)
+            .expect(&rt, "memory")
+            == bits
+    );
     assert!(rt; AnyRef::from(Null).is_null());
 }
 
@@ -182,7 +189,8 @@ fn texts_stand_one_behind_the_other(rt: HostRuntime) {
 fn laws_at_concrete_types(rt: HostRuntime) {
     texts_are_read::<&[u8], AnyRef<'_>>(&KEY);
     texts_are_read::<&[u8], ContextSpecific<u8>>(&KEY);
-    texts_are_spelled::<&[u8], u8>(&[2, 1, 5], &5);
+    exact_spellings::<&[u8], u8>(&[2, 1, 5], &5);
+    texts_are_parted::<&[u8], Null>();
     canon_is_read::<&[u8], BitStringRef<'_>>(&BitStringRef::new(0, &[1]).expect(&rt, "bits"));
 }
 
@@ -196,12 +204,16 @@ fn documents_are_whole_sequences(rt: HostRuntime) {
     assert!(rt; Document::from_der(alloc, &[0x30, 0, 0]) == Err(Error::Malformed));
     let any: AnyRef<'_> = document.decode_msg().expect(&rt, "an element");
     assert!(rt; Document::encode_msg(alloc, &any).expect(&rt, "memory") == document);
+    assert!(rt; document.try_clone(alloc).expect(&rt, "memory") == document);
     assert!(rt; Document::encode_msg(alloc, &Null) == Err(Error::Malformed));
     let path = "der_core_document.der";
     assert!(rt; document.write_der_file(&rt, path).is_ok());
     assert!(rt; Document::read_der_file(&rt, alloc, path).expect(&rt, "a document") == document);
     let secret = SecretDocument::read_der_file(&rt, alloc, path).expect(&rt, "a document");
     assert!(rt; secret == SecretDocument::from_der(alloc, &KEY).expect(&rt, "memory"));
+    assert!(rt; SecretDocument::encode_msg(alloc, &any).expect(&rt, "memory") == secret);
+    assert!(rt; secret.try_clone(alloc).expect(&rt, "memory") == secret);
+    assert!(rt; secret.decode_msg() == Ok(any));
     assert!(rt; fs::write(&rt, path, &[4, 0][..]).is_ok());
     assert!(rt; Document::read_der_file(&rt, alloc, path) == Err(Error::Malformed));
     assert!(rt; fs::remove_file(&rt, path).is_ok());

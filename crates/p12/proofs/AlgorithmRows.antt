@@ -58,6 +58,9 @@ params-exact = sequence 0x30 refl (field (λ p. p.salt) (inside-exact 0x04 refl)
 abbrev other_algorithm : ObjectIdentifier → Option (List ℕ) → AlgorithmIdentifier
 other_algorithm k e = OtherAlg (record { algorithm_type = k; params = e })
 
+not_both : {A : Type 0} (x : Fault) (w : A) → Err x ≡ Ok w → ⊥
+not_both x w e = absurd cc
+
 -- a text of the first, or where it is none of it of the second
 abbrev OrElse : {A : Type 0} → (List ℕ → A → Type 0) → (List ℕ → A → Type 0) → List ℕ → A → Type 0
 OrElse {A = A} R S b v = R b v ⊎ (((w : A) → R b w → IsShort b → ⊥) × S b v)
@@ -70,7 +73,7 @@ or_else-exact {A = A} {R = R} {S = S} {p = p} {q = q} e f = record {
   where
     found : (b : List ℕ) (v : A) (r : Result A Fault) → p b ≡ r → elim r [ Ok w ↦ Ok w | Err x ↦ q b ] ≡ Ok v → OrElse R S b v
     found b v (Ok w) is h = inl (e.found b v (is ∙ h))
-    found b v (Err x) is h = inr (λ w r short. let yes = sym is ∙ e.again b w r short in absurd cc, f.found b v h)
+    found b v (Err x) is h = inr (λ w r short. not_both x w (sym is ∙ e.again b w r short), f.found b v h)
 
     second : (b : List ℕ) (v : A) (r : Result A Fault) → p b ≡ r → ((w : A) → R b w → IsShort b → ⊥) → S b v → IsShort b → elim r [ Ok w ↦ Ok w | Err x ↦ q b ] ≡ Ok v
     second b v (Ok w) is none s short = absurd (none w (e.found b w is) short)

@@ -4,10 +4,8 @@ pub mod Numbers
 pub mod Derivation
 pub mod Password
 pub mod AlgorithmIdentifier
-pub mod AlgorithmView
 pub mod DigestInfo
 pub mod MacData
-pub mod MacView
 pub mod EncryptedData
 pub mod ContentInfo
 pub mod EncryptedPrivateKeyInfo

@@ -1,13 +1,11 @@
 //! Algorithms of PKCS#12.
-ghost use Rattle.std.specs.Prelude.{◌≡◌, IfOk, IfErr};
-ghost use Rattle.asn1_core.specs.Gives.{Gives, ReadsAs, ReadsIn};
-ghost use Rattle.asn1_core.specs.declared.error.Error.TheVariants as asn1;
+ghost use Rattle.std.specs.Prelude.{◌+◌, ◌≡◌, ◌<◌, length, OnOk, IfOk, IfErr};
+ghost use Rattle.asn1_core.specs.Gives.{Gives, ReadsIn, GivesIn};
 ghost use Rattle.p12.specs.AlgorithmIdentifier.{AlgorithmText, ParamsText};
-ghost use Rattle.p12.specs.AlgorithmView.{seen_algorithm, seen_params};
 ghost use Rattle.p12.specs.Error.{Reads};
 ghost use Rattle.asn1_core.specs.Reading.{made, perhaps};
-ghost use Rattle.p12.specs.Reading.{null_at, params_at, digest_all, rc2_all, triple_des_all, pbes2_all, other_algorithm_all, algorithm_all, algorithm_at};
 ghost use Rattle.p12.specs.declared.algorithm_identifier.AlgorithmIdentifier.TheVariants as algorithm;
+ghost use Rattle.p12.specs.Reading.{params_at, null_at, digest_all, rc2_all, triple_des_all, pbes2_all, other_algorithm_all, algorithm_all, algorithm_at};
 
 use crate::error::Error;
 use crate::identifiers::{
@@ -60,50 +58,22 @@ pub enum AlgorithmIdentifier {
     OtherAlg(OtherAlgorithmIdentifier),
 }
 
-/// An algorithm and its parameters, which lends them from the octets that were parsed.
-#[derive(Clone, Copy, Debug, Drop)]
-pub enum AlgorithmView<'a> {
-    /// A digest of MACs.
-    Sha1,
-    /// A digest of MACs.
-    Sha256,
-    /// RC2 with 40 bits.
-    Rc2 {
-        salt: &'a [u8],
-        iterations: u64,
-    },
-    /// Triple DES with three keys.
-    TripleDes {
-        salt: &'a [u8],
-        iterations: u64,
-    },
-    /// PBES2.
-    Pbes2(Parameters),
-    /// Any other algorithm.
-    Other {
-        algorithm_type: ObjectIdentifier,
-        params: Option<&'a [u8]>,
-    },
-}
-
-/// The parameters of a password-based scheme, which lend the salt.
-#[derive(Clone, Copy, Drop)]
-pub(crate) struct ParamsView<'a> {
-    pub(crate) salt: &'a [u8],
-    pub(crate) iterations: u64,
-}
-
 #[tactic(auto, unfolding(crate::specs::Reading::params_at))]
-pub(crate) fn params_view<'a>(r: &mut SliceReader<'a>) -> Result<ParamsView<'a>, asn1_core::Error>
-    ensures { ReadsAs params_at seen_params r.old.rest.now r.new.rest.now result }
+fn params_in_front(
+    alloc: Global,
+    r: &mut SliceReader<'_>,
+) -> Result<Pkcs12PbeParams, asn1_core::Error>
+    ensures exact { ReadsIn params_at (λ x. x) r.old.rest.now r.new.rest.now result }
+    ensures place { r.new.read + length r.new.rest.now ≡ r.old.read + length r.old.rest.now }
 {
     let mut ahead = *r;
     let mut body = read_inner(&mut ahead, Tag::SEQUENCE)?;
-    let salt = read_inner(&mut body, Tag::OCTET_STRING)?.rest;
+    let salt = read_inner(&mut body, Tag::OCTET_STRING)?;
     let iterations = read_uint(&mut body, u64::MAX)?;
     body.finish()?;
+    let salt = Octets::from_slice(alloc, salt.rest)?;
     *r = ahead;
-    Ok(ParamsView { salt, iterations })
+    Ok(Pkcs12PbeParams { salt, iterations })
 }
 
 /// That nothing stands, or NULL.
@@ -115,213 +85,114 @@ fn no_parameters(mut body: SliceReader<'_>) -> Result<(), asn1_core::Error>
     }
     let null = read_inner(&mut body, Tag::NULL)?;
     null.finish()?;
-    body.finish()?;
-    Ok(())
+    body.finish()
 }
 
-fn sha1_view<'a>(body: SliceReader<'a>) -> Result<AlgorithmView<'a>, asn1_core::Error>
-    ensures { Gives seen_algorithm result (digest_all algorithm.Sha1 body.rest.now) }
+fn sha1_parameters(body: SliceReader<'_>) -> Result<AlgorithmIdentifier, asn1_core::Error>
+    ensures { GivesIn (λ x. x) result (digest_all algorithm.Sha1 body.entry.rest.now) }
 {
     no_parameters(body)?;
-    Ok(AlgorithmView::Sha1)
+    Ok(AlgorithmIdentifier::Sha1)
 }
 
-fn sha256_view<'a>(body: SliceReader<'a>) -> Result<AlgorithmView<'a>, asn1_core::Error>
-    ensures { Gives seen_algorithm result (digest_all algorithm.Sha256 body.rest.now) }
+fn sha256_parameters(body: SliceReader<'_>) -> Result<AlgorithmIdentifier, asn1_core::Error>
+    ensures { GivesIn (λ x. x) result (digest_all algorithm.Sha256 body.entry.rest.now) }
 {
     no_parameters(body)?;
-    Ok(AlgorithmView::Sha256)
+    Ok(AlgorithmIdentifier::Sha256)
 }
 
-fn rc2_view<'a>(mut body: SliceReader<'a>) -> Result<AlgorithmView<'a>, asn1_core::Error>
-    ensures { Gives seen_algorithm result (rc2_all body.entry.rest.now) }
+fn rc2_parameters(
+    alloc: Global,
+    mut body: SliceReader<'_>,
+) -> Result<AlgorithmIdentifier, asn1_core::Error>
+    ensures { GivesIn (λ x. x) result (rc2_all body.entry.rest.now) }
 {
-    let params = params_view(&mut body)?;
+    let params = params_in_front(alloc, &mut body)?;
     body.finish()?;
-    Ok(AlgorithmView::Rc2 {
-        salt: params.salt,
-        iterations: params.iterations,
-    })
+    Ok(AlgorithmIdentifier::PbewithSHAAnd40BitRC2CBC(params))
 }
 
-fn triple_des_view<'a>(mut body: SliceReader<'a>) -> Result<AlgorithmView<'a>, asn1_core::Error>
-    ensures { Gives seen_algorithm result (triple_des_all body.entry.rest.now) }
+fn triple_des_parameters(
+    alloc: Global,
+    mut body: SliceReader<'_>,
+) -> Result<AlgorithmIdentifier, asn1_core::Error>
+    ensures { GivesIn (λ x. x) result (triple_des_all body.entry.rest.now) }
 {
-    let params = params_view(&mut body)?;
+    let params = params_in_front(alloc, &mut body)?;
     body.finish()?;
-    Ok(AlgorithmView::TripleDes {
-        salt: params.salt,
-        iterations: params.iterations,
-    })
+    Ok(AlgorithmIdentifier::PbeWithSHAAnd3KeyTripleDESCBC(params))
 }
 
-fn other_view<'a>(
+fn other_parameters(
+    alloc: Global,
     algorithm_type: ObjectIdentifier,
-    mut body: SliceReader<'a>,
-) -> Result<AlgorithmView<'a>, asn1_core::Error>
-    ensures { Gives seen_algorithm result (other_algorithm_all algorithm_type body.entry.rest.now) }
+    mut body: SliceReader<'_>,
+) -> Result<AlgorithmIdentifier, asn1_core::Error>
+    ensures { GivesIn (λ x. x) result (other_algorithm_all algorithm_type body.entry.rest.now) }
 {
     if body.is_finished() {
-        return Ok(AlgorithmView::Other {
+        return Ok(AlgorithmIdentifier::OtherAlg(OtherAlgorithmIdentifier {
             algorithm_type,
             params: None,
-        });
+        }));
     }
     let value = read_raw(&mut body)?;
     body.finish()?;
-    Ok(AlgorithmView::Other {
+    let params = Octets::from_slice(alloc, value)?;
+    Ok(AlgorithmIdentifier::OtherAlg(OtherAlgorithmIdentifier {
         algorithm_type,
-        params: Some(value),
-    })
+        params: Some(params),
+    }))
 }
 
-fn pbes2_view<'a>(
+fn pbes2_parameters(
+    alloc: Global,
     algorithm_type: ObjectIdentifier,
-    body: SliceReader<'a>,
-) -> Result<AlgorithmView<'a>, asn1_core::Error>
-    ensures { Gives seen_algorithm result (pbes2_all algorithm_type body.rest.now) }
+    body: SliceReader<'_>,
+) -> Result<AlgorithmIdentifier, asn1_core::Error>
+    ensures { GivesIn (λ x. x) result (pbes2_all algorithm_type body.entry.rest.now) }
 {
     match Parameters::from_der(body.rest) {
-        Ok(parameters) => Ok(AlgorithmView::Pbes2(parameters)),
-        Err(_) => other_view(algorithm_type, body),
+        Ok(parameters) => Ok(AlgorithmIdentifier::Pbes2(parameters)),
+        Err(_) => other_parameters(alloc, algorithm_type, body),
     }
 }
 
-fn view_of<'a>(
+fn algorithm_of(
+    alloc: Global,
     algorithm_type: ObjectIdentifier,
-    body: SliceReader<'a>,
-) -> Result<AlgorithmView<'a>, asn1_core::Error>
-    ensures { Gives seen_algorithm result (algorithm_all algorithm_type body.entry.rest.now) }
+    body: SliceReader<'_>,
+) -> Result<AlgorithmIdentifier, asn1_core::Error>
+    ensures { GivesIn (λ x. x) result (algorithm_all algorithm_type body.entry.rest.now) }
 {
     if algorithm_type == SHA1 {
-        sha1_view(body)
+        sha1_parameters(body)
     } else if algorithm_type == SHA256 {
-        sha256_view(body)
+        sha256_parameters(body)
     } else if algorithm_type == PBE_WITH_SHA1_AND_40BIT_RC2_CBC {
-        rc2_view(body)
+        rc2_parameters(alloc, body)
     } else if algorithm_type == PBE_WITH_SHA1_AND_3KEY_TRIPLE_DES_CBC {
-        triple_des_view(body)
+        triple_des_parameters(alloc, body)
     } else if algorithm_type == PBES2_OID {
-        pbes2_view(algorithm_type, body)
+        pbes2_parameters(alloc, algorithm_type, body)
     } else {
-        other_view(algorithm_type, body)
+        other_parameters(alloc, algorithm_type, body)
     }
 }
 
 #[tactic(auto, unfolding(crate::specs::Reading::algorithm_at))]
-pub(crate) fn algorithm_view<'a>(r: &mut SliceReader<'a>) -> Result<AlgorithmView<'a>, asn1_core::Error>
-    ensures { ReadsAs algorithm_at seen_algorithm r.old.rest.now r.new.rest.now result }
-{
-    let mut ahead = *r;
-    let mut body = read_inner(&mut ahead, Tag::SEQUENCE)?;
-    let algorithm_type = read_identifier(&mut body)?;
-    let algorithm = view_of(algorithm_type, body)?;
-    *r = ahead;
-    Ok(algorithm)
-}
-
-impl<'a> AlgorithmView<'a> {
-    /// The same in memory of its own. The only refusal is `Memory`.
-    pub(crate) fn owned(&self, alloc: Global) -> Result<AlgorithmIdentifier, asn1_core::Error>
-        ensures ok { IfOk result (λ a. a ≡ seen_algorithm self.now) }
-        ensures err { IfErr result (λ e. e ≡ asn1.Memory) }
-    {
-        Ok(match self {
-            AlgorithmView::Sha1 => AlgorithmIdentifier::Sha1,
-            AlgorithmView::Sha256 => AlgorithmIdentifier::Sha256,
-            AlgorithmView::Pbes2(parameters) => AlgorithmIdentifier::Pbes2(*parameters),
-            AlgorithmView::Rc2 { salt, iterations } => {
-                AlgorithmIdentifier::PbewithSHAAnd40BitRC2CBC(Pkcs12PbeParams {
-                    salt: Octets::from_slice(alloc, salt)?,
-                    iterations: *iterations,
-                })
-            }
-            AlgorithmView::TripleDes { salt, iterations } => {
-                AlgorithmIdentifier::PbeWithSHAAnd3KeyTripleDESCBC(Pkcs12PbeParams {
-                    salt: Octets::from_slice(alloc, salt)?,
-                    iterations: *iterations,
-                })
-            }
-            AlgorithmView::Other {
-                algorithm_type,
-                params,
-            } => {
-                let params = match params {
-                    Some(params) => Some(Octets::from_slice(alloc, params)?),
-                    None => None,
-                };
-                AlgorithmIdentifier::OtherAlg(OtherAlgorithmIdentifier {
-                    algorithm_type: *algorithm_type,
-                    params,
-                })
-            }
-        })
-    }
-}
-
-impl AlgorithmIdentifier {
-    /// The algorithm, borrowed.
-    pub(crate) fn view(&self) -> AlgorithmView<'_>
-        ensures { seen_algorithm result ≡ self.now }
-    {
-        match self {
-            AlgorithmIdentifier::Sha1 => AlgorithmView::Sha1,
-            AlgorithmIdentifier::Sha256 => AlgorithmView::Sha256,
-            AlgorithmIdentifier::PbewithSHAAnd40BitRC2CBC(params) => AlgorithmView::Rc2 {
-                salt: params.salt.as_slice(),
-                iterations: params.iterations,
-            },
-            AlgorithmIdentifier::PbeWithSHAAnd3KeyTripleDESCBC(params) => {
-                AlgorithmView::TripleDes {
-                    salt: params.salt.as_slice(),
-                    iterations: params.iterations,
-                }
-            }
-            AlgorithmIdentifier::Pbes2(parameters) => AlgorithmView::Pbes2(*parameters),
-            AlgorithmIdentifier::OtherAlg(other) => AlgorithmView::Other {
-                algorithm_type: other.algorithm_type,
-                params: match &other.params {
-                    Some(params) => Some(params.as_slice()),
-                    None => None,
-                },
-            },
-        }
-    }
-}
-
-impl<'a> ParamsView<'a> {
-    /// The same in memory of its own. The only refusal is `Memory`.
-    fn owned(&self, alloc: Global) -> Result<Pkcs12PbeParams, asn1_core::Error>
-        ensures ok { IfOk result (λ p. p ≡ seen_params self.now) }
-        ensures err { IfErr result (λ e. e ≡ asn1.Memory) }
-    {
-        Ok(Pkcs12PbeParams {
-            salt: Octets::from_slice(alloc, self.salt)?,
-            iterations: self.iterations,
-        })
-    }
-}
-
-fn params_in_front(
-    alloc: Global,
-    r: &mut SliceReader<'_>,
-) -> Result<Pkcs12PbeParams, asn1_core::Error>
-    ensures { ReadsIn params_at (λ x. x) r.old.rest.now r.new.rest.now result }
-{
-    let mut ahead = *r;
-    let params = params_view(&mut ahead)?.owned(alloc)?;
-    *r = ahead;
-    Ok(params)
-}
-
 pub(crate) fn algorithm_in_front(
     alloc: Global,
     r: &mut SliceReader<'_>,
 ) -> Result<AlgorithmIdentifier, asn1_core::Error>
-    ensures { ReadsIn algorithm_at (λ x. x) r.old.rest.now r.new.rest.now result }
+    ensures exact { ReadsIn algorithm_at (λ x. x) r.old.rest.now r.new.rest.now result }
+    ensures place { r.new.read + length r.new.rest.now ≡ r.old.read + length r.old.rest.now }
 {
     let mut ahead = *r;
-    let algorithm = algorithm_view(&mut ahead)?.owned(alloc)?;
+    let mut body = read_inner(&mut ahead, Tag::SEQUENCE)?;
+    let algorithm_type = read_identifier(&mut body)?;
+    let algorithm = algorithm_of(alloc, algorithm_type, body)?;
     *r = ahead;
     Ok(algorithm)
 }
@@ -329,7 +200,8 @@ pub(crate) fn algorithm_in_front(
 impl Pkcs12PbeParams {
     /// The parameters that stand next. `Malformed` exactly where none do; the reader then stands where it stood.
     pub fn parse(alloc: Global, r: &mut SliceReader<'_>) -> Result<Pkcs12PbeParams, Error>
-        ensures { Reads ParamsText r.old.rest.now r.new.rest.now result }
+        ensures stands { Reads ParamsText r.old.rest.now r.new.rest.now result }
+        ensures place { r.new.read + length r.new.rest.now ≡ r.old.read + length r.old.rest.now }
     {
         Ok(params_in_front(alloc, r)?)
     }
@@ -338,7 +210,8 @@ impl Pkcs12PbeParams {
 impl AlgorithmIdentifier {
     /// The algorithm that stands next. `Malformed` exactly where none does; the reader then stands where it stood.
     pub fn parse(alloc: Global, r: &mut SliceReader<'_>) -> Result<AlgorithmIdentifier, Error>
-        ensures { Reads AlgorithmText r.old.rest.now r.new.rest.now result }
+        ensures stands { Reads AlgorithmText r.old.rest.now r.new.rest.now result }
+        ensures place { r.new.read + length r.new.rest.now ≡ r.old.read + length r.old.rest.now }
     {
         Ok(algorithm_in_front(alloc, r)?)
     }

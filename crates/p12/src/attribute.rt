@@ -1,5 +1,5 @@
 //! Attributes of a bag.
-ghost use Rattle.std.specs.Prelude.{◌≡◌, ◌<◌, length, OnOk, IfOk, IfErr};
+ghost use Rattle.std.specs.Prelude.{◌+◌, ◌≡◌, ◌<◌, length, OnOk, IfOk, IfErr};
 ghost use Rattle.asn1_core.specs.Gives.{ReadsIn, GivesIn};
 ghost use Rattle.asn1_core.specs.Reading.{many, raw_at, inside_at};
 ghost use Rattle.asn1_core.specs.Fields.{latest};
@@ -130,6 +130,7 @@ fn attribute_in_front(
     r: &mut SliceReader<'_>,
 ) -> Result<PKCS12Attribute, asn1_core::Error>
     ensures exact { ReadsIn attribute_at (λ x. x) r.old.rest.now r.new.rest.now result }
+    ensures place { r.new.read + length r.new.rest.now ≡ r.old.read + length r.old.rest.now }
     ensures shorter { OnOk result (length r.new.rest.now < length r.old.rest.now) }
 {
     let mut ahead = *r;
@@ -173,7 +174,8 @@ pub(crate) fn attributes(
 impl PKCS12Attribute {
     /// The attribute that stands next. `Malformed` exactly where none does; the reader then stands where it stood.
     pub fn parse(alloc: Global, r: &mut SliceReader<'_>) -> Result<PKCS12Attribute, Error>
-        ensures { Reads AttributeText r.old.rest.now r.new.rest.now result }
+        ensures stands { Reads AttributeText r.old.rest.now r.new.rest.now result }
+        ensures place { r.new.read + length r.new.rest.now ≡ r.old.read + length r.old.rest.now }
     {
         Ok(attribute_in_front(alloc, r)?)
     }

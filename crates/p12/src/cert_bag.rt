@@ -1,5 +1,5 @@
 //! Certificate bags.
-ghost use Rattle.std.specs.Prelude.{◌≡◌, ◌<◌, length, OnOk, IfOk, IfErr};
+ghost use Rattle.std.specs.Prelude.{◌+◌, ◌≡◌, ◌<◌, length, OnOk, IfOk, IfErr};
 ghost use Rattle.asn1_core.specs.Gives.{ReadsIn, GivesIn};
 ghost use Rattle.p12.specs.CertBag.{CertBagText};
 ghost use Rattle.p12.specs.Error.{Reads};
@@ -64,7 +64,8 @@ pub(crate) fn certificate_in_front(
     alloc: Global,
     r: &mut SliceReader<'_>,
 ) -> Result<CertBag, asn1_core::Error>
-    ensures { ReadsIn cert_bag_at (λ x. x) r.old.rest.now r.new.rest.now result }
+    ensures exact { ReadsIn cert_bag_at (λ x. x) r.old.rest.now r.new.rest.now result }
+    ensures place { r.new.read + length r.new.rest.now ≡ r.old.read + length r.old.rest.now }
 {
     let mut ahead = *r;
     let mut body = read_inner(&mut ahead, Tag::SEQUENCE)?;
@@ -77,7 +78,8 @@ pub(crate) fn certificate_in_front(
 impl CertBag {
     /// The certificate that stands next. `Malformed` exactly where none does; the reader then stands where it stood.
     pub fn parse(alloc: Global, r: &mut SliceReader<'_>) -> Result<CertBag, Error>
-        ensures { Reads CertBagText r.old.rest.now r.new.rest.now result }
+        ensures stands { Reads CertBagText r.old.rest.now r.new.rest.now result }
+        ensures place { r.new.read + length r.new.rest.now ≡ r.old.read + length r.old.rest.now }
     {
         Ok(certificate_in_front(alloc, r)?)
     }

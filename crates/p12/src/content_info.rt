@@ -1,5 +1,5 @@
 //! Contents.
-ghost use Rattle.std.specs.Prelude.{◌≡◌, ◌<◌, ◌^◌, length, OnOk, IfOk, IfErr};
+ghost use Rattle.std.specs.Prelude.{◌+◌, ◌≡◌, ◌<◌, ◌^◌, length, OnOk, IfOk, IfErr};
 ghost use Rattle.asn1_core.specs.Gives.{ReadsIn, GivesIn};
 ghost use Rattle.asn1_core.specs.Reading.{many};
 ghost use Rattle.p12.specs.ContentInfo.{ContentText, content_oid, held, held_salt, plain_pbe, IsContents, NoContents};
@@ -99,6 +99,7 @@ pub(crate) fn content_in_front(
     r: &mut SliceReader<'_>,
 ) -> Result<ContentInfo, asn1_core::Error>
     ensures exact { ReadsIn content_at (λ x. x) r.old.rest.now r.new.rest.now result }
+    ensures place { r.new.read + length r.new.rest.now ≡ r.old.read + length r.old.rest.now }
     ensures shorter { OnOk result (length r.new.rest.now < length r.old.rest.now) }
 {
     let mut ahead = *r;
@@ -137,7 +138,8 @@ fn all_contents(alloc: Global, bytes: &[u8]) -> Result<Items<ContentInfo>, asn1_
 impl ContentInfo {
     /// The content that stands next. `Malformed` exactly where none does; the reader then stands where it stood.
     pub fn parse(alloc: Global, r: &mut SliceReader<'_>) -> Result<ContentInfo, Error>
-        ensures { Reads ContentText r.old.rest.now r.new.rest.now result }
+        ensures stands { Reads ContentText r.old.rest.now r.new.rest.now result }
+        ensures place { r.new.read + length r.new.rest.now ≡ r.old.read + length r.old.rest.now }
     {
         Ok(content_in_front(alloc, r)?)
     }

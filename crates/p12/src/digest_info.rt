@@ -1,12 +1,11 @@
 //! A digest and its algorithm.
-ghost use Rattle.std.specs.Prelude.{◌≡◌, ◌<◌, length, OnOk, IfOk, IfErr};
-ghost use Rattle.asn1_core.specs.Gives.{ReadsAs, ReadsIn};
+ghost use Rattle.std.specs.Prelude.{◌+◌, ◌≡◌, ◌<◌, length, OnOk, IfOk, IfErr};
+ghost use Rattle.asn1_core.specs.Gives.{ReadsIn, GivesIn};
 ghost use Rattle.p12.specs.DigestInfo.{DigestText};
 ghost use Rattle.p12.specs.Error.{Reads};
-ghost use Rattle.p12.specs.MacView.{seen_digest};
 ghost use Rattle.p12.specs.Reading.{digest_at};
 
-use crate::algorithm_identifier::{AlgorithmIdentifier, AlgorithmView, algorithm_view};
+use crate::algorithm_identifier::{AlgorithmIdentifier, algorithm_in_front};
 use crate::error::Error;
 use asn1_core::{Octets, Reader, SliceReader, Tag, read_inner};
 use std::alloc::Global;
@@ -22,38 +21,20 @@ pub struct DigestInfo {
     pub digest: Octets,
 }
 
-/// A digest and the algorithm that made it, which lend their octets.
-#[derive(Clone, Copy, Drop)]
-pub(crate) struct DigestView<'a> {
-    pub(crate) algorithm: AlgorithmView<'a>,
-    pub(crate) digest: &'a [u8],
-}
-
 #[tactic(auto, unfolding(crate::specs::Reading::digest_at))]
-pub(crate) fn digest_view<'a>(
-    r: &mut SliceReader<'a>,
-) -> Result<DigestView<'a>, asn1_core::Error>
-    ensures { ReadsAs digest_at seen_digest r.old.rest.now r.new.rest.now result }
-{
-    let mut ahead = *r;
-    let mut body = read_inner(&mut ahead, Tag::SEQUENCE)?;
-    let algorithm = algorithm_view(&mut body)?;
-    let digest = read_inner(&mut body, Tag::OCTET_STRING)?.rest;
-    body.finish()?;
-    *r = ahead;
-    Ok(DigestView { algorithm, digest })
-}
-
-fn digest_in_front(
+pub(crate) fn digest_in_front(
     alloc: Global,
     r: &mut SliceReader<'_>,
 ) -> Result<DigestInfo, asn1_core::Error>
-    ensures { ReadsIn digest_at (λ x. x) r.old.rest.now r.new.rest.now result }
+    ensures exact { ReadsIn digest_at (λ x. x) r.old.rest.now r.new.rest.now result }
+    ensures place { r.new.read + length r.new.rest.now ≡ r.old.read + length r.old.rest.now }
 {
     let mut ahead = *r;
-    let view = digest_view(&mut ahead)?;
-    let digest_algorithm = view.algorithm.owned(alloc)?;
-    let digest = Octets::from_slice(alloc, view.digest)?;
+    let mut body = read_inner(&mut ahead, Tag::SEQUENCE)?;
+    let digest_algorithm = algorithm_in_front(alloc, &mut body)?;
+    let digest = read_inner(&mut body, Tag::OCTET_STRING)?;
+    body.finish()?;
+    let digest = Octets::from_slice(alloc, digest.rest)?;
     *r = ahead;
     Ok(DigestInfo {
         digest_algorithm,
@@ -64,7 +45,8 @@ fn digest_in_front(
 impl DigestInfo {
     /// The digest that stands next. `Malformed` exactly where none does; the reader then stands where it stood.
     pub fn parse(alloc: Global, r: &mut SliceReader<'_>) -> Result<DigestInfo, Error>
-        ensures { Reads DigestText r.old.rest.now r.new.rest.now result }
+        ensures stands { Reads DigestText r.old.rest.now r.new.rest.now result }
+        ensures place { r.new.read + length r.new.rest.now ≡ r.old.read + length r.old.rest.now }
     {
         Ok(digest_in_front(alloc, r)?)
     }

@@ -1,5 +1,5 @@
 //! Encrypted contents.
-ghost use Rattle.std.specs.Prelude.{◌≡◌, ◌<◌, ◌^◌, length, OnOk, IfOk, IfErr};
+ghost use Rattle.std.specs.Prelude.{◌+◌, ◌≡◌, ◌<◌, ◌^◌, length, OnOk, IfOk, IfErr};
 ghost use Rattle.asn1_core.specs.Gives.{ReadsIn, GivesIn};
 ghost use Rattle.p12.specs.EncryptedData.{EncryptedContentText, EncryptedDataText};
 ghost use Rattle.p12.specs.Error.{Reads};
@@ -39,7 +39,8 @@ fn encrypted_content_in_front(
     alloc: Global,
     r: &mut SliceReader<'_>,
 ) -> Result<EncryptedContentInfo, asn1_core::Error>
-    ensures { ReadsIn encrypted_content_at (λ x. x) r.old.rest.now r.new.rest.now result }
+    ensures exact { ReadsIn encrypted_content_at (λ x. x) r.old.rest.now r.new.rest.now result }
+    ensures place { r.new.read + length r.new.rest.now ≡ r.old.read + length r.old.rest.now }
 {
     let mut ahead = *r;
     let mut body = read_inner(&mut ahead, Tag::SEQUENCE)?;
@@ -62,7 +63,8 @@ pub(crate) fn encrypted_data_in_front(
     alloc: Global,
     r: &mut SliceReader<'_>,
 ) -> Result<EncryptedData, asn1_core::Error>
-    ensures { ReadsIn encrypted_data_at (λ x. x) r.old.rest.now r.new.rest.now result }
+    ensures exact { ReadsIn encrypted_data_at (λ x. x) r.old.rest.now r.new.rest.now result }
+    ensures place { r.new.read + length r.new.rest.now ≡ r.old.read + length r.old.rest.now }
 {
     let mut ahead = *r;
     let mut body = read_inner(&mut ahead, Tag::SEQUENCE)?;
@@ -80,7 +82,8 @@ pub(crate) fn encrypted_data_in_front(
 impl EncryptedContentInfo {
     /// The encrypted octets that stand next. `Malformed` exactly where none do; the reader then stands where it stood.
     pub fn parse(alloc: Global, r: &mut SliceReader<'_>) -> Result<EncryptedContentInfo, Error>
-        ensures { Reads EncryptedContentText r.old.rest.now r.new.rest.now result }
+        ensures stands { Reads EncryptedContentText r.old.rest.now r.new.rest.now result }
+        ensures place { r.new.read + length r.new.rest.now ≡ r.old.read + length r.old.rest.now }
     {
         Ok(encrypted_content_in_front(alloc, r)?)
     }
@@ -89,7 +92,8 @@ impl EncryptedContentInfo {
 impl EncryptedData {
     /// The encrypted content that stands next. `Malformed` exactly where none does; the reader then stands where it stood.
     pub fn parse(alloc: Global, r: &mut SliceReader<'_>) -> Result<EncryptedData, Error>
-        ensures { Reads EncryptedDataText r.old.rest.now r.new.rest.now result }
+        ensures stands { Reads EncryptedDataText r.old.rest.now r.new.rest.now result }
+        ensures place { r.new.read + length r.new.rest.now ≡ r.old.read + length r.old.rest.now }
     {
         Ok(encrypted_data_in_front(alloc, r)?)
     }

@@ -1,5 +1,5 @@
 //! Encrypted private keys of a store.
-ghost use Rattle.std.specs.Prelude.{◌≡◌, ◌<◌, ◌^◌, length, OnOk, IfOk, IfErr};
+ghost use Rattle.std.specs.Prelude.{◌+◌, ◌≡◌, ◌<◌, ◌^◌, length, OnOk, IfOk, IfErr};
 ghost use Rattle.asn1_core.specs.Gives.{ReadsIn, GivesIn};
 ghost use Rattle.p12.specs.AlgorithmIdentifier.{salt_of, unlock_pbe};
 ghost use Rattle.p12.specs.EncryptedPrivateKeyInfo.{EncryptedKeyText};
@@ -27,7 +27,8 @@ pub(crate) fn encrypted_key_in_front(
     alloc: Global,
     r: &mut SliceReader<'_>,
 ) -> Result<EncryptedPrivateKeyInfo, asn1_core::Error>
-    ensures { ReadsIn encrypted_key_at (λ x. x) r.old.rest.now r.new.rest.now result }
+    ensures exact { ReadsIn encrypted_key_at (λ x. x) r.old.rest.now r.new.rest.now result }
+    ensures place { r.new.read + length r.new.rest.now ≡ r.old.read + length r.old.rest.now }
 {
     let mut ahead = *r;
     let mut body = read_inner(&mut ahead, Tag::SEQUENCE)?;
@@ -45,7 +46,8 @@ pub(crate) fn encrypted_key_in_front(
 impl EncryptedPrivateKeyInfo {
     /// The encrypted key that stands next. `Malformed` exactly where none does; the reader then stands where it stood.
     pub fn parse(alloc: Global, r: &mut SliceReader<'_>) -> Result<EncryptedPrivateKeyInfo, Error>
-        ensures { Reads EncryptedKeyText r.old.rest.now r.new.rest.now result }
+        ensures stands { Reads EncryptedKeyText r.old.rest.now r.new.rest.now result }
+        ensures place { r.new.read + length r.new.rest.now ≡ r.old.read + length r.old.rest.now }
     {
         Ok(encrypted_key_in_front(alloc, r)?)
     }

@@ -4,16 +4,13 @@ ghost use Rattle.mac_modes.specs.Hmac.{hmac};
 ghost use Rattle.std.specs.Str.{bytes_eq};
 ghost use Rattle.p12.specs.Derivation.{turns};
 ghost use Rattle.p12.specs.MacData.{has_mac, mac_agrees, mac_of, mac_steps, mac_under, mac_value};
-ghost use Rattle.p12.specs.MacView.{seen_mac};
-ghost use Rattle.p12.specs.Password.{bmp_password};
 ghost use Rattle.p12.specs.declared.algorithm_identifier.AlgorithmIdentifier.TheVariants as algorithm;
 
-use crate::algorithm_identifier::{AlgorithmIdentifier, AlgorithmView};
+use crate::algorithm_identifier::AlgorithmIdentifier;
 use crate::derivation::derive;
 use crate::digest_info::DigestInfo;
 use crate::error::Error;
-use crate::mac_data::{MacData, MacView};
-use crate::password::bmp_string;
+use crate::mac_data::MacData;
 use asn1_core::Octets;
 use mac_modes::{HashFn, Hmac, Prf, Sha1, Sha256};
 use std::alloc::Global;
@@ -64,7 +61,7 @@ fn mac_counted<H: HashFn, L: Ledger>(
 
 /// Whether the count is at least 1, and the digest the MAC of the content under the hash `H`.
 fn agrees_under<H: HashFn, L: Ledger>(
-    mac: &MacView<'_>,
+    mac: &MacData,
     alloc: Global,
     content: &[u8],
     password: &[u8],
@@ -72,9 +69,9 @@ fn agrees_under<H: HashFn, L: Ledger>(
 ) -> Result<bool, Error>
     requires block { H.BLOCK ≡ 64 }
     requires password { length password.now < 2 ^ 59 }
-    requires salt { length mac.now.salt.now < 2 ^ 59 }
+    requires salt { length mac.now.salt < 2 ^ 59 }
     ensures value { IfOk result (λ agrees. agrees ≡ (nat_lt 0 mac.now.iterations
-        && bytes_eq (mac_under H.digest H.OUTPUT password.now mac.now.salt.now mac.now.iterations content.now) mac.now.digest.now)) }
+        && bytes_eq (mac_under H.digest H.OUTPUT password.now mac.now.salt mac.now.iterations content.now) mac.now.mac.digest)) }
     ensures err { IfErr result (λ e. e ≡ Error.Memory) }
     ensures steps { OnOk result (steps.new ≡ steps.old + mac.now.iterations) }
     ensures at_most { (steps.old ≤ steps.new) × (steps.new ≤ steps.old + mac.now.iterations) }
@@ -82,61 +79,9 @@ fn agrees_under<H: HashFn, L: Ledger>(
     if mac.iterations == 0 {
         return Ok(false);
     }
-    let made = mac_counted::<H, L>(alloc, content, password, mac.salt, mac.iterations, steps)?;
-    Ok(made.as_slice() == mac.digest)
-}
-
-impl<'a> MacView<'a> {
-    /// `MacData::verify_mac_counted`.
-    #[tactic(auto, unfolding(crate::specs::MacData::mac_agrees, crate::specs::MacData::mac_value))]
-    fn agrees<L: Ledger>(
-        &self,
-        alloc: Global,
-        content: &[u8],
-        password: &[u8],
-        steps: &mut Steps<L>,
-    ) -> Result<bool, Error>
-        requires password { length password.now < 2 ^ 59 }
-        requires salt { length self.now.salt.now < 2 ^ 59 }
-        ensures value { IfOk result (λ agrees. agrees ≡ mac_agrees (seen_mac self.now) password.now content.now) }
-        ensures err { IfErr result (λ e. e ≡ Error.Memory) }
-        ensures steps { OnOk result (steps.new ≡ steps.old + mac_steps (seen_mac self.now)) }
-        ensures at_most { (steps.old ≤ steps.new) × (steps.new ≤ steps.old + mac_steps (seen_mac self.now)) }
-    {
-        match self.algorithm {
-            AlgorithmView::Sha1 => agrees_under::<Sha1, L>(self, alloc, content, password, steps),
-            AlgorithmView::Sha256 => {
-                agrees_under::<Sha256, L>(self, alloc, content, password, steps)
-            }
-            AlgorithmView::Rc2 { .. }
-            | AlgorithmView::TripleDes { .. }
-            | AlgorithmView::Pbes2(_)
-            | AlgorithmView::Other { .. } => Ok(false),
-        }
-    }
-
-    /// Whether the MAC of the content under a password is the digest: `MacData::verify_mac_counted` under `bmp_string` of the
-    /// password. The only refusal is `Memory`.
-    ///
-    /// Caller: the content has fewer than 2^32 octets, the password fewer than 2^57, the salt fewer than 2^59.
-    pub fn verify_counted<L: Ledger>(
-        &self,
-        alloc: Global,
-        content: &[u8],
-        password: &str,
-        steps: &mut Steps<L>,
-    ) -> Result<bool, Error>
-        requires content { length content.now < 2 ^ 32 }
-        requires password { length password.now < 2 ^ 57 }
-        requires salt { length self.now.salt.now < 2 ^ 59 }
-        ensures value { IfOk result (λ agrees. agrees ≡ mac_agrees (seen_mac self.now) (bmp_password password.now) content.now) }
-        ensures err { IfErr result (λ e. e ≡ Error.Memory) }
-        ensures steps { OnOk result (steps.new ≡ steps.old + mac_steps (seen_mac self.now)) }
-        ensures at_most { (steps.old ≤ steps.new) × (steps.new ≤ steps.old + mac_steps (seen_mac self.now)) }
-    {
-        let units = bmp_string(alloc, password)?;
-        self.agrees(alloc, content, units.as_slice(), steps)
-    }
+    let salt = mac.salt.as_slice();
+    let made = mac_counted::<H, L>(alloc, content, password, salt, mac.iterations, steps)?;
+    Ok(made.as_slice() == mac.mac.digest.as_slice())
 }
 
 fn mac_from<H: HashFn, L: Ledger>(
@@ -167,6 +112,7 @@ impl MacData {
     /// `Memory`. One step is taken for each hash of a round: the count under these two algorithms, and otherwise none.
     ///
     /// Caller: the content has fewer than 2^32 octets, password and salt fewer than 2^59 each.
+    #[tactic(auto, unfolding(crate::specs::MacData::mac_agrees, crate::specs::MacData::mac_value))]
     pub fn verify_mac_counted<L: Ledger>(
         &self,
         alloc: Global,
@@ -182,7 +128,18 @@ impl MacData {
         ensures steps { OnOk result (steps.new ≡ steps.old + mac_steps self.now) }
         ensures at_most { (steps.old ≤ steps.new) × (steps.new ≤ steps.old + mac_steps self.now) }
     {
-        self.view().agrees(alloc, content, password, steps)
+        match &self.mac.digest_algorithm {
+            AlgorithmIdentifier::Sha1 => {
+                agrees_under::<Sha1, L>(self, alloc, content, password, steps)
+            }
+            AlgorithmIdentifier::Sha256 => {
+                agrees_under::<Sha256, L>(self, alloc, content, password, steps)
+            }
+            AlgorithmIdentifier::PbewithSHAAnd40BitRC2CBC(_)
+            | AlgorithmIdentifier::PbeWithSHAAnd3KeyTripleDESCBC(_)
+            | AlgorithmIdentifier::Pbes2(_)
+            | AlgorithmIdentifier::OtherAlg(_) => Ok(false),
+        }
     }
 
     fn verify_mac_from<L: Ledger>(

@@ -1,5 +1,5 @@
 //! Stores.
-ghost use Rattle.std.specs.Prelude.{◌≡◌, ◌<◌, length, OnOk, IfOk, IfErr};
+ghost use Rattle.std.specs.Prelude.{◌+◌, ◌≡◌, ◌<◌, length, OnOk, IfOk, IfErr};
 ghost use Rattle.asn1_core.specs.Gives.{ReadsIn, GivesIn};
 ghost use Rattle.asn1_core.specs.Reading.{perhaps, whole};
 ghost use Rattle.p12.specs.Pfx.{IsStore, NoStore};
@@ -40,7 +40,8 @@ fn mac_if_there(
 
 #[tactic(auto, unfolding(crate::specs::Reading::pfx_at))]
 fn store_in_front(alloc: Global, r: &mut SliceReader<'_>) -> Result<PFX, asn1_core::Error>
-    ensures { ReadsIn pfx_at (λ x. x) r.old.rest.now r.new.rest.now result }
+    ensures exact { ReadsIn pfx_at (λ x. x) r.old.rest.now r.new.rest.now result }
+    ensures place { r.new.read + length r.new.rest.now ≡ r.old.read + length r.old.rest.now }
 {
     let mut ahead = *r;
     let mut body = read_inner(&mut ahead, Tag::SEQUENCE)?;

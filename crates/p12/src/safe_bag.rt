@@ -1,5 +1,5 @@
 //! Bags.
-ghost use Rattle.std.specs.Prelude.{◌≡◌, ◌<◌, ◌^◌, length, OnOk, IfOk, IfErr};
+ghost use Rattle.std.specs.Prelude.{◌+◌, ◌≡◌, ◌<◌, ◌^◌, length, OnOk, IfOk, IfErr};
 ghost use Rattle.asn1_core.specs.Gives.{ReadsIn, GivesIn};
 ghost use Rattle.asn1_core.specs.Reading.{many, whole};
 ghost use Rattle.p12.specs.SafeBag.{BagText, KindText, kind_oid, KindFits, key_of, x509_of, sdsi_of, first_name, first_key_id, IsBags, NoBags};
@@ -101,7 +101,8 @@ fn kind_in_front(
     r: &mut SliceReader<'_>,
     bag_id: ObjectIdentifier,
 ) -> Result<SafeBagKind, asn1_core::Error>
-    ensures { ReadsIn (kind_at bag_id) (λ x. x) r.old.rest.now r.new.rest.now result }
+    ensures exact { ReadsIn (kind_at bag_id) (λ x. x) r.old.rest.now r.new.rest.now result }
+    ensures place { r.new.read + length r.new.rest.now ≡ r.old.read + length r.old.rest.now }
 {
     let mut ahead = *r;
     let element = read_raw(&mut ahead)?;
@@ -116,6 +117,7 @@ pub(crate) fn bag_in_front(
     r: &mut SliceReader<'_>,
 ) -> Result<SafeBag, asn1_core::Error>
     ensures exact { ReadsIn bag_at (λ x. x) r.old.rest.now r.new.rest.now result }
+    ensures place { r.new.read + length r.new.rest.now ≡ r.old.read + length r.old.rest.now }
     ensures shorter { OnOk result (length r.new.rest.now < length r.old.rest.now) }
 {
     let mut ahead = *r;
@@ -153,7 +155,8 @@ fn all_bags(alloc: Global, bytes: &[u8]) -> Result<Items<SafeBag>, asn1_core::Er
 impl SafeBag {
     /// The bag that stands next. `Malformed` exactly where none does; the reader then stands where it stood.
     pub fn parse(alloc: Global, r: &mut SliceReader<'_>) -> Result<SafeBag, Error>
-        ensures { Reads BagText r.old.rest.now r.new.rest.now result }
+        ensures stands { Reads BagText r.old.rest.now r.new.rest.now result }
+        ensures place { r.new.read + length r.new.rest.now ≡ r.old.read + length r.old.rest.now }
     {
         Ok(bag_in_front(alloc, r)?)
     }
@@ -232,7 +235,8 @@ impl SafeBagKind {
         r: &mut SliceReader<'_>,
         bag_id: ObjectIdentifier,
     ) -> Result<SafeBagKind, Error>
-        ensures { Reads (KindText bag_id) r.old.rest.now r.new.rest.now result }
+        ensures stands { Reads (KindText bag_id) r.old.rest.now r.new.rest.now result }
+        ensures place { r.new.read + length r.new.rest.now ≡ r.old.read + length r.old.rest.now }
     {
         Ok(kind_in_front(alloc, r, bag_id)?)
     }

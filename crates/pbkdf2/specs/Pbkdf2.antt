@@ -1,12 +1,7 @@
 -- PBKDF2 (RFC 8018 section 5.2) over a function f of a message: the pseudorandom function under the password.
-use Rattle.std.specs.Prelude.{◌≡◌, ◌<◌, ◌≤◌, length, ℕ, zero, suc, ◌+◌, ◌-◌, ◌/◌, List, [], ◌∷◌, ◌++◌, take, bit_xor, max}
+use Rattle.std.specs.Prelude.{◌≡◌, ◌<◌, ◌≤◌, length, ℕ, zero, suc, ◌+◌, ◌-◌, ◌/◌, List, [], ◌++◌, take, max}
 use Rattle.std.specs.Int.{w32, to_be_bytes}
-
--- the xor of two texts, octet by octet
-abbrev pub xor_lists : List ℕ → List ℕ → List ℕ
-xor_lists [] ys = []
-xor_lists (x ∷ xs) [] = []
-xor_lists (x ∷ xs) (y ∷ ys) = bit_xor x y ∷ xor_lists xs ys
+use Rattle.block_core.specs.Bits.{xor_each}
 
 -- U of place j + 1, where `first` is U of place 1
 unfoldable pub chained : (List ℕ → List ℕ) → List ℕ → ℕ → List ℕ
@@ -16,7 +11,7 @@ chained f first (suc j) = f (chained f first j)
 -- the xor of U of the places 1 to j + 1
 unfoldable pub xor_through : (List ℕ → List ℕ) → List ℕ → ℕ → List ℕ
 xor_through f first zero = first
-xor_through f first (suc j) = xor_lists (xor_through f first j) (chained f first (suc j))
+xor_through f first (suc j) = xor_each (xor_through f first j) (chained f first (suc j))
 
 -- the block of number i, counted from 1, in r rounds; 0 rounds are one
 abbrev pub block : (List ℕ → List ℕ) → List ℕ → ℕ → ℕ → List ℕ
@@ -37,8 +32,14 @@ pbkdf2 f u salt r n = take n (blocks f salt r (block_count n u))
 
 -- a shorter output is a prefix of a longer one, for answers of u octets
 abbrev pub ShorterIsPrefix : Type 0
-ShorterIsPrefix = (f : List ℕ → List ℕ) (u : ℕ) (salt : List ℕ) (r m n : ℕ) → 0 < u → ((t : List ℕ) → length (f t) ≡ u) → m ≤ n → take m (pbkdf2 f u salt r n) ≡ pbkdf2 f u salt r m
+ShorterIsPrefix = (f : List ℕ → List ℕ) (u : ℕ) (salt : List ℕ) (r m n : ℕ) → 0 < u → ((t : List ℕ) → length (f t) ≡ u)
+    → m ≤ n → take m (pbkdf2 f u salt r n) ≡ pbkdf2 f u salt r m
 
 -- zero rounds are one round
 abbrev pub ZeroIsOne : Type 0
 ZeroIsOne = (f : List ℕ → List ℕ) (u : ℕ) (salt : List ℕ) (n : ℕ) → pbkdf2 f u salt 0 n ≡ pbkdf2 f u salt 1 n
+
+-- an output has as many octets as are asked for
+abbrev pub HasItsLength : Type 0
+HasItsLength = (f : List ℕ → List ℕ) (u : ℕ) (salt : List ℕ) (r n : ℕ) → 0 < u → ((t : List ℕ) → length (f t) ≡ u)
+    → length (pbkdf2 f u salt r n) ≡ n

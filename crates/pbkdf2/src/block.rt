@@ -1,19 +1,11 @@
 //! One block of PBKDF2.
 ghost use Rattle.std.specs.Prelude.{◌≡◌, ℕ, ◌+◌, List, [], take, max};
-ghost use Rattle.pbkdf2.specs.Pbkdf2.{xor_lists, block};
+ghost use Rattle.pbkdf2.specs.Pbkdf2.{block};
 
-use mac_modes::Prf;
+use block_core::xor_into;
+use mac_modes::{Prf, answer_at};
 use std::sync::ledger::Ledger;
 use steps::Steps;
-
-/// Xors each octet of `sum` with the one of `other` at its place.
-fn xor_into(sum: &mut [u8; 64], other: &[u8; 64])
-    ensures { sum.new ≡ xor_lists sum.old other.now }
-{
-    for i in 0..64 {
-        sum[i] ^= other[i];
-    }
-}
 
 /// The block of this number, counted from 1, in the first `P::OUTPUT` of 64 octets. `keyed` is the function under the
 /// password, before its first piece. Each answer of the function is a step.
@@ -35,9 +27,8 @@ pub(crate) fn derive_block<P: Prf, L: Ledger>(
     steps.tick();
     let mut sum = last;
     for turn in 0..rounds.max(1) - 1 {
-        let mut next = keyed.copy();
-        next.update(&last[..P::OUTPUT]);
-        next.finalize_into(&mut last);
+        let message = last;
+        answer_at(keyed, &message[..P::OUTPUT], &mut last);
         steps.tick();
         xor_into(&mut sum, &last);
     }

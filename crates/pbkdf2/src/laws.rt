@@ -1,5 +1,5 @@
 //! Laws of PBKDF2, each stated by the contract of a function that does nothing.
-ghost use Rattle.pbkdf2.specs.Pbkdf2.{ShorterIsPrefix, ZeroIsOne};
+ghost use Rattle.pbkdf2.specs.Pbkdf2.{HasItsLength, ShorterIsPrefix, ZeroIsOne};
 
 /// For one function, salt and number of rounds a shorter output is a prefix of a longer one.
 #[tactic(auto, using(crate::proofs::Xors::shorter_is_prefix))]
@@ -11,4 +11,10 @@ pub fn shorter_output_is_a_prefix()
 #[tactic(auto, using(crate::proofs::Xors::zero_is_one))]
 pub fn zero_rounds_is_one_round()
     ensures { ZeroIsOne }
+{}
+
+/// An output has as many octets as are asked for.
+#[tactic(auto, using(crate::proofs::Xors::has_its_length))]
+pub fn output_has_its_length()
+    ensures { HasItsLength }
 {}

@@ -20,7 +20,7 @@ pub fn pbkdf2_hmac<H: HashFn>(password: &[u8], salt: &[u8], rounds: u32, res: &m
     let _ = pbkdf2::<Hmac<H>>(password, salt, rounds, res);
 }
 
-/// `pbkdf2_hmac` that counts a step for each answer of HMAC: `max(rounds, 1)` times the blocks of `res`.
+/// `pbkdf2_hmac` that counts each answer of HMAC as a step.
 pub fn pbkdf2_hmac_counted<H: HashFn, L: Ledger>(
     password: &[u8],
     salt: &[u8],
@@ -29,7 +29,7 @@ pub fn pbkdf2_hmac_counted<H: HashFn, L: Ledger>(
     steps: &mut Steps<L>,
 )
     requires { block_count (length res.old) H.OUTPUT < 2 ^ 32 }
-    ensures key { res.new ≡ pbkdf2 (hmac H.digest H.BLOCK password.now) H.OUTPUT salt.now rounds (length res.old) }
+    ensures value { res.new ≡ pbkdf2 (hmac H.digest H.BLOCK password.now) H.OUTPUT salt.now rounds (length res.old) }
     ensures steps { steps.new ≡ steps.old + max rounds 1 * block_count (length res.old) H.OUTPUT }
 {
     let _ = pbkdf2_counted::<Hmac<H>, L>(password, salt, rounds, res, steps);

@@ -1,5 +1,6 @@
 -- lemmas only: nothing to believe here
 -- The cipher of PBES2 is read exactly, and what is written of one is read again.
+use Rattle.std.specs.Prelude.{◌↔◌}
 use Rattle.std.proofs.Common.{if◌then◌else◌, ◌≡◌, ℕ, List, ◌++◌, length, Option, Some, None, Ok, refl, sym, ap, subst, ◌∙◌, IsTrue, nat_eq}
 use Rattle.std.proofs.lemmas.Bool.{eqb-true, eq-eqb}
 use Rattle.std.specs.Str.{bytes_eq}
@@ -96,5 +97,8 @@ cipher-exact = within-exact 0x30 CipherOf cipher_of refl cipher_of-exact
 pub cipher_canonical : (c : EncryptionScheme) → IsCipher c → CipherText (el 0x30 (cipher_content c)) c
 cipher_canonical c h = (cipher_content c, (h, refl), refl)
 
-pub cipher_spelled : (b : List ℕ) (c : EncryptionScheme) → CipherText b c → b ≡ el 0x30 (cipher_content c)
-cipher_spelled b c (w, (h, is), e) = e ∙ ap (λ (l : List ℕ). el 0x30 l) is
+pub cipher_spelled : (b : List ℕ) (c : EncryptionScheme) → CipherText b c ↔ (IsCipher c × (b ≡ el 0x30 (cipher_content c)))
+cipher_spelled b c = (
+  λ r. (r.1.0, r.2 ∙ ap (λ (l : List ℕ). el 0x30 l) r.1.1),
+  λ h. (cipher_content c, (h.0, refl), h.1),
+)

@@ -10,7 +10,7 @@ use Rattle.der_core.specs.Any.{any_at}
 use Rattle.spki.specs.Algorithm.{algorithm}
 use Rattle.spki.specs.Seen.{AnyAlgorithm}
 use Rattle.pkcs5.specs.Identifiers.{pbkdf2_oid}
-use Rattle.pkcs5.specs.Pbkdf2Params.{Pbkdf2ParamsText, pbkdf2_params_content, ArePbkdf2Params, other_pbkdf2_params, pbkdf2_params_in}
+use Rattle.pkcs5.specs.Pbkdf2Params.{Pbkdf2ParamsText, pbkdf2_params_content, ArePbkdf2Params, SpellsPbkdf2Params, pbkdf2_params_in}
 use Rattle.pkcs5.specs.declared.pbes2.kdf.Kdf.{Kdf}
 use Rattle.pkcs5.specs.declared.pbes2.kdf.Kdf.TheVariants.{Pbkdf2}
 
@@ -30,9 +30,9 @@ kdf_content (Pbkdf2 v) = oid pbkdf2_oid ++ el 0x30 (pbkdf2_params_content v)
 abbrev pub IsKdf : Kdf → Type 0
 IsKdf (Pbkdf2 v) = ArePbkdf2Params v
 
--- another spelling: one of the parameters
-abbrev pub other_kdf : List ℕ → Kdf → Type 0
-other_kdf b (Pbkdf2 v) = (p : List ℕ) × other_pbkdf2_params p v × (b ≡ seq (oid pbkdf2_oid ++ p))
+-- which texts spell a function: its identifier, and a spelling of its parameters
+abbrev pub SpellsKdf : List ℕ → Kdf → Type 0
+SpellsKdf b (Pbkdf2 v) = (p : List ℕ) × SpellsPbkdf2Params p v × (b ≡ seq (oid pbkdf2_oid ++ p))
 
 -- ---- reading
 

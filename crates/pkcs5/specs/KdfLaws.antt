@@ -1,5 +1,6 @@
 -- lemmas only: nothing to believe here
 -- The key derivation function of PBES2 is read exactly, and what is written of one is read again.
+use Rattle.std.specs.Prelude.{◌↔◌}
 use Rattle.std.proofs.Common.{◌≡◌, ℕ, List, ◌++◌, refl, sym, ap, subst, ◌∙◌, inl, inr, ◌⊎◌}
 use Rattle.asn1_core.specs.Der.{el, oid, seq}
 use Rattle.asn1_core.specs.Reading.{UnknownOid}
@@ -10,7 +11,7 @@ use Rattle.spki.specs.Algorithm.{AlgorithmOf}
 use Rattle.pkcs5.specs.Identifiers.{pbkdf2_oid}
 use Rattle.pkcs5.specs.Pbkdf2Params.{Pbkdf2ParamsOf, pbkdf2_params_of, pbkdf2_params_content}
 use Rattle.pkcs5.specs.Pbkdf2ParamsLaws.{pbkdf2_params_of-exact, pbkdf2_params_canonical, pbkdf2_params_spelled}
-use Rattle.pkcs5.specs.Kdf.{KdfOf, KdfText, kdf_content, IsKdf, other_kdf, kdf_in, kdf_of, kdf_at}
+use Rattle.pkcs5.specs.Kdf.{KdfOf, KdfText, kdf_content, IsKdf, SpellsKdf, kdf_in, kdf_of, kdf_at}
 use Rattle.pkcs5.specs.JudgedLaws.{Judges, one-judges, late-exact, same_judges}
 use Rattle.pkcs5.specs.declared.pbes2.pbkdf2_params.Pbkdf2Params.{Pbkdf2Params}
 use Rattle.pkcs5.specs.declared.pbes2.kdf.Kdf.{Kdf}
@@ -41,10 +42,13 @@ kdf-exact = within-exact 0x30 KdfOf kdf_of refl kdf_of-exact
 pub kdf_canonical : (k : Kdf) → IsKdf k → KdfText (el 0x30 (kdf_content k)) k
 kdf_canonical (Pbkdf2 v) h = (kdf_content (Pbkdf2 v), (el 0x30 (pbkdf2_params_content v), pbkdf2_params_canonical v h, refl), refl)
 
-pub kdf_spelled : (b : List ℕ) (k : Kdf) → KdfText b k → (b ≡ el 0x30 (kdf_content k)) ⊎ other_kdf b k
-kdf_spelled b (Pbkdf2 v) (w, (p, r, is), e) =
-    let here : b ≡ seq (oid pbkdf2_oid ++ p) = e ∙ ap (λ (l : List ℕ). seq l) is in
-    elim (pbkdf2_params_spelled p v r) [
-      | inl x ↦ inl (here ∙ ap (λ (l : List ℕ). seq (oid pbkdf2_oid ++ l)) x)
-      | inr x ↦ inr (p, x, here)
-    ]
+spelled_to : (b : List ℕ) (k : Kdf) → KdfText b k → IsKdf k × SpellsKdf b k
+spelled_to b (Pbkdf2 v) (w, (p, r, is), e) =
+    let h = (pbkdf2_params_spelled p v).0 r in
+    (h.0, (p, h.1, e ∙ ap (λ (l : List ℕ). seq l) is))
+
+spelled_from : (b : List ℕ) (k : Kdf) → IsKdf k → SpellsKdf b k → KdfText b k
+spelled_from b (Pbkdf2 v) h (p, s, e) = (oid pbkdf2_oid ++ p, (p, (pbkdf2_params_spelled p v).1 (h, s), refl), e)
+
+pub kdf_spelled : (b : List ℕ) (k : Kdf) → KdfText b k ↔ (IsKdf k × SpellsKdf b k)
+kdf_spelled b k = (spelled_to b k, λ h. spelled_from b k h.0 h.1)

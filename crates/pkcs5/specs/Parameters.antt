@@ -5,7 +5,7 @@ use Rattle.asn1_core.specs.Reading.{Fault, All, Front, ◌>>=◌, any_tag, on, e
 use Rattle.asn1_core.specs.Texts.{Within}
 use Rattle.der_core.specs.Any.{any_at}
 use Rattle.spki.specs.Algorithm.{algorithm_at}
-use Rattle.pkcs5.specs.Kdf.{KdfText, kdf_content, IsKdf, other_kdf, kdf_in}
+use Rattle.pkcs5.specs.Kdf.{KdfText, kdf_content, IsKdf, SpellsKdf, kdf_in}
 use Rattle.pkcs5.specs.Cipher.{CipherText, cipher_content, IsCipher, cipher_in}
 use Rattle.pkcs5.specs.declared.pbes2.kdf.Kdf.{Kdf}
 use Rattle.pkcs5.specs.declared.pbes2.encryption_scheme.EncryptionScheme.{EncryptionScheme}
@@ -30,9 +30,9 @@ parameters_content v = el 0x30 (kdf_content v.kdf) ++ el 0x30 (cipher_content v.
 abbrev pub AreParameters : Parameters → Type 0
 AreParameters v = IsKdf v.kdf × IsCipher v.encryption
 
--- another spelling: one of the function
-abbrev pub other_parameters : List ℕ → Parameters → Type 0
-other_parameters b v = (k : List ℕ) × other_kdf k v.kdf × (b ≡ seq (k ++ el 0x30 (cipher_content v.encryption)))
+-- which texts spell the parameters: a spelling of the function, and the cipher
+abbrev pub SpellsParameters : List ℕ → Parameters → Type 0
+SpellsParameters b v = (k : List ℕ) × SpellsKdf k v.kdf × (b ≡ seq (k ++ seq (cipher_content v.encryption)))
 
 -- ---- reading
 

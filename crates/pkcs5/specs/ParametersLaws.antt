@@ -1,5 +1,6 @@
 -- lemmas only: nothing to believe here
 -- The parameters of PBES2 are read exactly, and what is written of them is read again.
+use Rattle.std.specs.Prelude.{◌↔◌}
 use Rattle.std.proofs.Common.{◌≡◌, ℕ, List, ◌++◌, refl, sym, ap, subst, ◌∙◌, inl, inr, ◌⊎◌}
 use Rattle.asn1_core.specs.Der.{el, seq}
 use Rattle.asn1_core.specs.Reading.{any_tag}
@@ -14,7 +15,7 @@ use Rattle.pkcs5.specs.Kdf.{KdfOf, KdfText, kdf_content, kdf_in}
 use Rattle.pkcs5.specs.KdfLaws.{kdf-judges, kdf_canonical, kdf_spelled}
 use Rattle.pkcs5.specs.Cipher.{CipherOf, CipherText, cipher_content, cipher_in}
 use Rattle.pkcs5.specs.CipherLaws.{cipher-judges, cipher_canonical, cipher_spelled}
-use Rattle.pkcs5.specs.Parameters.{parameters, ParametersOf, ParametersText, parameters_content, AreParameters, other_parameters, parameters_of, parameters_at}
+use Rattle.pkcs5.specs.Parameters.{parameters, ParametersOf, ParametersText, parameters_content, AreParameters, SpellsParameters, parameters_of, parameters_at}
 use Rattle.pkcs5.specs.JudgedLaws.{inside_judges, Together, together-exact}
 use Rattle.pkcs5.specs.declared.pbes2.parameters.Parameters.{Parameters}
 
@@ -45,10 +46,15 @@ parameters-exact = within-exact 0x30 ParametersOf parameters_of refl parameters_
 pub parameters_canonical : (v : Parameters) → AreParameters v → ParametersText (el 0x30 (parameters_content v)) v
 parameters_canonical v h = (parameters_content v, (el 0x30 (kdf_content v.kdf), el 0x30 (cipher_content v.encryption), kdf_canonical v.kdf h.0, cipher_canonical v.encryption h.1, refl), refl)
 
-pub parameters_spelled : (b : List ℕ) (v : Parameters) → ParametersText b v → (b ≡ el 0x30 (parameters_content v)) ⊎ other_parameters b v
-parameters_spelled b v (w, (k, c, r, s, is), e) =
-    let here : b ≡ seq (k ++ el 0x30 (cipher_content v.encryption)) = e ∙ ap (λ (l : List ℕ). seq l) (is ∙ ap (λ (l : List ℕ). k ++ l) (cipher_spelled c v.encryption s)) in
-    elim (kdf_spelled k v.kdf r) [
-      | inl x ↦ inl (here ∙ ap (λ (l : List ℕ). seq (l ++ el 0x30 (cipher_content v.encryption))) x)
-      | inr x ↦ inr (k, x, here)
-    ]
+spelled_to : (b : List ℕ) (v : Parameters) → ParametersText b v → AreParameters v × SpellsParameters b v
+spelled_to b v (w, (k, c, r, s, is), e) =
+    let one = (kdf_spelled k v.kdf).0 r in
+    let two = (cipher_spelled c v.encryption).0 s in
+    ((one.0, two.0), (k, one.1, e ∙ ap (λ (l : List ℕ). seq l) (is ∙ ap (λ (l : List ℕ). k ++ l) two.1)))
+
+spelled_from : (b : List ℕ) (v : Parameters) → AreParameters v × SpellsParameters b v → ParametersText b v
+spelled_from b v (h, (k, s, e)) =
+    (k ++ seq (cipher_content v.encryption), (k, seq (cipher_content v.encryption), (kdf_spelled k v.kdf).1 (h.0, s), cipher_canonical v.encryption h.1, refl), e)
+
+pub parameters_spelled : (b : List ℕ) (v : Parameters) → ParametersText b v ↔ (AreParameters v × SpellsParameters b v)
+parameters_spelled b v = (spelled_to b v, spelled_from b v)

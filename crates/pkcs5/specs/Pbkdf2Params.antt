@@ -1,12 +1,12 @@
 -- PBKDF2-params (RFC 8018 appendix A.2): SEQUENCE { salt, iterationCount, keyLength OPTIONAL, prf DEFAULT algid-hmacWithSHA1 }.
-use Rattle.std.specs.Prelude.{◌≡◌, ◌≢◌, ◌⊎◌, ◌≤◌, ℕ, List, ◌++◌, Option, Some, None, Result, ◌==◌}
+use Rattle.std.specs.Prelude.{◌≡◌, ◌≤◌, ℕ, List, ◌++◌, Option, Some, None, Result, ◌==◌}
 use Rattle.asn1_core.specs.Der.{octets, uint, seq, el}
 use Rattle.asn1_core.specs.Fields.{OrNothing}
 use Rattle.asn1_core.specs.Reading.{Fault, All, Front, whole, on, ended, within, option_at, uint_at}
 use Rattle.asn1_core.specs.Texts.{Within, Uint, Perhaps}
 use Rattle.der_core.specs.Optional.{canon_option, writable_option}
 use Rattle.pkcs5.specs.Salt.{IsSalt, SaltOf, salt_of}
-use Rattle.pkcs5.specs.Pbkdf2Prf.{PrfText, prf_content, prf_without_null, prf_of}
+use Rattle.pkcs5.specs.Pbkdf2Prf.{PrfText, SpellsPrf, prf_content, prf_of}
 use Rattle.pkcs5.specs.declared.pbes2.pbkdf2_params.Pbkdf2Params.{Pbkdf2Params}
 use Rattle.pkcs5.specs.declared.pbes2.pbkdf2_prf.Pbkdf2Prf.{Pbkdf2Prf}
 use Rattle.pkcs5.specs.declared.pbes2.pbkdf2_prf.Pbkdf2Prf.TheVariants.{HmacWithSha1, HmacWithSha224, HmacWithSha256, HmacWithSha384, HmacWithSha512}
@@ -45,17 +45,9 @@ pbkdf2_params_content v = before_prf v ++ canon_option (λ f. el 0x30 (prf_conte
 abbrev pub ArePbkdf2Params : Pbkdf2Params → Type 0
 ArePbkdf2Params v = IsSalt v.salt × (v.iteration_count ≤ 4294967295) × writable_option (λ n. n ≤ 65535) v.key_length
 
--- HMAC over SHA-1 is written, with NULL or without
-abbrev pub written_prf : List ℕ → Pbkdf2Prf → Type 0
-written_prf b f = (f ≡ HmacWithSha1) × PrfText b f
-
--- another spelling of the function in parameters: HMAC over SHA-1 is written, or another function has no NULL
-abbrev pub other_prf : List ℕ → Pbkdf2Prf → Type 0
-other_prf b f = written_prf b f ⊎ ((f ≢ HmacWithSha1) × prf_without_null b f)
-
--- another spelling: one of the function
-abbrev pub other_pbkdf2_params : List ℕ → Pbkdf2Params → Type 0
-other_pbkdf2_params b v = (f : List ℕ) × other_prf f v.prf × (b ≡ seq (before_prf v ++ f))
+-- which texts spell the parameters: HMAC over SHA-1 is left out, or the function is spelled
+abbrev pub SpellsPbkdf2Params : List ℕ → Pbkdf2Params → Type 0
+SpellsPbkdf2Params b v = (f : List ℕ) × OrNothing HmacWithSha1 SpellsPrf f v.prf × (b ≡ seq (before_prf v ++ f))
 
 -- ---- reading
 

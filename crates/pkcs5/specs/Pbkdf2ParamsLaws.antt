@@ -1,6 +1,7 @@
 -- lemmas only: nothing to believe here
 -- Salts and the parameters of PBKDF2 are read exactly, and what is written of them is read again.
-use Rattle.std.proofs.Common.{◌≡◌, ◌≢◌, ℕ, ◌<◌, ◌≤◌, false, List, [], ◌∷◌, ◌++◌, length, Option, Some, None, Ok, refl, sym, ap, subst, ◌∙◌, append_assoc, arith, inl, inr, ◌⊎◌, IsTrue, nat_lt, nat_eq}
+use Rattle.std.specs.Prelude.{◌↔◌}
+use Rattle.std.proofs.Common.{◌≡◌, ℕ, ◌<◌, ◌≤◌, false, List, [], ◌∷◌, ◌++◌, length, Option, Some, None, Ok, refl, sym, ap, subst, ◌∙◌, append_assoc, arith, inl, inr, ◌⊎◌, IsTrue, nat_lt, nat_eq}
 use Rattle.std.proofs.lemmas.Bool.{ltb-true, lt-ltb}
 use Rattle.std.proofs.lemmas.List.{append-nil}
 use Rattle.asn1_core.specs.Der.{el, octets, uint, seq, shortest, is_tag}
@@ -13,9 +14,9 @@ use Rattle.asn1_core.specs.NumberLaws.{uint-exact}
 use Rattle.asn1_core.specs.OptionLaws.{OnOption, on_option-exact}
 use Rattle.der_core.specs.Optional.{canon_option, writable_option}
 use Rattle.pkcs5.specs.Salt.{IsSalt, SaltOf, salt_of}
-use Rattle.pkcs5.specs.Pbkdf2Prf.{PrfOf, PrfText, prf_content, prf_of}
+use Rattle.pkcs5.specs.Pbkdf2Prf.{PrfOf, PrfText, SpellsPrf, prf_content, prf_of}
 use Rattle.pkcs5.specs.PrfLaws.{prf-exact, prf_canonical, prf_spelled}
-use Rattle.pkcs5.specs.Pbkdf2Params.{pbkdf2_params, Pbkdf2ParamsOf, Pbkdf2ParamsText, stated_prf, before_prf, pbkdf2_params_content, ArePbkdf2Params, other_prf, other_pbkdf2_params, prf_or_default, pbkdf2_params_of}
+use Rattle.pkcs5.specs.Pbkdf2Params.{pbkdf2_params, Pbkdf2ParamsOf, Pbkdf2ParamsText, stated_prf, before_prf, pbkdf2_params_content, ArePbkdf2Params, SpellsPbkdf2Params, prf_or_default, pbkdf2_params_of}
 use Rattle.pkcs5.specs.declared.pbes2.pbkdf2_params.Pbkdf2Params.{Pbkdf2Params}
 use Rattle.pkcs5.specs.declared.pbes2.pbkdf2_prf.Pbkdf2Prf.{Pbkdf2Prf}
 use Rattle.pkcs5.specs.declared.pbes2.pbkdf2_prf.Pbkdf2Prf.TheVariants.{HmacWithSha1, HmacWithSha224, HmacWithSha256, HmacWithSha384, HmacWithSha512}
@@ -38,8 +39,11 @@ salt_of-exact = record {
 pub salt_canonical : (s : List ℕ) → IsSalt s → Within 4 SaltOf (el 4 s) s
 salt_canonical s h = (s, (refl, h), refl)
 
-pub salt_spelled : (s b : List ℕ) → Within 4 SaltOf b s → b ≡ el 4 s
-salt_spelled s b r = r.2 ∙ ap (λ (l : List ℕ). el 4 l) (sym r.1.0)
+pub salt_spelled : (b s : List ℕ) → Within 4 SaltOf b s ↔ (IsSalt s × (b ≡ octets s))
+salt_spelled b s = (
+  λ r. (r.1.1, r.2 ∙ ap (λ (l : List ℕ). el 4 l) (sym r.1.0)),
+  λ h. (s, (refl, h.0), h.1),
+)
 
 -- ---- parameters
 
@@ -141,34 +145,43 @@ pbkdf2_params_canonical v h = (
   refl,
 )
 
-length_spelled : (k : Option ℕ) (b : List ℕ) → Perhaps (Uint 65535) b k → b ≡ canon_option uint k
-length_spelled None b r = r
-length_spelled (Some n) b r = r.2 ∙ ap (λ (l : List ℕ). el 2 l) r.1.1
+length_spelled : (k : Option ℕ) (b : List ℕ) → Perhaps (Uint 65535) b k → writable_option (λ n. n ≤ 65535) k × (b ≡ canon_option uint k)
+length_spelled None b r = (tt, r)
+length_spelled (Some n) b r = (r.1.0, r.2 ∙ ap (λ (l : List ℕ). el 2 l) r.1.1)
 
-abbrev written : Pbkdf2Prf → List ℕ
-written f = canon_option (λ f. el 0x30 (prf_content f)) (stated_prf f)
+-- the function is left out, or spelled
+prf_spelled_to : (b : List ℕ) (f : Pbkdf2Prf) → OrNothing HmacWithSha1 PrfText b f → OrNothing HmacWithSha1 SpellsPrf b f
+prf_spelled_to b f (inl r) = inl r
+prf_spelled_to b f (inr r) = inr ((prf_spelled b f).0 r).1
 
--- a function that is read is written so, or spelled in another way
-other_read : (b : List ℕ) (f : Pbkdf2Prf) → f ≢ HmacWithSha1 → written f ≡ el 0x30 (prf_content f) → OrNothing HmacWithSha1 PrfText b f → (b ≡ written f) ⊎ other_prf b f
-other_read b f differ is (inl r) = absurd (differ r.1)
-other_read b f differ is (inr r) = elim (prf_spelled b f r) [ inl x ↦ inl (x ∙ sym is) | inr x ↦ inr (inr (differ, x)) ]
+prf_spelled_from : (b : List ℕ) (f : Pbkdf2Prf) → OrNothing HmacWithSha1 SpellsPrf b f → OrNothing HmacWithSha1 PrfText b f
+prf_spelled_from b f (inl r) = inl r
+prf_spelled_from b f (inr r) = inr ((prf_spelled b f).1 (tt, r))
 
-prf_read : (b : List ℕ) (f : Pbkdf2Prf) → OrNothing HmacWithSha1 PrfText b f → (b ≡ written f) ⊎ other_prf b f
-prf_read b HmacWithSha1 (inl r) = inl r.0
-prf_read b HmacWithSha1 (inr r) = inr (inl (refl, r))
-prf_read b HmacWithSha224 r = other_read b HmacWithSha224 (λ e. cc) refl r
-prf_read b HmacWithSha256 r = other_read b HmacWithSha256 (λ e. cc) refl r
-prf_read b HmacWithSha384 r = other_read b HmacWithSha384 (λ e. cc) refl r
-prf_read b HmacWithSha512 r = other_read b HmacWithSha512 (λ e. cc) refl r
-
-pub pbkdf2_params_spelled : (b : List ℕ) (v : Pbkdf2Params) → Pbkdf2ParamsText b v → (b ≡ el 0x30 (pbkdf2_params_content v)) ⊎ other_pbkdf2_params b v
-pbkdf2_params_spelled b v (w, (s, n, k, f, h, g, r, x, is), e) =
-    let salt : s ≡ octets v.salt = salt_spelled v.salt s h in
+spelled_to : (b : List ℕ) (v : Pbkdf2Params) → Pbkdf2ParamsText b v → ArePbkdf2Params v × SpellsPbkdf2Params b v
+spelled_to b v (w, (s, n, k, f, h, g, r, x, is), e) =
+    let salt = (salt_spelled s v.salt).0 h in
     let count : n ≡ uint v.iteration_count = g.2 ∙ ap (λ (l : List ℕ). el 2 l) g.1.1 in
-    let long : k ≡ canon_option uint v.key_length = length_spelled v.key_length k r in
-    let front : s ++ n ++ k ≡ before_prf v = rw (salt, count, long) refl in
-    let here : b ≡ seq (before_prf v ++ f) = e ∙ ap (λ (l : List ℕ). seq l) (is ∙ ap (λ (l : List ℕ). l ++ f) front) in
-    elim (prf_read f v.prf x) [
-      | inl y ↦ inl (here ∙ ap (λ (l : List ℕ). seq (before_prf v ++ l)) y)
-      | inr y ↦ inr (f, y, here)
-    ]
+    let long = length_spelled v.key_length k r in
+    let front : s ++ n ++ k ≡ before_prf v = rw (salt.1, count, long.1) refl in
+    ((salt.0, g.1.0, long.0), (f, prf_spelled_to f v.prf x, e ∙ ap (λ (l : List ℕ). seq l) (is ∙ ap (λ (l : List ℕ). l ++ f) front)))
+
+spelled_from : (b : List ℕ) (v : Pbkdf2Params) → ArePbkdf2Params v × SpellsPbkdf2Params b v → Pbkdf2ParamsText b v
+spelled_from b v (h, (f, x, e)) = (
+  before_prf v ++ f,
+  (
+    octets v.salt,
+    uint v.iteration_count,
+    canon_option uint v.key_length,
+    f,
+    salt_canonical v.salt h.0,
+    (shortest v.iteration_count, (h.1, refl), refl),
+    length_written v.key_length h.2,
+    prf_spelled_from f v.prf x,
+    refl,
+  ),
+  e,
+)
+
+pub pbkdf2_params_spelled : (b : List ℕ) (v : Pbkdf2Params) → Pbkdf2ParamsText b v ↔ (ArePbkdf2Params v × SpellsPbkdf2Params b v)
+pbkdf2_params_spelled b v = (spelled_to b v, spelled_from b v)

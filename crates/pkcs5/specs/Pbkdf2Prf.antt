@@ -28,9 +28,13 @@ PrfText = Within 0x30 PrfOf
 abbrev pub prf_content : Pbkdf2Prf → List ℕ
 prf_content f = oid (prf_oid f) ++ null
 
--- the other spelling: without NULL
+-- without NULL
 abbrev pub prf_without_null : List ℕ → Pbkdf2Prf → Type 0
 prf_without_null b f = b ≡ seq (oid (prf_oid f))
+
+-- which texts spell a function: with NULL, which is written, or without
+abbrev pub SpellsPrf : List ℕ → Pbkdf2Prf → Type 0
+SpellsPrf b f = (b ≡ seq (prf_content f)) ⊎ prf_without_null b f
 
 -- ---- reading
 

@@ -1,5 +1,6 @@
 -- lemmas only: nothing to believe here
 -- The pseudorandom function of PBKDF2 is read exactly, and what is written of one is read again.
+use Rattle.std.specs.Prelude.{◌↔◌}
 use Rattle.std.proofs.Common.{if◌then◌else◌, ◌≡◌, ℕ, List, [], ◌++◌, Option, Some, None, Ok, refl, sym, ap, subst, ◌∙◌, inl, inr, ◌⊎◌, IsTrue}
 use Rattle.std.specs.Str.{bytes_eq}
 use Rattle.std.proofs.lemmas.List.{append-nil}
@@ -18,7 +19,7 @@ use Rattle.spki.specs.Algorithm.{algorithm, AlgorithmOf}
 use Rattle.spki.specs.AlgorithmLaws.{algorithm_of-exact}
 use Rattle.spki.specs.AnyLaws.{any-exact, any-whole}
 use Rattle.pkcs5.specs.Kinds.{prf_oid}
-use Rattle.pkcs5.specs.Pbkdf2Prf.{PrfOf, PrfText, prf_content, prf_without_null, prf_named, null_or_none, prf_in, prf_of}
+use Rattle.pkcs5.specs.Pbkdf2Prf.{PrfOf, PrfText, prf_content, SpellsPrf, prf_named, null_or_none, prf_in, prf_of}
 use Rattle.pkcs5.specs.JudgedLaws.{Judges, judged-exact, if_test, any_is}
 use Rattle.pkcs5.specs.declared.pbes2.pbkdf2_prf.Pbkdf2Prf.{Pbkdf2Prf}
 use Rattle.pkcs5.specs.declared.pbes2.pbkdf2_prf.Pbkdf2Prf.TheVariants.{HmacWithSha1, HmacWithSha224, HmacWithSha256, HmacWithSha384, HmacWithSha512}
@@ -99,8 +100,15 @@ prf-exact = within-exact 0x30 PrfOf prf_of refl prf_of-exact
 pub prf_canonical : (f : Pbkdf2Prf) → PrfText (el 0x30 (prf_content f)) f
 prf_canonical f = (prf_content f, (null, inr refl, refl), refl)
 
-pub prf_spelled : (b : List ℕ) (f : Pbkdf2Prf) → PrfText b f → (b ≡ el 0x30 (prf_content f)) ⊎ prf_without_null b f
-prf_spelled b f (w, (p, n, is), e) = elim n [
+spelled_to : (b : List ℕ) (f : Pbkdf2Prf) → PrfText b f → SpellsPrf b f
+spelled_to b f (w, (p, n, is), e) = elim n [
   | inl x ↦ inr (e ∙ ap (λ (l : List ℕ). seq l) (is ∙ ap (λ (l : List ℕ). oid (prf_oid f) ++ l) x ∙ append-nil (oid (prf_oid f))))
   | inr x ↦ inl (e ∙ ap (λ (l : List ℕ). seq l) (is ∙ ap (λ (l : List ℕ). oid (prf_oid f) ++ l) x))
 ]
+
+spelled_from : (b : List ℕ) (f : Pbkdf2Prf) → SpellsPrf b f → PrfText b f
+spelled_from b f (inl e) = (prf_content f, (null, inr refl, refl), e)
+spelled_from b f (inr e) = (oid (prf_oid f), ([], inl refl, sym (append-nil (oid (prf_oid f)))), e)
+
+pub prf_spelled : (b : List ℕ) (f : Pbkdf2Prf) → PrfText b f ↔ (Unit {0} × SpellsPrf b f)
+prf_spelled b f = (λ r. (tt, spelled_to b f r), λ h. spelled_from b f h.1)

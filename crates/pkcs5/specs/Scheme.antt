@@ -10,7 +10,7 @@ use Rattle.der_core.specs.Any.{any_at}
 use Rattle.spki.specs.Algorithm.{algorithm}
 use Rattle.spki.specs.Seen.{AnyAlgorithm}
 use Rattle.pkcs5.specs.Identifiers.{pbes2_oid}
-use Rattle.pkcs5.specs.Parameters.{ParametersText, parameters_content, AreParameters, other_parameters, parameters_in}
+use Rattle.pkcs5.specs.Parameters.{ParametersText, parameters_content, AreParameters, SpellsParameters, parameters_in}
 use Rattle.pkcs5.specs.declared.encryption_scheme.EncryptionScheme.{EncryptionScheme}
 use Rattle.pkcs5.specs.declared.encryption_scheme.EncryptionScheme.TheVariants.{Pbes2}
 
@@ -38,9 +38,9 @@ scheme_text s = seq (scheme_content s)
 abbrev pub IsScheme : EncryptionScheme → Type 0
 IsScheme (Pbes2 v) = AreParameters v
 
--- another spelling: one of the parameters
-abbrev pub other_scheme : List ℕ → EncryptionScheme → Type 0
-other_scheme b (Pbes2 v) = (p : List ℕ) × other_parameters p v × (b ≡ seq (oid pbes2_oid ++ p))
+-- which texts spell a scheme: its identifier, and a spelling of its parameters
+abbrev pub SpellsScheme : List ℕ → EncryptionScheme → Type 0
+SpellsScheme b (Pbes2 v) = (p : List ℕ) × SpellsParameters p v × (b ≡ seq (oid pbes2_oid ++ p))
 
 -- ---- reading
 

@@ -1,5 +1,6 @@
 -- lemmas only: nothing to believe here
 -- Schemes are read exactly, and what is written of one is read again.
+use Rattle.std.specs.Prelude.{◌↔◌}
 use Rattle.std.proofs.Common.{◌≡◌, ℕ, List, ◌++◌, refl, sym, ap, subst, ◌∙◌, inl, inr, ◌⊎◌}
 use Rattle.asn1_core.specs.Der.{el, oid, seq}
 use Rattle.asn1_core.specs.Reading.{Bad}
@@ -10,7 +11,7 @@ use Rattle.spki.specs.Algorithm.{AlgorithmOf}
 use Rattle.pkcs5.specs.Identifiers.{pbes2_oid}
 use Rattle.pkcs5.specs.Parameters.{ParametersOf, parameters_of, parameters_content}
 use Rattle.pkcs5.specs.ParametersLaws.{parameters_of-exact, parameters_canonical, parameters_spelled}
-use Rattle.pkcs5.specs.Scheme.{SchemeOf, SchemeText, scheme_content, IsScheme, other_scheme, scheme_in, scheme_of, scheme_at}
+use Rattle.pkcs5.specs.Scheme.{SchemeOf, SchemeText, scheme_content, IsScheme, SpellsScheme, scheme_in, scheme_of, scheme_at}
 use Rattle.pkcs5.specs.JudgedLaws.{Judges, one-judges, late-exact, same_judges}
 use Rattle.pkcs5.specs.declared.pbes2.parameters.Parameters.{Parameters}
 use Rattle.pkcs5.specs.declared.encryption_scheme.EncryptionScheme.{EncryptionScheme}
@@ -41,10 +42,13 @@ scheme-exact = within-exact 0x30 SchemeOf scheme_of refl scheme_of-exact
 pub scheme_canonical : (s : EncryptionScheme) → IsScheme s → SchemeText (el 0x30 (scheme_content s)) s
 scheme_canonical (Pbes2 v) h = (scheme_content (Pbes2 v), (el 0x30 (parameters_content v), parameters_canonical v h, refl), refl)
 
-pub scheme_spelled : (b : List ℕ) (s : EncryptionScheme) → SchemeText b s → (b ≡ el 0x30 (scheme_content s)) ⊎ other_scheme b s
-scheme_spelled b (Pbes2 v) (w, (p, r, is), e) =
-    let here : b ≡ seq (oid pbes2_oid ++ p) = e ∙ ap (λ (l : List ℕ). seq l) is in
-    elim (parameters_spelled p v r) [
-      | inl x ↦ inl (here ∙ ap (λ (l : List ℕ). seq (oid pbes2_oid ++ l)) x)
-      | inr x ↦ inr (p, x, here)
-    ]
+spelled_to : (b : List ℕ) (s : EncryptionScheme) → SchemeText b s → IsScheme s × SpellsScheme b s
+spelled_to b (Pbes2 v) (w, (p, r, is), e) =
+    let h = (parameters_spelled p v).0 r in
+    (h.0, (p, h.1, e ∙ ap (λ (l : List ℕ). seq l) is))
+
+spelled_from : (b : List ℕ) (s : EncryptionScheme) → IsScheme s → SpellsScheme b s → SchemeText b s
+spelled_from b (Pbes2 v) h (p, x, e) = (oid pbes2_oid ++ p, (p, (parameters_spelled p v).1 (h, x), refl), e)
+
+pub scheme_spelled : (b : List ℕ) (s : EncryptionScheme) → SchemeText b s ↔ (IsScheme s × SpellsScheme b s)
+scheme_spelled b s = (spelled_to b s, λ h. spelled_from b s h.0 h.1)

@@ -4,7 +4,7 @@ ghost use Rattle.asn1_core.specs.Gives.{Gives};
 ghost use Rattle.asn1_core.specs.Oid.{oid_octets};
 ghost use Rattle.asn1_core.specs.Reading.{whole};
 ghost use Rattle.spki.specs.Seen.{borrowed_any, borrowed_algorithm};
-ghost use Rattle.pkcs5.specs.Scheme.{scheme_oid, SchemeOf, scheme_content, IsScheme, other_scheme, scheme_with, scheme_in, scheme_of, scheme_at};
+ghost use Rattle.pkcs5.specs.Scheme.{scheme_oid, SchemeOf, scheme_content, IsScheme, SpellsScheme, scheme_with, scheme_in, scheme_of, scheme_at};
 ghost use Rattle.pkcs5.specs.SchemeLaws.{scheme_of-exact, scheme_canonical, scheme_spelled};
 ghost use Rattle.pkcs5.specs.SameLaws.{kdf_same, cipher_same, parameters_same, scheme_same};
 ghost use Rattle.pkcs5.specs.declared.encryption_scheme.EncryptionScheme.{EncryptionScheme};
@@ -156,7 +156,7 @@ impl<'a> Canonical<&'a [u8]> for EncryptionScheme {
 }
 
 impl<'a> Spelled<&'a [u8]> for EncryptionScheme {
-    ghost other = { other_scheme };
+    ghost spell = { SpellsScheme };
 
     ghost spelled = { scheme_spelled };
 }

@@ -14,7 +14,8 @@ pub enum Error {
     DecryptFailed,
     /// The ciphertext does not fit the buffer.
     EncryptFailed,
-    /// The scheme is of PBES1, which is read and written, and neither encrypts nor decrypts here.
+    /// The scheme is of PBES1, which neither encrypts nor decrypts here. No call of this crate makes it yet: such a scheme is
+    /// not read.
     NoPbes1CryptSupport,
     /// The draw failed.
     Rng,

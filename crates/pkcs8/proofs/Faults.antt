@@ -2,13 +2,13 @@
 use Rattle.std.proofs.Common.{◌≡◌, ◌≢◌, ℕ, zero, suc, List, [], ◌∷◌, length, Option, Result, Ok, Err, nat_eq}
 use Rattle.asn1_core.specs.Reading.{Fault, Bad, UnknownOid, Front, ◌>>=◌, where_ok, uint_of, many_in, many, any_tag, within, left, whole}
 use Rattle.asn1_core.specs.FaultLaws.{OnlyBad, on_bad, option_bad, within_bad, by_tag_bad, where_bad}
-use Rattle.asn1_core.specs.Gives.{Gives}
+use Rattle.asn1_core.specs.Gives.{Gives, Parses}
 use Rattle.asn1_core.specs.declared.identifier.ObjectIdentifier.{ObjectIdentifier}
 use Rattle.asn1_core.specs.declared.error.Error.{Error as Below}
+use Rattle.asn1_core.specs.declared.error.Error.TheVariants as below
 use Rattle.der_core.specs.Any.{any_at}
 use Rattle.der_core.specs.BitString.{bits_of}
 use Rattle.spki.specs.AnyLaws.{any_bad, algorithm_bad}
-use Rattle.spki.specs.Error.{ParsesBelow}
 use Rattle.spki.specs.OidLaws.{parses_short}
 use Rattle.pkcs8.specs.PrivateKeyInfo.{version_of, skipped, attributes_at, further_at, further_of, ended_further}
 use Rattle.pkcs8.specs.Seen.{AnyPrivateKey, IsPrivateKey}
@@ -54,5 +54,5 @@ private_key_bad : OnlyBad any_private_key_at
 private_key_bad = within_bad 0x30 _ (on_bad _ _ (within_bad 0x02 _ (uint_bad 1)) (λ n. on_bad _ _ (algorithm_bad any_tag any_at any_bad) (λ a. on_bad _ _ (within_bad 0x04 left left_bad)
     (λ k. on_bad _ _ (option_bad _ attributes_at (within_bad 0xa0 skipped skipped_bad)) (λ x. on_bad _ _ (option_bad _ (within 0x81 bits_of) (within_bad 0x81 bits_of bits_bad)) (λ q. ended_further_bad n q _))))))
 
-pub parses_private_key : {X : Type 0} (view : X → AnyPrivateKey) (b : List ℕ) (r : Result X Below) → Gives view r (whole any_private_key_at b) → ParsesBelow IsPrivateKey view b r
+pub parses_private_key : {X : Type 0} (view : X → AnyPrivateKey) (b : List ℕ) (r : Result X Below) → Gives view r (whole any_private_key_at b) → Parses below.Malformed IsPrivateKey view b r
 parses_private_key view b r e = parses_short AnyPrivateKeyText any_private_key_at any_private_key-exact private_key_bad b view r e

@@ -1,13 +1,10 @@
 -- EncryptedPrivateKeyInfo (RFC 5958 section 3): SEQUENCE { encryptionAlgorithm AlgorithmIdentifier, encryptedData OCTET STRING }.
-use Rattle.std.specs.Prelude.{◌≡◌, ◌⊎◌, ℕ, List, ◌++◌, Result, Ok, Err}
+use Rattle.std.specs.Prelude.{◌≡◌, ℕ, List, ◌++◌}
 use Rattle.asn1_core.specs.Der.{el, seq, octets, IsShort}
-use Rattle.asn1_core.specs.Gives.{Fails}
-use Rattle.asn1_core.specs.Reading.{Fault, Front, All, on, ended, within}
+use Rattle.asn1_core.specs.Reading.{Front, All, on, ended, within}
 use Rattle.asn1_core.specs.Texts.{Within, Inside}
-use Rattle.pkcs5.specs.Scheme.{SchemeText, scheme_at, scheme_content, other_scheme}
+use Rattle.pkcs5.specs.Scheme.{SchemeText, scheme_at, scheme_content, SpellsScheme}
 use Rattle.pkcs5.specs.declared.encryption_scheme.EncryptionScheme.{EncryptionScheme}
-use Rattle.pkcs8.specs.declared.error.Error.{Error}
-use Rattle.pkcs8.specs.declared.error.Error.TheVariants as errors
 use Rattle.pkcs8.specs.declared.encrypted_private_key_info.EncryptedPrivateKeyInfo.{EncryptedPrivateKeyInfo}
 
 -- an encrypted key: the scheme, and the ciphertext
@@ -35,11 +32,9 @@ encrypted_key_content canon s d = el 0x30 (scheme_content s) ++ canon d
 abbrev pub encrypted_key_text : EncryptionScheme → List ℕ → List ℕ
 encrypted_key_text s c = seq (encrypted_key_content octets s c)
 
--- another spelling of an encrypted key: one of its scheme or of its ciphertext
-abbrev pub other_encrypted_key : {B : Type 0} → (B → List ℕ) → (List ℕ → B → Type 0) → List ℕ → EncryptionScheme → B → Type 0
-other_encrypted_key canon other b s d = (a : List ℕ) × (q : List ℕ)
-    × ((other_scheme a s × (q ≡ canon d)) ⊎ ((a ≡ el 0x30 (scheme_content s)) × other q d) ⊎ (other_scheme a s × other q d))
-    × (b ≡ el 0x30 (a ++ q))
+-- which texts spell an encrypted key: a spelling of its scheme, and one of its ciphertext
+abbrev pub SpellsEncryptedKey : {B : Type 0} → (List ℕ → B → Type 0) → List ℕ → EncryptionScheme → B → Type 0
+SpellsEncryptedKey spell b s d = (a : List ℕ) × (q : List ℕ) × SpellsScheme a s × spell q d × (b ≡ el 0x30 (a ++ q))
 
 -- ---- reading
 
@@ -48,9 +43,3 @@ encrypted_key_of q = on scheme_at (λ s. on q (λ d. ended (encrypted_key s d)))
 
 abbrev pub encrypted_key_at : {W : Type 0} → Front W → Front (EncryptedPrivateKeyInfo W)
 encrypted_key_at q = within 0x30 (encrypted_key_of q)
-
--- what a call answers that reads a whole text: the value, or the fault that is met first
-abbrev pub Gives : {X Y : Type 0} → (X → Y) → Result X Error → Result Y Fault → Type 0
-Gives view (Ok x) read = read ≡ Ok (view x)
-Gives view (Err (errors.Asn1 e)) read = Fails ⊥ e read
-Gives view (Err e) read = ⊥

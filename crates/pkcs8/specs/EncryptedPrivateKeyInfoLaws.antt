@@ -1,5 +1,6 @@
 -- lemmas only: nothing to believe here
 -- Encrypted keys are read exactly, and what is written of one is read again.
+use Rattle.std.specs.Prelude.{◌↔◌}
 use Rattle.std.proofs.Common.{◌≡◌, ℕ, Bool, true, ◌&&◌, List, [], ◌++◌, refl, sym, ap, ◌∙◌, inl, inr, ◌⊎◌}
 use Rattle.std.proofs.lemmas.List.{append-nil}
 use Rattle.asn1_core.specs.Der.{el}
@@ -13,7 +14,7 @@ use Rattle.pkcs5.specs.Scheme.{SchemeText, scheme_at, scheme_content, IsScheme}
 use Rattle.pkcs5.specs.SchemeLaws.{scheme-exact, scheme_canonical, scheme_spelled}
 use Rattle.pkcs5.specs.declared.encryption_scheme.EncryptionScheme.{EncryptionScheme}
 use Rattle.pkcs8.specs.declared.encrypted_private_key_info.EncryptedPrivateKeyInfo.{EncryptedPrivateKeyInfo}
-use Rattle.pkcs8.specs.EncryptedPrivateKeyInfo.{encrypted_key, encrypted_key_of, encrypted_key_at, EncryptedKeyOf, EncryptedKeyText, encrypted_key_content, other_encrypted_key}
+use Rattle.pkcs8.specs.EncryptedPrivateKeyInfo.{encrypted_key, encrypted_key_of, encrypted_key_at, EncryptedKeyOf, EncryptedKeyText, encrypted_key_content, SpellsEncryptedKey}
 
 module _ {W : Type 0} (D : List ℕ → W → Type 0) (q : Front W) (exact_data : Exact D q) where
   abbrev Parts : List ℕ → EncryptedPrivateKeyInfo W → Type 0
@@ -41,21 +42,18 @@ module _ {B W : Type 0} (seen : B → W) (D : List ℕ → W → Type 0) (canon 
   encrypted_key_canonical s d h text =
       (encrypted_key_content canon s d, (el 0x30 (scheme_content s), canon d, scheme_canonical s h, text, refl), refl)
 
-  pub encrypted_key_spelled : (other : List ℕ → B → Type 0) → ((b : List ℕ) (d : B) → D b (seen d) → (b ≡ canon d) ⊎ other b d)
-      → (b : List ℕ) (s : EncryptionScheme) (d : B) → EncryptedKeyText D b (encrypted_key s (seen d))
-      → (b ≡ el 0x30 (encrypted_key_content canon s d)) ⊎ other_encrypted_key canon other b s d
-  encrypted_key_spelled other spelled b s d (w, (a, q, r, t, is), e) =
-      let here : b ≡ el 0x30 (a ++ q) = e ∙ ap (λ (l : List ℕ). el 0x30 l) is in
-      elim (scheme_spelled a s r) [
-        | inl same ↦ elim (spelled q d t) [
-          | inl alike ↦ inl (here ∙ ap (λ (l : List ℕ). el 0x30 (l ++ q)) same ∙ ap (λ (l : List ℕ). el 0x30 (el 0x30 (scheme_content s) ++ l)) alike)
-          | inr x ↦ inr (a, q, inr (inl (same, x)), here)
-        ]
-        | inr y ↦ elim (spelled q d t) [
-          | inl alike ↦ inr (a, q, inl (y, alike), here)
-          | inr x ↦ inr (a, q, inr (inr (y, x)), here)
-        ]
-      ]
+module _ {B W : Type 0} (seen : B → W) (D : List ℕ → W → Type 0) (writable : B → Type 0) (spell : List ℕ → B → Type 0) (spelled : (b : List ℕ) (d : B) → D b (seen d) ↔ (writable d × spell b d)) where
+  spelled_to : (b : List ℕ) (s : EncryptionScheme) (d : B) → EncryptedKeyText D b (encrypted_key s (seen d)) → (IsScheme s × writable d) × SpellsEncryptedKey spell b s d
+  spelled_to b s d (w, (a, q, r, t, is), e) =
+      let one = (scheme_spelled a s).0 r in
+      let two = (spelled q d).0 t in
+      ((one.0, two.0), (a, q, one.1, two.1, e ∙ ap (λ (l : List ℕ). el 0x30 l) is))
+
+  spelled_from : (b : List ℕ) (s : EncryptionScheme) (d : B) → (IsScheme s × writable d) × SpellsEncryptedKey spell b s d → EncryptedKeyText D b (encrypted_key s (seen d))
+  spelled_from b s d ((h, i), (a, q, x, y, e)) = (a ++ q, (a, q, (scheme_spelled a s).1 (h, x), (spelled q d).1 (i, y), refl), e)
+
+  pub encrypted_key_spelled : (b : List ℕ) (s : EncryptionScheme) (d : B) → EncryptedKeyText D b (encrypted_key s (seen d)) ↔ ((IsScheme s × writable d) × SpellsEncryptedKey spell b s d)
+  encrypted_key_spelled b s d = (spelled_to b s d, spelled_from b s d)
 
 -- equal encrypted keys are those of which the same is seen
 pub encrypted_key_same : {W K : Type 0} (s t : EncryptionScheme) (alike : Bool) → (s ≡ t → alike ≡ true) × (alike ≡ true → s ≡ t)

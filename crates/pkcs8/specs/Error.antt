@@ -1,12 +1,12 @@
 -- Errors of private keys, by those of the crates below, and how they are printed.
-use Rattle.std.specs.Prelude.{◌≡◌, ◌++◌, List, ℕ, Result, Ok, Err, codes}
+use Rattle.std.specs.Prelude.{◌++◌, List, ℕ, codes}
 use Rattle.asn1_core.specs.Error.{error_text as asn1_text}
 use Rattle.asn1_core.specs.declared.error.Error.{Error as Asn1Error}
 use Rattle.asn1_core.specs.declared.error.Error.TheVariants as asn1
 use Rattle.pkcs5.specs.Error.{error_text as pkcs5_text}
 use Rattle.pkcs5.specs.declared.error.Error.{Error as Pkcs5Error}
 use Rattle.pkcs5.specs.declared.error.Error.TheVariants as pkcs5
-use Rattle.spki.specs.Error.{error_text as spki_text, IsNone}
+use Rattle.spki.specs.Error.{error_text as spki_text}
 use Rattle.spki.specs.declared.error.Error.{Error as SpkiError}
 use Rattle.spki.specs.declared.error.Error.TheVariants as spki
 use Rattle.pkcs8.specs.declared.error.Error.{Error}
@@ -49,11 +49,6 @@ as_spki (errors.KeyMalformed e) = spki.KeyMalformed
 as_spki errors.ParametersMalformed = spki.KeyMalformed
 as_spki (errors.PublicKey e) = e
 as_spki errors.Memory = spki.Memory
-
--- the value whose text b is, or a refusal exactly where it is a text of none
-abbrev pub Parses : {X V : Type 0} → (List ℕ → V → Type 0) → (X → V) → List ℕ → Result X Error → Type 0
-Parses R view b (Ok x) = R b (view x)
-Parses R view b (Err e) = (e ≡ errors.Asn1 asn1.Malformed) × IsNone R b
 
 -- how the refusals are printed
 abbrev pub key_error_text : KeyError → List ℕ

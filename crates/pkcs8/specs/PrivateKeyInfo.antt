@@ -1,13 +1,13 @@
 -- PrivateKeyInfo (RFC 5208 section 5), which is OneAsymmetricKey (RFC 5958 section 2): SEQUENCE { version INTEGER { v1(0), v2(1) },
 -- privateKeyAlgorithm AlgorithmIdentifier, privateKey OCTET STRING, attributes [0] OPTIONAL, ..., publicKey [1] BIT STRING OPTIONAL, ... },
 -- with implicit tags.
-use Rattle.std.specs.Prelude.{◌≡◌, ◌≢◌, ◌⊎◌, ℕ, Bool, List, [], ◌∷◌, ◌++◌, Option, Some, None, Ok, nat_lt, ◌==◌, ◌&&◌, ◌||◌}
+use Rattle.std.specs.Prelude.{◌≡◌, ℕ, Bool, List, [], ◌∷◌, ◌++◌, Option, Some, None, Ok, nat_lt, ◌==◌, ◌&&◌, ◌||◌}
 use Rattle.asn1_core.specs.Der.{el, uint}
 use Rattle.asn1_core.specs.declared.identifier.ObjectIdentifier.{ObjectIdentifier}
 use Rattle.asn1_core.specs.Reading.{Front, All, ◌>>=◌, where_ok, on, made, many, within, by_tag, uint_at, option_at}
 use Rattle.asn1_core.specs.Texts.{Within, ByTag, Many, Perhaps}
 use Rattle.spki.specs.declared.algorithm.AlgorithmIdentifier.{AlgorithmIdentifier}
-use Rattle.spki.specs.Algorithm.{AlgorithmText, algorithm_at, algorithm_content, other_algorithm}
+use Rattle.spki.specs.Algorithm.{AlgorithmText, algorithm_at, algorithm_content, SpellsAlgorithm}
 use Rattle.pkcs8.specs.declared.private_key_info.PrivateKeyInfo.{PrivateKeyInfo}
 
 -- a private key: its algorithm, the key, and its public key or none
@@ -64,12 +64,11 @@ public_key_content bits (Some q) = el 0x81 ((bits q).0 ∷ (bits q).1)
 abbrev pub private_key_content : {A K B : Type 0} → (A → List ℕ) → (K → List ℕ) → (B → ℕ × List ℕ) → ObjectIdentifier → Option A → K → Option B → List ℕ
 private_key_content canon canon_key bits o p k q = uint (version_of q) ++ el 0x30 (algorithm_content canon o p) ++ canon_key k ++ public_key_content bits q
 
--- another spelling of a private key: with attributes, with further fields, or with another spelling of its algorithm or of its key
-abbrev pub other_private_key : {A K B : Type 0} → (A → List ℕ) → (K → List ℕ) → (B → ℕ × List ℕ) → (List ℕ → A → Type 0) → (List ℕ → K → Type 0)
-    → List ℕ → ObjectIdentifier → Option A → K → Option B → Type 0
-other_private_key canon canon_key bits other other_key b o p k q = (a : List ℕ) × (l : List ℕ) × (x : List ℕ) × (y : List ℕ)
-    × ((a ≡ el 0x30 (algorithm_content canon o p)) ⊎ other_algorithm other a o p) × ((l ≡ canon_key k) ⊎ other_key l k) × AreAttributes x × AreFurther y
-    × (other_algorithm other a o p ⊎ other_key l k ⊎ (x ≢ []) ⊎ (y ≢ []))
+-- which texts spell a private key: its version, a spelling of its algorithm and one of its key, attributes or none, its public key, and
+-- further fields or none
+abbrev pub SpellsPrivateKey : {A K B : Type 0} → (B → ℕ × List ℕ) → (List ℕ → A → Type 0) → (List ℕ → K → Type 0) → List ℕ → ObjectIdentifier → Option A → K → Option B → Type 0
+SpellsPrivateKey bits spell spell_key b o p k q = (a : List ℕ) × (l : List ℕ) × (x : List ℕ) × (y : List ℕ)
+    × SpellsAlgorithm spell a o p × spell_key l k × AreAttributes x × AreFurther y
     × (b ≡ el 0x30 (uint (version_of q) ++ a ++ l ++ x ++ public_key_content bits q ++ y))
 
 -- ---- reading

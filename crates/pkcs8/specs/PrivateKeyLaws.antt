@@ -113,7 +113,7 @@ module _ {V K W : Type 0} (can : ℕ → Bool) (P : List ℕ → V → Type 0) (
 
 module _ {A V K L B W : Type 0} (seen : A → V) (P : List ℕ → V → Type 0) (canon : A → List ℕ) (seen_key : K → L) (R : List ℕ → L → Type 0) (canon_key : K → List ℕ)
     (seen_public : B → W) (Q : List ℕ → W → Type 0) (bits : B → ℕ × List ℕ) where
-  public_canonical : ((k : B) → Q ((bits k).0 ∷ (bits k).1) (seen_public k)) → (q : Option B) → Perhaps (Within 0x81 Q) (public_key_content bits q) (seen_option seen_public q)
+  pub public_canonical : ((k : B) → Q ((bits k).0 ∷ (bits k).1) (seen_public k)) → (q : Option B) → Perhaps (Within 0x81 Q) (public_key_content bits q) (seen_option seen_public q)
   public_canonical again None = refl
   public_canonical again (Some k) = ((bits k).0 ∷ (bits k).1, again k, refl)
 

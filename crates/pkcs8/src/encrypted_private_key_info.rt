@@ -1,10 +1,11 @@
 //! Private keys under a password.
 ghost use Rattle.std.specs.Prelude.{refl, IfOk, IfErr};
-ghost use Rattle.asn1_core.specs.Gives.{Gives as GivesBelow};
+ghost use Rattle.asn1_core.specs.Gives.{Gives, GivesAs};
 ghost use Rattle.asn1_core.specs.Reading.{left, whole, within};
 ghost use Rattle.pkcs5.specs.SchemeOpening.{SchemeOpens};
 ghost use Rattle.pkcs8.specs.declared.encrypted_private_key_info.EncryptedPrivateKeyInfo.{EncryptedPrivateKeyInfo};
-ghost use Rattle.pkcs8.specs.EncryptedPrivateKeyInfo.{encrypted_key, encrypted_key_of, EncryptedKeyOf, encrypted_key_at, encrypted_key_content, other_encrypted_key, Gives};
+ghost use Rattle.pkcs8.specs.EncryptedPrivateKeyInfo.{encrypted_key, encrypted_key_of, EncryptedKeyOf, encrypted_key_at, encrypted_key_content, SpellsEncryptedKey};
+ghost use Rattle.pkcs8.specs.Error.{of_asn1};
 ghost use Rattle.pkcs8.specs.EncryptedPrivateKeyInfoLaws.{encrypted_key_of-exact, encrypted_key_canonical, encrypted_key_spelled, encrypted_key_same};
 ghost use Rattle.pkcs8.specs.Sealing.{RefusesToDecrypt};
 
@@ -96,16 +97,16 @@ impl<'a, Data: Canonical<&'a [u8]>> Canonical<&'a [u8]> for EncryptedPrivateKeyI
 }
 
 impl<'a, Data: Spelled<&'a [u8]>> Spelled<&'a [u8]> for EncryptedPrivateKeyInfo<Data> {
-    ghost other = { λ b a. other_encrypted_key Data.canon Data.other b a.encryption_algorithm a.encrypted_data };
+    ghost spell = { λ b a. SpellsEncryptedKey Data.spell b a.encryption_algorithm a.encrypted_data };
 
-    ghost spelled = { λ b a r. encrypted_key_spelled Data.seen Data.text Data.canon Data.other Data.spelled b a.encryption_algorithm a.encrypted_data r };
+    ghost spelled = { λ b a. encrypted_key_spelled Data.seen Data.text Data.writable Data.spell Data.spelled b a.encryption_algorithm a.encrypted_data };
 }
 
 /// The encrypted key whose text these octets are.
 fn read_whole<'a>(
     bytes: &'a [u8],
 ) -> std::result::Result<EncryptedPrivateKeyInfoRef<'a>, asn1_core::Error>
-    ensures { GivesBelow (λ k. encrypted_key k.encryption_algorithm k.encrypted_data.octets.now) result (whole (encrypted_key_at (within 0x04 left)) bytes.now) }
+    ensures { Gives (λ k. encrypted_key k.encryption_algorithm k.encrypted_data.octets.now) result (whole (encrypted_key_at (within 0x04 left)) bytes.now) }
 {
     EncryptedPrivateKeyInfoRef::from_der(bytes)
 }
@@ -113,7 +114,7 @@ fn read_whole<'a>(
 impl<'a> TryFrom<&'a [u8]> for EncryptedPrivateKeyInfoRef<'a> {
     type Error = Error;
 
-    ghost try_from_gives = { λ b r. Gives (λ k. encrypted_key k.encryption_algorithm k.encrypted_data.octets.now) r (whole (encrypted_key_at (within 0x04 left)) b.now) };
+    ghost try_from_gives = { λ b r. GivesAs of_asn1 ⊥ (λ k. encrypted_key k.encryption_algorithm k.encrypted_data.octets.now) r (whole (encrypted_key_at (within 0x04 left)) b.now) };
 
     /// The encrypted key whose text these octets are. `Asn1(OidUnknown)` with the identifier where one of the scheme's that is
     /// unknown is met before another fault, else `Asn1(Malformed)` where they are none.

@@ -5,7 +5,7 @@ ghost use Rattle.asn1_core.specs.Texts.{seen_option};
 ghost use Rattle.der_core.specs.Optional.{canon_option};
 ghost use Rattle.spki.specs.SameLaws.{algorithm_same};
 ghost use Rattle.pkcs8.specs.declared.private_key_info.PrivateKeyInfo.{PrivateKeyInfo};
-ghost use Rattle.pkcs8.specs.PrivateKeyInfo.{private_key, private_key_of, PrivateKeyOf, private_key_content, public_key_content, other_private_key, version_of};
+ghost use Rattle.pkcs8.specs.PrivateKeyInfo.{private_key, private_key_of, PrivateKeyOf, private_key_content, public_key_content, SpellsPrivateKey, version_of};
 ghost use Rattle.pkcs8.specs.PrivateKeyLaws.{private_key_of-exact, private_key_canonical};
 ghost use Rattle.pkcs8.specs.PrivateKeySpellings.{private_key_spelled, private_key_same};
 ghost use Rattle.pkcs8.specs.Version.{version_number};
@@ -182,9 +182,9 @@ impl<
     Key: Spelled<&'a [u8]>,
     PubKey: ImplicitBitString<&'a [u8]>,
 > Spelled<&'a [u8]> for PrivateKeyInfo<Params, Key, PubKey> {
-    ghost other = { λ b k. other_private_key Params.canon Key.canon PubKey.bits Params.other Key.other b k.algorithm.oid k.algorithm.parameters k.private_key k.public_key };
+    ghost spell = { λ b k. SpellsPrivateKey PubKey.bits Params.spell Key.spell b k.algorithm.oid k.algorithm.parameters k.private_key k.public_key };
 
-    ghost spelled = { λ b k r. private_key_spelled Params.seen Params.text Params.canon Params.other Params.spelled Key.seen Key.text Key.canon Key.other Key.spelled PubKey.seen (PubKey.text 0x81) PubKey.bits PubKey.sole b k.algorithm.oid k.algorithm.parameters k.private_key k.public_key r };
+    ghost spelled = { λ b k. private_key_spelled Params.seen Params.text Params.canon Params.writable Params.spell Params.spelled Key.seen Key.text Key.canon Key.writable Key.spell Key.spelled PubKey.seen (PubKey.text 0x81) PubKey.bits PubKey.implicit PubKey.sole b k.algorithm.oid k.algorithm.parameters k.private_key k.public_key };
 }
 
 impl<

@@ -13,7 +13,7 @@ use crate::{
 use asn1_core::{ObjectIdentifier, Octets};
 use der_core::{
     Any, BitString, BitStringRef, Choice, Decode, DecodeValue, Encode, EncodeValue, FixedTag,
-    OctetString, OctetStringRef, canon_is_read, texts_are_read, texts_are_spelled,
+    OctetString, OctetStringRef, canon_is_read, exact_spellings, texts_are_read,
 };
 use openssl_keys::KEYS;
 use spki::AlgorithmIdentifier;
@@ -240,7 +240,7 @@ fn the_laws_hold_at_keys_of_any_algorithm(rt: HostRuntime) {
     let text = octets(&rt, alloc, RFC_8410_WITH_ATTRIBUTES);
     let key = PrivateKeyInfoRef::try_from(text.as_slice()).expect(&rt, "a private key");
     texts_are_read::<&[u8], PrivateKeyInfoRef<'_>>(text.as_slice());
-    texts_are_spelled::<&[u8], PrivateKeyInfoRef<'_>>(text.as_slice(), &key);
+    exact_spellings::<&[u8], PrivateKeyInfoRef<'_>>(text.as_slice(), &key);
     canon_is_read::<&[u8], PrivateKeyInfoRef<'_>>(&key);
     private_keys_are_written(&key);
     private_keys_are_spelled();

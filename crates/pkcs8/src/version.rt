@@ -1,13 +1,13 @@
 //! Versions of private keys.
 ghost use Rattle.std.specs.Prelude.{◌≡◌, ◌↔◌, ℕ, refl, IsTrue};
-ghost use Rattle.asn1_core.specs.Der.{shortest};
+ghost use Rattle.asn1_core.specs.Der.{shortest, uint};
 ghost use Rattle.asn1_core.specs.Reading.{uint_of};
 ghost use Rattle.asn1_core.specs.Texts.{UintOf};
 ghost use Rattle.asn1_core.specs.NumberLaws.{uint_of-exact};
-ghost use Rattle.der_core.specs.StringLaws.{uint_canonical, uint_spelled};
+ghost use Rattle.der_core.specs.StringLaws.{uint_canonical};
 ghost use Rattle.pkcs8.specs.declared.version.Version.TheVariants.{V2};
 ghost use Rattle.pkcs8.specs.Version.{version_number, IsVersionOf};
-ghost use Rattle.pkcs8.specs.VersionLaws.{version_small, version_same};
+ghost use Rattle.pkcs8.specs.VersionLaws.{version_small, version_same, version_spelled};
 
 use crate::error::Error;
 use asn1_core::{
@@ -118,9 +118,9 @@ impl<'a> Canonical<&'a [u8]> for Version {
 }
 
 impl<'a> Spelled<&'a [u8]> for Version {
-    ghost other = { λ b v. ⊥ };
+    ghost spell = { λ b v. b ≡ uint (version_number v) };
 
-    ghost spelled = { λ b v r. uint_spelled 1 b (version_number v) r };
+    ghost spelled = { version_spelled };
 }
 
 impl<'a> Compared<&'a [u8]> for Version {

@@ -4,15 +4,17 @@ use Rattle.std.specs.Prelude.{◌↔◌}
 use Rattle.asn1_core.specs.Der.{el, seq, oid, is_tag, IsShort}
 use Rattle.asn1_core.specs.Oid.{oid_octets}
 use Rattle.asn1_core.specs.Reading.{any_tag, within}
-use Rattle.asn1_core.specs.Texts.{Perhaps, Within}
+use Rattle.asn1_core.specs.Texts.{Perhaps, Within, seen_option}
+use Rattle.asn1_core.specs.declared.identifier.ObjectIdentifier.{ObjectIdentifier}
+use Rattle.der_core.specs.Optional.{canon_option}
 use Rattle.asn1_core.specs.StandLaws.{whole_sole}
 use Rattle.asn1_core.specs.ElementLaws.{within-exact}
 use Rattle.der_core.specs.Any.{AnyText, any_at}
-use Rattle.der_core.specs.BitString.{is_bits, BitsOf, bits_of}
+use Rattle.der_core.specs.BitString.{is_bits, seen_bits, BitsOf, bits_of}
 use Rattle.der_core.specs.StringLaws.{bits_of-exact}
-use Rattle.spki.specs.Algorithm.{AlgorithmText, algorithm_at}
+use Rattle.spki.specs.Algorithm.{algorithm, algorithm_content, AlgorithmText, algorithm_at}
 use Rattle.spki.specs.AlgorithmLaws.{algorithm-exact}
-use Rattle.spki.specs.SubjectPublicKeyInfo.{PublicKeyText, public_key_at}
+use Rattle.spki.specs.SubjectPublicKeyInfo.{public_key, PublicKeyText, public_key_at}
 use Rattle.spki.specs.PublicKeyLaws.{public_key-exact}
 use Rattle.spki.specs.AnyLaws.{any-exact, any-whole}
 use Rattle.spki.specs.Seen.{AnyAlgorithm, AnyPublicKey, IsAlgorithm, IsPublicKey}
@@ -40,6 +42,19 @@ algorithms_spelled b a = (
   λ h. let t = algorithm_to b a h.0 in (t.0, t.1, h.1),
   λ h. (subst (λ (l : List ℕ). AlgorithmText AnyText l a) (sym h.1) (algorithm_from a h.0), h.2),
 )
+
+-- what is written of parameters, and of an algorithm, whose parameters are seen as any element
+written_parameters : {A : Type 0} (seen : A → ℕ × List ℕ) (p : Option A) → canon_option (λ a. el (seen a).0 (seen a).1) p ≡ parameters_text (seen_option seen p)
+written_parameters seen None = refl
+written_parameters seen (Some a) = refl
+
+pub algorithm_written : {A : Type 0} (seen : A → ℕ × List ℕ) (o : ObjectIdentifier) (p : Option A)
+    → el 0x30 (algorithm_content (λ a. el (seen a).0 (seen a).1) o p) ≡ algorithm_text (algorithm o (seen_option seen p))
+algorithm_written seen o p = ap (λ (l : List ℕ). seq (oid (oid_octets o) ++ l)) (written_parameters seen p)
+
+pub public_key_written : {A : Type 0} (seen : A → ℕ × List ℕ) (o : ObjectIdentifier) (p : Option A) (u : ℕ) (k : List ℕ)
+    → el 0x30 (el 0x30 (algorithm_content (λ a. el (seen a).0 (seen a).1) o p) ++ el 0x03 (u ∷ k)) ≡ public_key_text (public_key (algorithm o (seen_option seen p)) (seen_bits u k))
+public_key_written seen o p u k = ap (λ (l : List ℕ). seq (l ++ el 0x03 (u ∷ k))) (algorithm_written seen o p)
 
 key_to : (b : List ℕ) (k : AnyPublicKey) → PublicKeyText AnyText (Within 0x03 BitsOf) b k → AreParameters k.algorithm.parameters × IsTrue (is_bits k.subject_public_key.0 k.subject_public_key.1) × (b ≡ public_key_text k)
 key_to b k (w, (a, q, r, (v, (bits, same), f), is), e) =

@@ -1,6 +1,6 @@
 -- AlgorithmIdentifier (RFC 5280 section 4.1.1.2): SEQUENCE { algorithm OBJECT IDENTIFIER, parameters ANY OPTIONAL }.
 use Rattle.std.specs.Prelude.{◌≡◌, ℕ, Bool, List, ◌++◌, Option}
-use Rattle.der_core.specs.Optional.{canon_option, other_option}
+use Rattle.der_core.specs.Optional.{canon_option, SpellsOption}
 use Rattle.asn1_core.specs.Der.{el, oid}
 use Rattle.asn1_core.specs.Oid.{oid_octets}
 use Rattle.asn1_core.specs.Reading.{Front, All, on, ended, within, option_at, oid_at}
@@ -25,9 +25,9 @@ AlgorithmText P = Within 0x30 (AlgorithmOf P)
 abbrev pub algorithm_content : {A : Type 0} → (A → List ℕ) → ObjectIdentifier → Option A → List ℕ
 algorithm_content canon o p = oid (oid_octets o) ++ canon_option canon p
 
--- another spelling of an algorithm: one of its parameters
-abbrev pub other_algorithm : {A : Type 0} → (List ℕ → A → Type 0) → List ℕ → ObjectIdentifier → Option A → Type 0
-other_algorithm other b o p = (q : List ℕ) × other_option other q p × (b ≡ el 0x30 (oid (oid_octets o) ++ q))
+-- which texts spell an algorithm: its identifier, and a spelling of its parameters
+abbrev pub SpellsAlgorithm : {A : Type 0} → (List ℕ → A → Type 0) → List ℕ → ObjectIdentifier → Option A → Type 0
+SpellsAlgorithm spell b o p = (q : List ℕ) × SpellsOption spell q p × (b ≡ el 0x30 (oid (oid_octets o) ++ q))
 
 -- ---- reading
 

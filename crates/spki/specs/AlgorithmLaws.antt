@@ -1,6 +1,7 @@
 -- lemmas only: nothing to believe here
 -- Algorithms are read exactly, and what is written of one is read again.
 use Rattle.std.proofs.Common.{◌≡◌, ℕ, Bool, List, [], ◌++◌, Option, Some, None, refl, sym, ap, subst, ◌∙◌, inl, inr, ◌⊎◌}
+use Rattle.std.specs.Prelude.{◌↔◌}
 use Rattle.std.proofs.lemmas.List.{append-nil}
 use Rattle.asn1_core.specs.Der.{el, oid}
 use Rattle.asn1_core.specs.Oid.{oid_octets}
@@ -13,7 +14,7 @@ use Rattle.asn1_core.specs.OptionLaws.{OnOption, on_option-exact}
 use Rattle.der_core.specs.Optional.{canon_option, writable_option}
 use Rattle.der_core.specs.OptionalLaws.{option_canonical, option_spelled}
 use Rattle.spki.specs.declared.algorithm.AlgorithmIdentifier.{AlgorithmIdentifier}
-use Rattle.spki.specs.Algorithm.{algorithm, algorithm_of, AlgorithmOf, algorithm_at, AlgorithmText, algorithm_content, other_algorithm}
+use Rattle.spki.specs.Algorithm.{algorithm, algorithm_of, AlgorithmOf, algorithm_at, AlgorithmText, algorithm_content, SpellsAlgorithm}
 
 module _ {V : Type 0} (can : ℕ → Bool) (P : List ℕ → V → Type 0) (p : Front V) (exact : Exact P p) (whole : Whole can P) where
   abbrev Parts : List ℕ → AlgorithmIdentifier V → Type 0
@@ -54,10 +55,14 @@ module _ {A V : Type 0} (seen : A → V) (P : List ℕ → V → Type 0) (canon 
       → AlgorithmText P (el 0x30 (algorithm_content canon o p)) (algorithm o (seen_option seen p))
   algorithm_canonical writable again o p h = (algorithm_content canon o p, (canon_option canon p, option_canonical seen P canon writable again p h, refl), refl)
 
-  pub algorithm_spelled : (other : List ℕ → A → Type 0) → ((b : List ℕ) (a : A) → P b (seen a) → (b ≡ canon a) ⊎ other b a) → (b : List ℕ) (o : ObjectIdentifier) (p : Option A)
-      → AlgorithmText P b (algorithm o (seen_option seen p)) → (b ≡ el 0x30 (algorithm_content canon o p)) ⊎ other_algorithm other b o p
-  algorithm_spelled other spelled b o p (w, (q, r, is), e) =
-      elim (option_spelled seen P canon other spelled q p r) [
-        | inl same ↦ inl (e ∙ ap (λ (l : List ℕ). el 0x30 l) (is ∙ ap (λ (l : List ℕ). oid (oid_octets o) ++ l) same))
-        | inr x ↦ inr (q, x, e ∙ ap (λ (l : List ℕ). el 0x30 l) is)
-      ]
+module _ {A V : Type 0} (seen : A → V) (P : List ℕ → V → Type 0) (writable : A → Type 0) (spell : List ℕ → A → Type 0) (spelled : (b : List ℕ) (a : A) → P b (seen a) ↔ (writable a × spell b a)) where
+  spelled_to : (b : List ℕ) (o : ObjectIdentifier) (p : Option A) → AlgorithmText P b (algorithm o (seen_option seen p)) → writable_option writable p × SpellsAlgorithm spell b o p
+  spelled_to b o p (w, (q, r, is), e) =
+      let t = (option_spelled seen P writable spell spelled q p).0 r in
+      (t.0, (q, t.1, e ∙ ap (λ (l : List ℕ). el 0x30 l) is))
+
+  spelled_from : (b : List ℕ) (o : ObjectIdentifier) (p : Option A) → writable_option writable p × SpellsAlgorithm spell b o p → AlgorithmText P b (algorithm o (seen_option seen p))
+  spelled_from b o p (h, (q, s, e)) = (oid (oid_octets o) ++ q, (q, (option_spelled seen P writable spell spelled q p).1 (h, s), refl), e)
+
+  pub algorithm_spelled : (b : List ℕ) (o : ObjectIdentifier) (p : Option A) → AlgorithmText P b (algorithm o (seen_option seen p)) ↔ (writable_option writable p × SpellsAlgorithm spell b o p)
+  algorithm_spelled b o p = (spelled_to b o p, spelled_from b o p)

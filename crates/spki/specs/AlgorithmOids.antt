@@ -7,12 +7,12 @@ use Rattle.asn1_core.specs.declared.error.Error.{Error as Below}
 use Rattle.asn1_core.specs.declared.error.Error.TheVariants as below
 use Rattle.spki.specs.declared.error.Error.{Error}
 use Rattle.spki.specs.declared.error.Error.TheVariants as errors
-use Rattle.spki.specs.Error.{IsNone, Parses}
+use Rattle.asn1_core.specs.Gives.{IsNone, Parses}
 
 -- the identifier that the parameters are: there have to be some, and they have to be one
 abbrev pub ParametersOid : Option (ℕ × List ℕ) → Result ObjectIdentifier Error → Type 0
 ParametersOid None r = r ≡ Err errors.AlgorithmParametersMissing
-ParametersOid (Some p) r = Parses Oid (λ o. o) (el p.0 p.1) r
+ParametersOid (Some p) r = Parses (errors.Asn1 below.Malformed) Oid (λ o. o) (el p.0 p.1) r
 
 -- whether the parameters are NULL
 abbrev pub IsNull : ℕ × List ℕ → Type 0

@@ -1,6 +1,7 @@
 -- lemmas only: nothing to believe here
 -- Public keys are read exactly, and what is written of one is read again.
 use Rattle.std.proofs.Common.{◌≡◌, ℕ, Bool, List, [], ◌++◌, Option, refl, sym, ap, ◌∙◌, inl, inr, ◌⊎◌}
+use Rattle.std.specs.Prelude.{◌↔◌}
 use Rattle.std.proofs.lemmas.List.{append-nil}
 use Rattle.asn1_core.specs.Der.{el}
 use Rattle.asn1_core.specs.Reading.{Front}
@@ -12,7 +13,7 @@ use Rattle.der_core.specs.Optional.{writable_option}
 use Rattle.spki.specs.declared.subject_public_key_info.SubjectPublicKeyInfo.{SubjectPublicKeyInfo}
 use Rattle.spki.specs.Algorithm.{algorithm, algorithm_at, AlgorithmText, algorithm_content}
 use Rattle.spki.specs.AlgorithmLaws.{algorithm-exact, algorithm_canonical, algorithm_spelled}
-use Rattle.spki.specs.SubjectPublicKeyInfo.{public_key, public_key_of, public_key_at, PublicKeyOf, PublicKeyText, public_key_content, other_public_key}
+use Rattle.spki.specs.SubjectPublicKeyInfo.{public_key, public_key_of, public_key_at, PublicKeyOf, PublicKeyText, public_key_content, SpellsPublicKey}
 
 module _ {V W : Type 0} (can : ℕ → Bool) (P : List ℕ → V → Type 0) (p : Front V) (exact : Exact P p) (whole : Whole can P) (K : List ℕ → W → Type 0) (q : Front W) (exact_key : Exact K q) where
   abbrev Parts : List ℕ → SubjectPublicKeyInfo V W → Type 0
@@ -41,19 +42,20 @@ module _ {A V B W : Type 0} (seen : A → V) (P : List ℕ → V → Type 0) (ca
   public_key_canonical writable again o p k h key =
       (public_key_content canon canon_key o p k, (el 0x30 (algorithm_content canon o p), canon_key k, algorithm_canonical seen P canon writable again o p h, key, refl), refl)
 
-  pub public_key_spelled : (other : List ℕ → A → Type 0) → ((b : List ℕ) (a : A) → P b (seen a) → (b ≡ canon a) ⊎ other b a)
-      → (other_key : List ℕ → B → Type 0) → ((b : List ℕ) (k : B) → K b (seen_key k) → (b ≡ canon_key k) ⊎ other_key b k)
-      → (b : List ℕ) (o : ObjectIdentifier) (p : Option A) (k : B) → PublicKeyText P K b (public_key (algorithm o (seen_option seen p)) (seen_key k))
-      → (b ≡ el 0x30 (public_key_content canon canon_key o p k)) ⊎ other_public_key canon canon_key other other_key b o p k
-  public_key_spelled other spelled other_key spelled_key b o p k (w, (a, q, r, s, is), e) =
-      let here : b ≡ el 0x30 (a ++ q) = e ∙ ap (λ (l : List ℕ). el 0x30 l) is in
-      elim (algorithm_spelled seen P canon other spelled a o p r) [
-        | inl same ↦ elim (spelled_key q k s) [
-          | inl alike ↦ inl (here ∙ ap (λ (l : List ℕ). el 0x30 (l ++ q)) same ∙ ap (λ (l : List ℕ). el 0x30 (el 0x30 (algorithm_content canon o p) ++ l)) alike)
-          | inr x ↦ inr (a, q, inr (inl (same, x)), here)
-        ]
-        | inr y ↦ elim (spelled_key q k s) [
-          | inl alike ↦ inr (a, q, inl (y, alike), here)
-          | inr x ↦ inr (a, q, inr (inr (y, x)), here)
-        ]
-      ]
+module _ {A V B W : Type 0} (seen : A → V) (P : List ℕ → V → Type 0) (writable : A → Type 0) (spell : List ℕ → A → Type 0) (spelled : (b : List ℕ) (a : A) → P b (seen a) ↔ (writable a × spell b a))
+    (seen_key : B → W) (K : List ℕ → W → Type 0) (writable_key : B → Type 0) (spell_key : List ℕ → B → Type 0) (spelled_key : (b : List ℕ) (k : B) → K b (seen_key k) ↔ (writable_key k × spell_key b k)) where
+  spelled_to : (b : List ℕ) (o : ObjectIdentifier) (p : Option A) (k : B) → PublicKeyText P K b (public_key (algorithm o (seen_option seen p)) (seen_key k))
+      → (writable_option writable p × writable_key k) × SpellsPublicKey spell spell_key b o p k
+  spelled_to b o p k (w, (a, q, r, s, is), e) =
+      let t = (algorithm_spelled seen P writable spell spelled a o p).0 r in
+      let u = (spelled_key q k).0 s in
+      ((t.0, u.0), (a, q, t.1, u.1, e ∙ ap (λ (l : List ℕ). el 0x30 l) is))
+
+  spelled_from : (b : List ℕ) (o : ObjectIdentifier) (p : Option A) (k : B) → (writable_option writable p × writable_key k) × SpellsPublicKey spell spell_key b o p k
+      → PublicKeyText P K b (public_key (algorithm o (seen_option seen p)) (seen_key k))
+  spelled_from b o p k ((h, i), (a, q, s, t, e)) =
+      (a ++ q, (a, q, (algorithm_spelled seen P writable spell spelled a o p).1 (h, s), (spelled_key q k).1 (i, t), refl), e)
+
+  pub public_key_spelled : (b : List ℕ) (o : ObjectIdentifier) (p : Option A) (k : B) → PublicKeyText P K b (public_key (algorithm o (seen_option seen p)) (seen_key k))
+      ↔ ((writable_option writable p × writable_key k) × SpellsPublicKey spell spell_key b o p k)
+  public_key_spelled b o p k = (spelled_to b o p k, spelled_from b o p k)

@@ -1,12 +1,12 @@
 -- SubjectPublicKeyInfo (RFC 5280 section 4.1.2.7): SEQUENCE { algorithm AlgorithmIdentifier, subjectPublicKey BIT STRING }.
-use Rattle.std.specs.Prelude.{◌≡◌, ◌⊎◌, ℕ, Bool, List, ◌++◌, Option}
+use Rattle.std.specs.Prelude.{◌≡◌, ℕ, Bool, List, ◌++◌, Option}
 use Rattle.asn1_core.specs.Der.{el}
 use Rattle.asn1_core.specs.declared.identifier.ObjectIdentifier.{ObjectIdentifier}
 use Rattle.asn1_core.specs.Reading.{Front, All, on, ended, within}
 use Rattle.asn1_core.specs.Texts.{Within}
 use Rattle.spki.specs.declared.algorithm.AlgorithmIdentifier.{AlgorithmIdentifier}
 use Rattle.spki.specs.declared.subject_public_key_info.SubjectPublicKeyInfo.{SubjectPublicKeyInfo}
-use Rattle.spki.specs.Algorithm.{AlgorithmText, algorithm_at, algorithm_content, other_algorithm}
+use Rattle.spki.specs.Algorithm.{AlgorithmText, algorithm_at, algorithm_content, SpellsAlgorithm}
 
 -- a public key: its algorithm and the key
 abbrev pub public_key : {V W : Type 0} → AlgorithmIdentifier V → W → SubjectPublicKeyInfo V W
@@ -25,11 +25,9 @@ PublicKeyText P K = Within 0x30 (PublicKeyOf P K)
 abbrev pub public_key_content : {A B : Type 0} → (A → List ℕ) → (B → List ℕ) → ObjectIdentifier → Option A → B → List ℕ
 public_key_content canon canon_key o p k = el 0x30 (algorithm_content canon o p) ++ canon_key k
 
--- another spelling of a public key: one of its algorithm or of its key
-abbrev pub other_public_key : {A B : Type 0} → (A → List ℕ) → (B → List ℕ) → (List ℕ → A → Type 0) → (List ℕ → B → Type 0) → List ℕ → ObjectIdentifier → Option A → B → Type 0
-other_public_key canon canon_key other other_key b o p k = (a : List ℕ) × (q : List ℕ)
-    × ((other_algorithm other a o p × (q ≡ canon_key k)) ⊎ ((a ≡ el 0x30 (algorithm_content canon o p)) × other_key q k) ⊎ (other_algorithm other a o p × other_key q k))
-    × (b ≡ el 0x30 (a ++ q))
+-- which texts spell a public key: a spelling of its algorithm, and one of its key
+abbrev pub SpellsPublicKey : {A B : Type 0} → (List ℕ → A → Type 0) → (List ℕ → B → Type 0) → List ℕ → ObjectIdentifier → Option A → B → Type 0
+SpellsPublicKey spell spell_key b o p k = (a : List ℕ) × (q : List ℕ) × SpellsAlgorithm spell a o p × spell_key q k × (b ≡ el 0x30 (a ++ q))
 
 -- ---- reading
 

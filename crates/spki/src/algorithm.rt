@@ -3,7 +3,7 @@ ghost use Rattle.std.specs.Prelude.{refl};
 ghost use Rattle.asn1_core.specs.Texts.{seen_option};
 ghost use Rattle.der_core.specs.Optional.{canon_option, writable_option};
 ghost use Rattle.spki.specs.declared.algorithm.AlgorithmIdentifier.{AlgorithmIdentifier};
-ghost use Rattle.spki.specs.Algorithm.{algorithm, algorithm_of, AlgorithmOf, algorithm_content, other_algorithm};
+ghost use Rattle.spki.specs.Algorithm.{algorithm, algorithm_of, AlgorithmOf, algorithm_content, SpellsAlgorithm};
 ghost use Rattle.spki.specs.SameLaws.{algorithm_same};
 ghost use Rattle.spki.specs.AlgorithmLaws.{algorithm_of-exact, algorithm_canonical, algorithm_spelled};
 
@@ -92,9 +92,9 @@ impl<'a, Params: Canonical<&'a [u8]>> Canonical<&'a [u8]> for AlgorithmIdentifie
 }
 
 impl<'a, Params: Spelled<&'a [u8]>> Spelled<&'a [u8]> for AlgorithmIdentifier<Params> {
-    ghost other = { λ b a. other_algorithm Params.other b a.oid a.parameters };
+    ghost spell = { λ b a. SpellsAlgorithm Params.spell b a.oid a.parameters };
 
-    ghost spelled = { λ b a r. algorithm_spelled Params.seen Params.text Params.canon Params.other Params.spelled b a.oid a.parameters r };
+    ghost spelled = { λ b a. algorithm_spelled Params.seen Params.text Params.writable Params.spell Params.spelled b a.oid a.parameters };
 }
 
 impl<'a, Params: Choice<&'a [u8]> + Compared<&'a [u8]>> Compared<&'a [u8]>

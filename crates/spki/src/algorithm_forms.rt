@@ -1,32 +1,35 @@
 //! Algorithms with any parameters: borrowed, and in memory of their own.
 ghost use Rattle.std.specs.Prelude.{◌≡◌, IfOk, IfErr};
-ghost use Rattle.asn1_core.specs.declared.error.Error.TheVariants.{Memory};
+ghost use Rattle.asn1_core.specs.Gives.{GivesAs, Parses, ParsesIn};
+ghost use Rattle.asn1_core.specs.Reading.{whole};
+ghost use Rattle.asn1_core.specs.declared.error.Error.TheVariants as below;
 ghost use Rattle.spki.specs.declared.error.Error.TheVariants as errors;
-ghost use Rattle.spki.specs.Error.{Parses, ParsesIn, ParsesBelow};
+ghost use Rattle.spki.specs.Error.{raised};
 ghost use Rattle.spki.specs.Seen.{borrowed_algorithm, owned_algorithm, IsAlgorithm};
 
 use crate::algorithm::{AlgorithmIdentifier, AlgorithmIdentifierOwned, AlgorithmIdentifierRef};
 use crate::error::{Error, Result};
-use der_core::Decode;
+use der_core::{Choice, Decode};
 use std::alloc::Global;
 
 /// The algorithm whose text these octets are. `Malformed` exactly where they are none.
 fn read_whole<'a>(
     bytes: &'a [u8],
 ) -> std::result::Result<AlgorithmIdentifierRef<'a>, asn1_core::Error>
-    ensures { ParsesBelow IsAlgorithm borrowed_algorithm bytes.now result }
+    ensures { Parses below.Malformed IsAlgorithm borrowed_algorithm bytes.now result }
 {
     AlgorithmIdentifierRef::from_der(bytes)
 }
 
-impl<'a> TryFrom<&'a [u8]> for AlgorithmIdentifierRef<'a> {
+impl<'a, Params: Choice<&'a [u8]>> TryFrom<&'a [u8]> for AlgorithmIdentifier<Params> {
     type Error = Error;
 
-    ghost try_from_gives = { λ b r. Parses IsAlgorithm borrowed_algorithm b.now r };
+    ghost try_from_gives = { λ b r. GivesAs raised ⊥ ⟦<AlgorithmIdentifier<Params> as Decode<&'a [u8]>>⟧.seen r (whole (⟦<AlgorithmIdentifier<Params> as Decode<&'a [u8]>>⟧.at) b.now) };
 
-    /// The algorithm whose text these octets are. `Asn1(Malformed)` exactly where they are none.
-    fn try_from(bytes: &'a [u8]) -> Result<AlgorithmIdentifierRef<'a>> {
-        match read_whole(bytes) {
+    /// The algorithm whose text these octets are. `Asn1(Malformed)` exactly where they are none, `OidUnknown` where an identifier
+    /// is met first that the parameters do not know.
+    fn try_from(bytes: &'a [u8]) -> Result<AlgorithmIdentifier<Params>> {
+        match Self::from_der(bytes) {
             Ok(algorithm) => Ok(algorithm),
             Err(e) => Err(Error::from(e)),
         }
@@ -40,7 +43,7 @@ impl AlgorithmIdentifierRef<'_> {
         alloc: Global,
     ) -> std::result::Result<AlgorithmIdentifierOwned, asn1_core::Error>
         ensures ok { IfOk result (λ a. owned_algorithm a ≡ borrowed_algorithm self.now) }
-        ensures err { IfErr result (λ e. e ≡ Memory) }
+        ensures err { IfErr result (λ e. e ≡ below.Memory) }
     {
         let parameters = match &self.parameters {
             Some(parameters) => Some(parameters.ref_to_owned(alloc)?),
@@ -56,9 +59,9 @@ impl AlgorithmIdentifierRef<'_> {
 impl AlgorithmIdentifierOwned {
     /// The algorithm whose text these octets are. `Asn1(Malformed)` exactly where they are none, and `Memory`.
     pub fn from_der(alloc: Global, bytes: &[u8]) -> Result<AlgorithmIdentifierOwned>
-        ensures { ParsesIn IsAlgorithm owned_algorithm bytes.now result }
+        ensures { ParsesIn errors.Memory (errors.Asn1 below.Malformed) IsAlgorithm owned_algorithm bytes.now result }
     {
-        let borrowed = AlgorithmIdentifierRef::try_from(bytes)?;
+        let borrowed = read_whole(bytes)?;
         Ok(borrowed.ref_to_owned(alloc)?)
     }
 

@@ -4,7 +4,8 @@ ghost use Rattle.asn1_core.specs.Der.{el};
 ghost use Rattle.asn1_core.specs.Texts.{Oid, seen_option};
 ghost use Rattle.der_core.specs.Any.{seen_any};
 ghost use Rattle.spki.specs.declared.error.Error.TheVariants.{OidUnknown, AlgorithmParametersMissing};
-ghost use Rattle.spki.specs.Error.{ParsesBelow};
+ghost use Rattle.asn1_core.specs.Gives.{Parses};
+ghost use Rattle.asn1_core.specs.declared.error.Error.TheVariants as below;
 ghost use Rattle.spki.specs.AlgorithmOids.{ParametersOid, Oids, AssertsParameters, AssertsOids};
 
 use crate::algorithm::{AlgorithmIdentifier, AlgorithmIdentifierRef};
@@ -35,7 +36,7 @@ impl<Params> AlgorithmIdentifier<Params> {
 
 /// The identifier that an element is. `Malformed` exactly where it is none.
 fn element_oid(element: &AnyRef<'_>) -> std::result::Result<ObjectIdentifier, asn1_core::Error>
-    ensures { ParsesBelow Oid (λ o. o) (el element.now.tag.first element.now.value.now) result }
+    ensures { Parses below.Malformed Oid (λ o. o) (el element.now.tag.first element.now.value.now) result }
 {
     element.decode_as::<ObjectIdentifier>()
 }

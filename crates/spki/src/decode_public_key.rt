@@ -4,11 +4,12 @@ ghost use Rattle.asn1_core.specs.declared.error.Error.TheVariants as below;
 ghost use Rattle.der_core.specs.BitString.{seen_bits};
 ghost use Rattle.spki.specs.declared.error.Error.{Error};
 ghost use Rattle.spki.specs.declared.error.Error.TheVariants.{Asn1, Memory};
-ghost use Rattle.spki.specs.Error.{IsNone};
+ghost use Rattle.asn1_core.specs.Gives.{IsNone};
 ghost use Rattle.spki.specs.KeyFile.{IsUnread};
 ghost use Rattle.spki.specs.Seen.{AnyPublicKey, borrowed_any, owned_any, seen_public_key, IsPublicKey};
 
 use crate::error::{Error, Result};
+use crate::public_key_forms::read_whole;
 use crate::subject_public_key_info::{SubjectPublicKeyInfoOwned, SubjectPublicKeyInfoRef};
 use der_core::Document;
 use std::alloc::Global;
@@ -33,9 +34,9 @@ pub trait DecodePublicKey: Sized {
         ensures ok { IfOk result (λ k. (i : AnyPublicKey) × IsPublicKey bytes.now i × holds i k) }
         ensures err { IfErr result (λ e. ((e ≡ Asn1 below.Malformed) × IsNone IsPublicKey bytes.now) ⊎ ((i : AnyPublicKey) × IsPublicKey bytes.now i × refuses i e)) }
     {
-        match SubjectPublicKeyInfoRef::try_from(bytes) {
+        match read_whole(bytes) {
             Ok(spki) => Self::from_spki(alloc, spki),
-            Err(e) => Err(e),
+            Err(e) => Err(Error::from(e)),
         }
     }
 

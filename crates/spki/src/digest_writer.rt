@@ -4,6 +4,7 @@ ghost use Rattle.std.specs.Borrow.{GName};
 
 use asn1_core::{Error, Writer};
 use sha2::Digest;
+use std::fmt;
 
 /// Feeds what is written to a digest. It refuses nothing.
 #[derive(Drop)]
@@ -15,5 +16,12 @@ impl<'d, D: Digest> Writer for DigestWriter<'d, D> {
     fn write(&mut self, octets: &[u8]) -> Result<(), Error> {
         self.0.update(octets);
         Ok(())
+    }
+}
+
+/// The digest is not shown.
+impl<'d, D> fmt::Debug for DigestWriter<'d, D> {
+    fn fmt<W: fmt::Write>(&self, f: &mut fmt::Formatter<W>) -> fmt::Result {
+        f.debug_struct("DigestWriter").finish_non_exhaustive()
     }
 }

@@ -4,7 +4,7 @@ ghost use Rattle.asn1_core.specs.declared.error.Error.TheVariants as below;
 ghost use Rattle.der_core.specs.BitString.{seen_bits};
 ghost use Rattle.spki.specs.declared.error.Error.{Error};
 ghost use Rattle.spki.specs.declared.error.Error.TheVariants.{Asn1, Memory};
-ghost use Rattle.spki.specs.Error.{IsNone};
+ghost use Rattle.asn1_core.specs.Gives.{IsNone};
 ghost use Rattle.spki.specs.Seen.{owned_any, seen_public_key, IsPublicKey};
 
 use crate::error::{Error, Result};

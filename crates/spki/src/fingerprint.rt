@@ -63,6 +63,7 @@ impl<Params: Encode, Key: Encode> SubjectPublicKeyInfo<Params, Key> {
     /// The fingerprint in standard Base64 with padding (RFC 4648 section 4). Refusals as in `fingerprint_bytes`, and `Memory`.
     pub fn fingerprint_base64(&self, alloc: Global) -> Result<Text>
         ensures ok { IfOk result (λ t. t ≡ encode_of standard (sha256 (⟦<SubjectPublicKeyInfo<Params, Key> as Encode>⟧.canon self.now))) }
+        ensures lawful { OnOk result (⟦<SubjectPublicKeyInfo<Params, Key> as Encode>⟧.writable self.now) }
         ensures err { IfErr result (λ e. (f : Below) × (e ≡ raised f)
             × Cause (¬ (⟦<SubjectPublicKeyInfo<Params, Key> as Encode>⟧.writable self.now)) (IsOverlong (length (⟦<SubjectPublicKeyInfo<Params, Key> as Encode>⟧.canon self.now))) (Unit {0}) None 0 0 0 f) }
     {

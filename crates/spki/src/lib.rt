@@ -11,7 +11,7 @@ mod digest_writer;
 mod encode_public_key;
 mod error;
 mod fingerprint;
-mod laws;
+pub mod laws;
 mod order;
 mod public_key_forms;
 mod subject_public_key_info;
@@ -33,8 +33,8 @@ pub use encode_public_key::EncodePublicKey;
 pub use error::{Error, Result};
 pub use fingerprint::FingerprintBytes;
 pub use laws::{
-    algorithms_have_one_text, public_keys_have_one_text, texts_have_one_algorithm,
-    texts_have_one_public_key,
+    algorithms_are_written, algorithms_have_one_text, public_keys_are_written,
+    public_keys_have_one_text, texts_have_one_algorithm, texts_have_one_public_key,
 };
 pub use subject_public_key_info::{
     SubjectPublicKeyInfo, SubjectPublicKeyInfoOwned, SubjectPublicKeyInfoRef,

@@ -1,7 +1,7 @@
 //! Public keys with their algorithms.
 ghost use Rattle.std.specs.Prelude.{refl};
 ghost use Rattle.spki.specs.declared.subject_public_key_info.SubjectPublicKeyInfo.{SubjectPublicKeyInfo};
-ghost use Rattle.spki.specs.SubjectPublicKeyInfo.{public_key, public_key_of, PublicKeyOf, public_key_content, other_public_key};
+ghost use Rattle.spki.specs.SubjectPublicKeyInfo.{public_key, public_key_of, PublicKeyOf, public_key_content, SpellsPublicKey};
 ghost use Rattle.spki.specs.SameLaws.{algorithm_same, public_key_same};
 ghost use Rattle.spki.specs.PublicKeyLaws.{public_key_of-exact, public_key_canonical, public_key_spelled};
 
@@ -95,9 +95,9 @@ impl<'a, Params: Canonical<&'a [u8]>, Key: Canonical<&'a [u8]>> Canonical<&'a [u
 
 impl<'a, Params: Spelled<&'a [u8]>, Key: Spelled<&'a [u8]>> Spelled<&'a [u8]>
     for SubjectPublicKeyInfo<Params, Key> {
-    ghost other = { λ b a. other_public_key Params.canon Key.canon Params.other Key.other b a.algorithm.oid a.algorithm.parameters a.subject_public_key };
+    ghost spell = { λ b a. SpellsPublicKey Params.spell Key.spell b a.algorithm.oid a.algorithm.parameters a.subject_public_key };
 
-    ghost spelled = { λ b a r. public_key_spelled Params.seen Params.text Params.canon Key.seen Key.text Key.canon Params.other Params.spelled Key.other Key.spelled b a.algorithm.oid a.algorithm.parameters a.subject_public_key r };
+    ghost spelled = { λ b a. public_key_spelled Params.seen Params.text Params.writable Params.spell Params.spelled Key.seen Key.text Key.writable Key.spell Key.spelled b a.algorithm.oid a.algorithm.parameters a.subject_public_key };
 }
 
 impl<

@@ -4,6 +4,7 @@ ghost use Rattle.transfer.specs.TransferError.{error_name};
 ghost use Rattle.transfer.specs.declared.error.TransferError.TheVariants.{Memory};
 
 use asn1_core::Error;
+use std::alloc::AllocError;
 use std::fmt;
 
 /// Why a store is refused: the first cause of this list, or want of memory, which may come at any point.
@@ -36,6 +37,14 @@ pub enum TransferError {
     Rng,
     /// There was no memory.
     Memory,
+}
+
+impl From<AllocError> for TransferError {
+    ghost from_gives = { λ _ e. e ≡ Memory };
+
+    fn from(_refused: AllocError) -> TransferError {
+        TransferError::Memory
+    }
 }
 
 impl From<Error> for TransferError {

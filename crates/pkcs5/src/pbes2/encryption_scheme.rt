@@ -1,6 +1,6 @@
 //! The ciphers of PBES2.
 ghost use Rattle.std.specs.Prelude.{◌≡◌, ◌≢◌, Some, length, MatchResult, IfOk, refl};
-ghost use Rattle.std.proofs.Common.{inl};
+ghost use Rattle.asn1_core.specs.Der.{seq};
 ghost use Rattle.asn1_core.specs.Gives.{Gives};
 ghost use Rattle.asn1_core.specs.Oid.{oid_octets};
 ghost use Rattle.asn1_core.specs.Texts.{seen_option};
@@ -202,9 +202,9 @@ impl<'a> Canonical<&'a [u8]> for EncryptionScheme {
 }
 
 impl<'a> Spelled<&'a [u8]> for EncryptionScheme {
-    ghost other = { λ b c. ⊥ };
+    ghost spell = { λ b c. b ≡ seq (cipher_content c) };
 
-    ghost spelled = { λ b c r. inl (cipher_spelled b c r) };
+    ghost spelled = { cipher_spelled };
 }
 
 impl<'a> Compared<&'a [u8]> for EncryptionScheme {

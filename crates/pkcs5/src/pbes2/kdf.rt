@@ -5,7 +5,7 @@ ghost use Rattle.asn1_core.specs.Oid.{oid_octets};
 ghost use Rattle.asn1_core.specs.Texts.{seen_option};
 ghost use Rattle.spki.specs.Seen.{borrowed_any, borrowed_algorithm};
 ghost use Rattle.pkcs5.specs.Error.{InvalidOf};
-ghost use Rattle.pkcs5.specs.Kdf.{KdfOf, kdf_content, IsKdf, other_kdf, kdf_with, kdf_in, kdf_of};
+ghost use Rattle.pkcs5.specs.Kdf.{KdfOf, kdf_content, IsKdf, SpellsKdf, kdf_with, kdf_in, kdf_of};
 ghost use Rattle.pkcs5.specs.KdfLaws.{kdf_of-exact, kdf_canonical, kdf_spelled};
 ghost use Rattle.pkcs5.specs.Kinds.{kdf_oid, stated_length};
 ghost use Rattle.pkcs5.specs.SameLaws.{kdf_same};
@@ -173,7 +173,7 @@ impl<'a> Canonical<&'a [u8]> for Kdf {
 }
 
 impl<'a> Spelled<&'a [u8]> for Kdf {
-    ghost other = { other_kdf };
+    ghost spell = { SpellsKdf };
 
     ghost spelled = { kdf_spelled };
 }

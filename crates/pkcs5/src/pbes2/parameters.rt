@@ -2,7 +2,7 @@
 ghost use Rattle.std.specs.Prelude.{◌≡◌, refl};
 ghost use Rattle.asn1_core.specs.Gives.{Gives};
 ghost use Rattle.spki.specs.Seen.{borrowed_any};
-ghost use Rattle.pkcs5.specs.Parameters.{ParametersOf, parameters_content, AreParameters, other_parameters, parameters_of, parameters_in};
+ghost use Rattle.pkcs5.specs.Parameters.{ParametersOf, parameters_content, AreParameters, SpellsParameters, parameters_of, parameters_in};
 ghost use Rattle.pkcs5.specs.ParametersLaws.{parameters_of-exact, parameters_canonical, parameters_spelled};
 ghost use Rattle.pkcs5.specs.SameLaws.{kdf_same, cipher_same, parameters_same};
 ghost use Rattle.pkcs5.specs.declared.pbes2.parameters.Parameters.{Parameters};
@@ -100,7 +100,7 @@ impl<'a> Canonical<&'a [u8]> for Parameters {
 }
 
 impl<'a> Spelled<&'a [u8]> for Parameters {
-    ghost other = { other_parameters };
+    ghost spell = { SpellsParameters };
 
     ghost spelled = { parameters_spelled };
 }

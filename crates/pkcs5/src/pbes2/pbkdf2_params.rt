@@ -4,7 +4,7 @@ ghost use Rattle.asn1_core.specs.Gives.{Gives};
 ghost use Rattle.spki.specs.Seen.{borrowed_any};
 ghost use Rattle.pkcs5.specs.Error.{InvalidOf};
 ghost use Rattle.pkcs5.specs.Identifiers.{pbkdf2_oid};
-ghost use Rattle.pkcs5.specs.Pbkdf2Params.{pbkdf2_params, Pbkdf2ParamsOf, stated_prf, pbkdf2_params_content, ArePbkdf2Params, other_pbkdf2_params, prf_or_default, pbkdf2_params_of, pbkdf2_params_in};
+ghost use Rattle.pkcs5.specs.Pbkdf2Params.{pbkdf2_params, Pbkdf2ParamsOf, stated_prf, pbkdf2_params_content, ArePbkdf2Params, SpellsPbkdf2Params, prf_or_default, pbkdf2_params_of, pbkdf2_params_in};
 ghost use Rattle.pkcs5.specs.Pbkdf2ParamsLaws.{pbkdf2_params_of-exact, pbkdf2_params_canonical, pbkdf2_params_spelled};
 ghost use Rattle.pkcs5.specs.SameLaws.{pbkdf2_params_same};
 ghost use Rattle.pkcs5.specs.declared.pbes2.pbkdf2_params.Pbkdf2Params.{Pbkdf2Params};
@@ -178,7 +178,7 @@ impl<'a> Canonical<&'a [u8]> for Pbkdf2Params {
 }
 
 impl<'a> Spelled<&'a [u8]> for Pbkdf2Params {
-    ghost other = { other_pbkdf2_params };
+    ghost spell = { SpellsPbkdf2Params };
 
     ghost spelled = { pbkdf2_params_spelled };
 }

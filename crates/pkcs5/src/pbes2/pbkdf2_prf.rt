@@ -6,7 +6,7 @@ ghost use Rattle.asn1_core.specs.Reading.{UnknownOid, known};
 ghost use Rattle.asn1_core.specs.Texts.{seen_option};
 ghost use Rattle.spki.specs.Seen.{borrowed_any, borrowed_algorithm};
 ghost use Rattle.pkcs5.specs.Kinds.{prf_oid};
-ghost use Rattle.pkcs5.specs.Pbkdf2Prf.{PrfOf, prf_content, prf_without_null, prf_named, null_or_none, prf_in, prf_of};
+ghost use Rattle.pkcs5.specs.Pbkdf2Prf.{PrfOf, prf_content, SpellsPrf, prf_named, null_or_none, prf_in, prf_of};
 ghost use Rattle.pkcs5.specs.PrfLaws.{prf_of-exact, prf_canonical, prf_spelled};
 ghost use Rattle.pkcs5.specs.SameLaws.{prf_same};
 ghost use Rattle.pkcs5.specs.declared.pbes2.pbkdf2_prf.Pbkdf2Prf.{Pbkdf2Prf};
@@ -169,7 +169,7 @@ impl<'a> Canonical<&'a [u8]> for Pbkdf2Prf {
 }
 
 impl<'a> Spelled<&'a [u8]> for Pbkdf2Prf {
-    ghost other = { prf_without_null };
+    ghost spell = { SpellsPrf };
 
     ghost spelled = { prf_spelled };
 }

@@ -2,7 +2,8 @@
 ghost use Rattle.std.specs.Prelude.{◌≡◌, ◌<◌, ◌≤◌, ℕ, List, length, IfOk, IfErr, MatchResult, nat_eq, refl};
 ghost use Rattle.std.specs.Cmp.Lexicographic.{pointwise};
 ghost use Rattle.std.specs.Cmp.Rules.{comparing};
-ghost use Rattle.std.proofs.Common.{rules, inl};
+ghost use Rattle.std.proofs.Common.{rules};
+ghost use Rattle.asn1_core.specs.Der.{octets};
 ghost use Rattle.der_core.specs.SameLaws.{octets_same};
 ghost use Rattle.pkcs5.specs.Salt.{IsSalt, SaltOf, salt_of};
 ghost use Rattle.pkcs5.specs.Pbkdf2ParamsLaws.{salt_of-exact, salt_canonical, salt_spelled};
@@ -145,9 +146,9 @@ impl<'a> Canonical<&'a [u8]> for Salt {
 }
 
 impl<'a> Spelled<&'a [u8]> for Salt {
-    ghost other = { λ b s. ⊥ };
+    ghost spell = { λ b s. b ≡ octets s };
 
-    ghost spelled = { λ b s r. inl (salt_spelled s b r) };
+    ghost spelled = { salt_spelled };
 }
 
 impl<'a> Compared<&'a [u8]> for Salt {

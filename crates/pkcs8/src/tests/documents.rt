@@ -2,7 +2,7 @@
 use super::openssl_documents::DOCUMENTS;
 use super::{KEY, octets};
 use crate::{EncryptedPrivateKeyInfo, EncryptedPrivateKeyInfoRef, Error, PrivateKeyInfoRef};
-use der_core::{Decode, Encode, OctetStringRef, canon_is_read, texts_are_read, texts_are_spelled};
+use der_core::{Decode, Encode, OctetStringRef, canon_is_read, exact_spellings, texts_are_read};
 use pkcs5::{EncryptionScheme, pbes2};
 use std::alloc::Global;
 use std::process::Abort;
@@ -158,7 +158,7 @@ fn is_lawful(alloc: Global, document: &[u8]) -> bool {
         return false;
     };
     texts_are_read::<&[u8], EncryptedPrivateKeyInfoRef<'_>>(document);
-    texts_are_spelled::<&[u8], EncryptedPrivateKeyInfoRef<'_>>(document, &info);
+    exact_spellings::<&[u8], EncryptedPrivateKeyInfoRef<'_>>(document, &info);
     canon_is_read::<&[u8], EncryptedPrivateKeyInfoRef<'_>>(&info);
     let empty = EncryptedPrivateKeyInfo {
         encryption_algorithm: info.encryption_algorithm,

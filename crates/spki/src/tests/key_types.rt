@@ -180,7 +180,9 @@ fn a_digest_takes_what_is_written(rt: HostRuntime) {
     let text = octets(&rt, alloc, PUB);
     let key = SubjectPublicKeyInfoRef::try_from(text.as_slice()).expect(&rt, "a public key");
     let mut digest = Sha256::new();
-    key.encode(&mut DigestWriter(&mut digest))
-        .expect(&rt, "no refusal");
+    let mut writer = DigestWriter(&mut digest);
+    key.encode(&mut writer).expect(&rt, "no refusal");
+    let shown = format!(in alloc; "{writer:?}").expect(&rt, "memory");
+    assert!(rt; shown.as_str() == "DigestWriter { .. }");
     assert!(rt; Ok(digest.finalize()) == key.fingerprint_bytes());
 }

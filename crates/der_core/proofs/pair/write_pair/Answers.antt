@@ -1,6 +1,6 @@
 use Rattle.std.proofs.Common.{arith, length-append, inl, inr}
 use Rattle.std.proofs.lemmas.Result.{err_from_is_err_and}
-use Rattle.asn1_core.specs.WritingLaws.{stopped_before, stopped_first, writes_then, held}
+use Rattle.asn1_core.specs.WritingLaws.{stopped_before, stopped_first, writes_then}
 use Rattle.der_core.proofs.pair.write_pair.Goals as goal
 
 pub returns-in_err-pair_len-clause-written : goal.returns-in_err-pair_len-clause-written

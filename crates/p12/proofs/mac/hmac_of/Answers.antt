@@ -6,5 +6,5 @@ use Rattle.p12.proofs.mac.hmac_of.Goals as goal
 pub returns : goal.returns
 returns g c =
     let k = c.args.key.now in
-    ap (take g.row.H.HashFn.OUTPUT) (c.finalize_into.ensures k _ (c.update.ensures k [] c.in-Ok.ensures.1))
-    ∙ take_at _ _ g.row.H.HashFn.OUTPUT (length-hmac g.row.H.HashFn.digest g.row.H.HashFn.BLOCK g.row.H.HashFn.OUTPUT g.met.H.HashFn.digest_length k c.args.content.now)
+    ap (take g.H.HashFn.OUTPUT) (c.finalize_into.ensures k _ (c.update.ensures k [] c.in-Ok.ensures.1))
+    ∙ take_at _ _ g.H.HashFn.OUTPUT (length-hmac g.H.HashFn.digest g.H.HashFn.BLOCK g.H.HashFn.OUTPUT g.met.H.HashFn.digest_length k c.args.content.now)

@@ -16,10 +16,10 @@ pub returns-in-Some-clause-value : goal.returns-in-Some-clause-value
 returns-in-Some-clause-value g c =
     opened_some c.args.password.now c.args.params.now.salt c.args.params.now.iterations c.args.ciphertext.now c.deref.result.now c.deref-2.result.now c.in_ok-text.text c.as_mut_slice.result.now c.decrypt_in_place.new.buffer c.truncate.new.self c.in-Some.len
     (c.deref.ensures.value ∙ c.in_ok-key.ensures.value ∙ ap (λ s. derive12 sha1 20 c.args.password.now s c.args.params.now.iterations 1 24) c.as_slice-salt.ensures) (c.deref-2.ensures.value ∙ c.in_ok-iv.ensures.value ∙ ap (λ s. derive12 sha1 20 c.args.password.now s c.args.params.now.iterations 2 8) c.as_slice-salt.ensures)
-    c.as_mut_slice.ensures.value c.in_ok-text.ensures.ok c.in-Some.ensures.some.1 c.decrypt_in_place.auto.buffer c.truncate.ensures
+    c.as_mut_slice.ensures.value c.in_ok-text.ensures c.in-Some.ensures.some.1 c.decrypt_in_place.auto.buffer c.truncate.ensures
 
 pub returns-clause-value : goal.returns-clause-value
 returns-clause-value g c =
     opened_none c.args.password.now c.args.params.now.salt c.args.params.now.iterations c.args.ciphertext.now c.deref.result.now c.deref-2.result.now c.in_ok-text.text c.as_mut_slice.result.now
     (c.deref.ensures.value ∙ c.in_ok-key.ensures.value ∙ ap (λ s. derive12 sha1 20 c.args.password.now s c.args.params.now.iterations 1 24) c.as_slice-salt.ensures) (c.deref-2.ensures.value ∙ c.in_ok-iv.ensures.value ∙ ap (λ s. derive12 sha1 20 c.args.password.now s c.args.params.now.iterations 2 8) c.as_slice-salt.ensures)
-    c.as_mut_slice.ensures.value c.in_ok-text.ensures.ok c.in-None.ensures.none
+    c.as_mut_slice.ensures.value c.in_ok-text.ensures c.in-None.ensures.none

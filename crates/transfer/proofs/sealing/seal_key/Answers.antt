@@ -7,6 +7,6 @@ pub returns-clause-ok : goal.returns-clause-ok
 returns-clause-ok c = (
   seen_private_key (λ a. (a.tag.first, a.value.now)) (λ s. s.octets.now) (λ s. (s.unused_bits, s.octets.now)) c.in-Ok.key,
   c.in-Ok.ensures,
-  sealed_as _ _ _ _ _ _ _ c.in-Ok-generate_pbkdf2_sha256_aes256cbc.ensures.ok.0 c.private_keys_are_written.ensures (c.in_ok-from_slice.ensures.ok ∙ c.as_bytes.ensures.value)
+  sealed_as _ _ _ _ _ _ _ c.in-Ok-generate_pbkdf2_sha256_aes256cbc.ensures.ok.0 c.private_keys_are_written.ensures (c.in_ok-from_slice.ensures ∙ c.as_bytes.ensures.value)
       c.in-Ok-encrypt_with_params.ensures.ok,
 )

@@ -3,10 +3,10 @@ use Rattle.p12.proofs.ContentRows.{content-exact}
 use Rattle.p12.proofs.Public.{refused}
 use Rattle.p12.proofs.content_info.ContentInfo.parse.Goals as goal
 
-pub returns-in_err-content_in_front : goal.returns-in_err-content_in_front
-returns-in_err-content_in_front c =
+pub returns-in_err-content_in_front-clause-stands : goal.returns-in_err-content_in_front-clause-stands
+returns-in_err-content_in_front-clause-stands c =
     let p = err_from_is_err_and c.from_residual.result c.from_residual.ensures.1 in
     rw (p.1, p.2) (refused content-exact _ _ _ c.in_err-content_in_front.ensures.exact)
 
-pub returns : goal.returns
-returns c = content-exact.found _ _ _ c.in_ok-content_in_front.ensures.exact
+pub returns-clause-stands : goal.returns-clause-stands
+returns-clause-stands c = content-exact.found _ _ _ c.in_ok-content_in_front.ensures.exact

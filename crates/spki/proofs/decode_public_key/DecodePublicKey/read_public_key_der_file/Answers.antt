@@ -8,4 +8,4 @@ returns-in-Ok-clause-ok g c =
 
 pub returns-in-Ok-clause-err : goal.returns-in-Ok-clause-err
 returns-in-Ok-clause-err g c =
-    file_refused IsPublicKey g.Self.DecodePublicKey.refuses c.as_bytes.result.now c.from_public_key_der.result c.from_public_key_der.ensures.err
+    file_refused _ _ _ _ IsPublicKey g.Self.DecodePublicKey.refuses c.as_bytes.result.now c.from_public_key_der.result c.from_public_key_der.ensures.err

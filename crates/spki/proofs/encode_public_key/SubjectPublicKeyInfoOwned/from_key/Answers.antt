@@ -6,5 +6,5 @@ use Rattle.spki.proofs.encode_public_key.SubjectPublicKeyInfoOwned.from_key.Goal
 
 pub returns-in-Ok-clause-err : goal.returns-in-Ok-clause-err
 returns-in-Ok-clause-err g c =
-    document_refused IsPublicKey (seen_public_key owned_any (λ s. seen_bits s.unused_bits s.octets)) (g.T.EncodePublicKey.refuses c.args.source.now) (g.T.EncodePublicKey.text c.args.source.now) c.as_bytes.result.now
+    document_refused _ _ IsPublicKey (seen_public_key owned_any (λ s. seen_bits s.unused_bits s.octets)) (g.T.EncodePublicKey.refuses c.args.source.now) (g.T.EncodePublicKey.text c.args.source.now) c.as_bytes.result.now
     (subst (λ (b : List ℕ). g.T.EncodePublicKey.text c.args.source.now b) (sym c.as_bytes.ensures.value) c.in-Ok.ensures.ok) c.from_der.result c.from_der.ensures

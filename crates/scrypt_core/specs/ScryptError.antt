@@ -1,0 +1,9 @@
+-- How the refusals of scrypt are printed.
+use Rattle.std.specs.Prelude.{ℕ, List, codes}
+use Rattle.scrypt_core.specs.declared.scrypt_error.ScryptError.{ScryptError}
+use Rattle.scrypt_core.specs.declared.scrypt_error.ScryptError.TheVariants.{InvalidOutputLen, Memory}
+
+-- a refusal is printed as its name
+abbrev pub scrypt_error_text : ScryptError → List ℕ
+scrypt_error_text InvalidOutputLen = codes "InvalidOutputLen"
+scrypt_error_text Memory = codes "Memory"
