@@ -21,7 +21,7 @@ use Rattle.p12.specs.Identifiers.{sha1_oid, sha256_oid, rc2_scheme_oid, triple_d
 use Rattle.p12.specs.AlgorithmIdentifier.{ParamsText, NoScheme, AlgorithmCase, AlgorithmText}
 use Rattle.p12.specs.DigestInfo.{DigestText}
 use Rattle.p12.specs.MacData.{MacText}
-use Rattle.p12.specs.Reading.{null_at, params_at, or_else, algorithm_all, algorithm_at, digest_at, mac_at}
+use Rattle.p12.specs.Reading.{null_at, params_at, first_ok, or_else, algorithm_all, algorithm_at, digest_at, mac_at}
 use Rattle.p12.specs.declared.algorithm_identifier.Pkcs12PbeParams.{Pkcs12PbeParams}
 use Rattle.p12.specs.declared.algorithm_identifier.AlgorithmIdentifier.{AlgorithmIdentifier}
 use Rattle.p12.specs.declared.algorithm_identifier.AlgorithmIdentifier.TheVariants.{Sha1, Sha256, PbewithSHAAnd40BitRC2CBC, PbeWithSHAAnd3KeyTripleDESCBC, Pbes2, OtherAlg}
@@ -71,11 +71,11 @@ or_else-exact {A = A} {R = R} {S = S} {p = p} {q = q} e f = record {
   again = again;
 }
   where
-    found : (b : List ℕ) (v : A) (r : Result A Fault) → p b ≡ r → elim r [ Ok w ↦ Ok w | Err x ↦ q b ] ≡ Ok v → OrElse R S b v
+    found : (b : List ℕ) (v : A) (r : Result A Fault) → p b ≡ r → first_ok r (q b) ≡ Ok v → OrElse R S b v
     found b v (Ok w) is h = inl (e.found b v (is ∙ h))
     found b v (Err x) is h = inr (λ w r short. not_both x w (sym is ∙ e.again b w r short), f.found b v h)
 
-    second : (b : List ℕ) (v : A) (r : Result A Fault) → p b ≡ r → ((w : A) → R b w → IsShort b → ⊥) → S b v → IsShort b → elim r [ Ok w ↦ Ok w | Err x ↦ q b ] ≡ Ok v
+    second : (b : List ℕ) (v : A) (r : Result A Fault) → p b ≡ r → ((w : A) → R b w → IsShort b → ⊥) → S b v → IsShort b → first_ok r (q b) ≡ Ok v
     second b v (Ok w) is none s short = absurd (none w (e.found b w is) short)
     second b v (Err x) is none s short = f.again b v s short
 
@@ -126,6 +126,7 @@ algorithm_from k q (Pbes2 par) (is, r) =
 algorithm_from k q (OtherAlg o) r = other_from k q o r (bytes_eq (oid_octets k) pbes2_oid) refl
 
 algorithm_case-exact : (k : ObjectIdentifier) → ExactAll (AlgorithmCase k) (algorithm_all k)
+unfolding algorithm_all
 algorithm_case-exact k =
     let digest = if_there null-exact (within_some 0x05 (Ended tt)) in
     let other = variant (other_algorithm k) (if_there raw-exact raw_some) in

@@ -16,7 +16,7 @@ use Rattle.p12.specs.declared.safe_bag.SafeBag.{SafeBag}
 use Rattle.pkcs5.specs.Kinds.{key_size, rounds_of}
 use Rattle.pkcs5.specs.Opening.{decrypted, states_length, steps_of}
 use Rattle.pkcs5.specs.declared.pbes2.parameters.Parameters.{Parameters}
-use Rattle.p12.specs.AlgorithmIdentifier.{IsOpened, cost, is_aes_blocks, is_blocks, taken, unlock, unlock_pbe, unlock_pbes2, unpadded, triple_des_text}
+use Rattle.p12.specs.AlgorithmIdentifier.{IsOpened, cost, is_aes_blocks, is_blocks, taken, taken_pbe, unlock, unlock_pbe, unlock_pbes2, unpadded, triple_des_text}
 use Rattle.p12.specs.ContentInfo.{ContentFits, ContentText, IsContents}
 use Rattle.p12.specs.Password.{bmp_password, units_of_char}
 use Rattle.p12.specs.Pfx.{IsStore, PfxText, StoreFits}
@@ -60,7 +60,7 @@ none_some : {P : Type 0} (m : List ℕ) → None ≡ Some m → P
 none_some m e = absurd cc
 
 triple_des_opened : (p : _) (q c m : List ℕ) → unlock_pbe (PbeWithSHAAnd3KeyTripleDESCBC p) q c ≡ Some m → IsOpened (PbeWithSHAAnd3KeyTripleDESCBC p) c
-unfolding unlock_pbe taken
+unfolding unlock_pbe taken taken_pbe
 triple_des_opened p q c m h =
     let t = both (nat_lt 0 p.iterations) (is_blocks c) (not_none (nat_lt 0 p.iterations && is_blocks c) (unpadded 8 (triple_des_text q p.salt p.iterations c)) m h) in
     record { openable = refl; some_rounds = ltb-true 0 p.iterations t.0; all = rw t.1 refl }
@@ -88,7 +88,7 @@ at_most true n = omega arith
 at_most false n = omega arith
 
 pub taken_most : (a : AlgorithmIdentifier) (c : List ℕ) → taken a c ≤ cost a
-unfolding taken
+unfolding taken taken_pbe
 taken_most Sha1 c = omega arith
 taken_most Sha256 c = omega arith
 taken_most (PbewithSHAAnd40BitRC2CBC p) c = omega arith

@@ -89,12 +89,21 @@ salt_of (OtherAlg o) = []
 abbrev pub is_blocks : List ℕ → Bool
 is_blocks c = nat_lt 0 (length c) && (length c % 8 == 0)
 
--- the steps of opening a text. A text of RFC 7292 whose length is wrong takes none.
+-- the steps of opening a text of RFC 7292: none where its length is wrong
+unfoldable pub taken_pbe : AlgorithmIdentifier → List ℕ → ℕ
+taken_pbe Sha1 c = 0
+taken_pbe Sha256 c = 0
+taken_pbe (PbewithSHAAnd40BitRC2CBC p) c = 0
+taken_pbe (PbeWithSHAAnd3KeyTripleDESCBC p) c = if is_blocks c then 3 * p.iterations else 0
+taken_pbe (Pbes2 par) c = 0
+taken_pbe (OtherAlg o) c = 0
+
+-- the steps of opening a text
 unfoldable pub taken : AlgorithmIdentifier → List ℕ → ℕ
 taken Sha1 c = 0
 taken Sha256 c = 0
 taken (PbewithSHAAnd40BitRC2CBC p) c = 0
-taken (PbeWithSHAAnd3KeyTripleDESCBC p) c = if is_blocks c then 3 * p.iterations else 0
+taken (PbeWithSHAAnd3KeyTripleDESCBC p) c = taken_pbe (PbeWithSHAAnd3KeyTripleDESCBC p) c
 taken (Pbes2 par) c = if states_length par.kdf (key_size par.encryption) then rounds_of par.kdf * steps_of par else 0
 taken (OtherAlg o) c = 0
 

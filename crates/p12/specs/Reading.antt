@@ -49,13 +49,17 @@ abbrev pub other_algorithm_all : ObjectIdentifier → All AlgorithmIdentifier
 other_algorithm_all k = made (λ e. OtherAlg (record { algorithm_type = k; params = e })) (perhaps raw_at)
 
 -- by the first reader, or where that finds a fault by the second
+abbrev pub first_ok : {A : Type 0} → Result A Fault → Result A Fault → Result A Fault
+first_ok (Ok v) r = Ok v
+first_ok (Err f) r = r
+
 abbrev pub or_else : {A : Type 0} → All A → All A → All A
-or_else p q b = elim (p b) [ Ok v ↦ Ok v | Err f ↦ q b ]
+or_else p q b = first_ok (p b) (q b)
 
 abbrev pub pbes2_all : ObjectIdentifier → All AlgorithmIdentifier
 pbes2_all k = or_else (made Pbes2 (whole parameters_at)) (other_algorithm_all k)
 
-abbrev pub algorithm_all : ObjectIdentifier → All AlgorithmIdentifier
+unfoldable pub algorithm_all : ObjectIdentifier → All AlgorithmIdentifier
 algorithm_all k =
     if bytes_eq (oid_octets k) sha1_oid then digest_all Sha1
     else (if bytes_eq (oid_octets k) sha256_oid then digest_all Sha256

@@ -159,6 +159,7 @@ fn pbes2_parameters(
     }
 }
 
+#[tactic(auto, unfolding(crate::specs::Reading::algorithm_all))]
 fn algorithm_of(
     alloc: Global,
     algorithm_type: ObjectIdentifier,

@@ -3,7 +3,7 @@ ghost use Rattle.std.specs.Prelude.{◌≡◌, ◌+◌, ◌*◌, ◌%◌, ◌≤
 ghost use Rattle.sha1.specs.Sha1.{sha1};
 ghost use Rattle.block_core.specs.Tdes.{inv_tdes};
 ghost use Rattle.mac_modes.specs.Cbc.{uncbc};
-ghost use Rattle.p12.specs.AlgorithmIdentifier.{is_blocks, salt_of, taken, triple_des_text, unlock, unlock_pbe, unlock_pbes2, unpadded};
+ghost use Rattle.p12.specs.AlgorithmIdentifier.{is_blocks, salt_of, taken, taken_pbe, triple_des_text, unlock, unlock_pbe, unlock_pbes2, unpadded};
 ghost use Rattle.p12.specs.Derivation.{derive12, turns};
 ghost use Rattle.p12.specs.declared.algorithm_identifier.AlgorithmIdentifier.TheVariants.{Pbes2};
 ghost use Rattle.pkcs5.specs.Kinds as kinds;
@@ -114,11 +114,11 @@ fn open_pbes2<L: Ledger>(
     if rounds(&parameters.kdf) == 0 {
         return Ok(None);
     }
-    let mut text = Vec::from_slice(alloc, ciphertext)?;
-    match parameters.decrypt_in_place_counted(password, &mut text, steps) {
+    let mut text = Octets::from_slice(alloc, ciphertext)?;
+    match parameters.decrypt_in_place_counted(password, text.as_mut_slice(), steps) {
         Ok(len) => {
             text.truncate(len);
-            Ok(Some(Octets::from_vec(text)))
+            Ok(Some(text))
         }
         Err(_) => Ok(None),
     }
@@ -131,7 +131,7 @@ impl AlgorithmIdentifier {
     /// whole blocks, and otherwise none.
     ///
     /// Caller: the ciphertext has fewer than 2^32 octets, password and salt fewer than 2^59 each.
-    #[tactic(auto, unfolding(crate::specs::AlgorithmIdentifier::unlock_pbe, crate::specs::AlgorithmIdentifier::taken))]
+    #[tactic(auto, unfolding(crate::specs::AlgorithmIdentifier::unlock_pbe, crate::specs::AlgorithmIdentifier::taken_pbe))]
     pub fn decrypt_pbe_counted<L: Ledger>(
         &self,
         alloc: Global,
@@ -144,8 +144,8 @@ impl AlgorithmIdentifier {
         requires salt { length (salt_of self.now) < 2 ^ 59 }
         ensures value { IfOk result (λ m. m ≡ unlock_pbe self.now password.now ciphertext.now) }
         ensures err { IfErr result (λ e. e ≡ Error.Memory) }
-        ensures steps { OnOk result (steps.new ≡ steps.old + taken self.now ciphertext.now) }
-        ensures at_most { (steps.old ≤ steps.new) × (steps.new ≤ steps.old + taken self.now ciphertext.now) }
+        ensures steps { OnOk result (steps.new ≡ steps.old + taken_pbe self.now ciphertext.now) }
+        ensures at_most { (steps.old ≤ steps.new) × (steps.new ≤ steps.old + taken_pbe self.now ciphertext.now) }
     {
         match self {
             AlgorithmIdentifier::PbeWithSHAAnd3KeyTripleDESCBC(params) => {

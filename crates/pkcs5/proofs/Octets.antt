@@ -6,12 +6,13 @@ use Rattle.std.proofs.lemmas.Nat.{xor_lt}
 use Rattle.sha1.specs.Sha1 as one
 use Rattle.sha2.specs.Sha256 as short
 use Rattle.sha2.specs.Sha512 as long
+use Rattle.block_core.specs.Bits.{xor_each}
 use Rattle.block_core.specs.AesKey.{AreOctets, expand, next_word, scheduled, sub_word, turned_word, word_at, xor_words}
 use Rattle.block_core.specs.Field.{power_of_x, times_x}
 use Rattle.block_core.specs.FieldLaws.{times_x_code}
 use Rattle.block_core.specs.Sbox.{affine_bit, from_bits, sub_byte}
 use Rattle.mac_modes.specs.Hmac.{hmac}
-use Rattle.pbkdf2.specs.Pbkdf2.{block, block_count, blocks, chained, pbkdf2, xor_lists, xor_through}
+use Rattle.pbkdf2.specs.Pbkdf2.{block, block_count, blocks, chained, pbkdf2, xor_through}
 use Rattle.pkcs5.specs.Opening.{derived, prf_of}
 use Rattle.pkcs5.specs.declared.pbes2.kdf.Kdf.{Kdf}
 use Rattle.pkcs5.specs.declared.pbes2.kdf.Kdf.TheVariants.{Pbkdf2}
@@ -37,7 +38,8 @@ bytes_take zero xs h = tt
 bytes_take (suc n) [] h = tt
 bytes_take (suc n) (x ∷ xs) h = (h.0, bytes_take n xs h.1)
 
-bytes_xor : (xs ys : List ℕ) → Bytes xs → Bytes ys → Bytes (xor_lists xs ys)
+bytes_xor : (xs ys : List ℕ) → Bytes xs → Bytes ys → Bytes (xor_each xs ys)
+unfolding xor_each
 bytes_xor [] ys h k = tt
 bytes_xor (x ∷ xs) [] h k = tt
 bytes_xor (x ∷ xs) (y ∷ ys) h k = (xor_lt 8 x y h.0 k.0, bytes_xor xs ys h.1 k.1)
