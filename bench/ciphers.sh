@@ -1,5 +1,5 @@
 #!/bin/sh
-# Nanoseconds per octet of AES and Triple DES in CBC mode and of HMAC-SHA256, in memory; beside OpenSSL without its hardware paths.
+# Nanoseconds per octet of AES and Triple DES in CBC mode, of AES in GCM and of HMAC-SHA256, in memory; beside OpenSSL without its hardware paths.
 set -eu
 # shellcheck source=bench/building.sh
 . "$(dirname "$0")/building.sh"
@@ -45,7 +45,7 @@ row() {
     own=$(awk "BEGIN { printf \"%.1f\", ($(least many) - $(least one)) / $passes * 1000 }")
     other=$(least openssl)
     if [ -n "$other" ]; then
-        line "$label" "$own" "$other" "$(awk "BEGIN { printf \"%.1f\", $own / $other }")"
+        line "$label" "$own" "$other" "$(awk "BEGIN { printf \"%.2f\", $own / $other }")"
     else
         line "$label" "$own" - -
     fi
@@ -59,4 +59,6 @@ row "AES-256-CBC, encrypting" aes-256-encrypt -evp aes-256-cbc
 row "AES-256-CBC, decrypting" aes-256-decrypt -decrypt -evp aes-256-cbc
 row "Triple DES, encrypting" tdes-encrypt -evp des-ede3-cbc
 row "Triple DES, decrypting" tdes-decrypt -decrypt -evp des-ede3-cbc
+row "AES-128-GCM" aes-128-gcm -evp aes-128-gcm
+row "AES-256-GCM" aes-256-gcm -evp aes-256-gcm
 row "HMAC-SHA256" hmac-sha256 -hmac sha256

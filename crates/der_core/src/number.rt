@@ -1,5 +1,5 @@
 //! Numbers: INTEGERs that are not negative and fit their types.
-ghost use Rattle.std.specs.Prelude.{◌≡◌, ◌≤◌, ◌+◌, ℕ, length, refl, IfOk};
+ghost use Rattle.std.specs.Prelude.{◌≡◌, ◌≤◌, ◌+◌, ℕ, Bool, true, length, refl, IfOk};
 ghost use Rattle.asn1_core.specs.Reading.{valued, uint_of};
 ghost use Rattle.asn1_core.specs.Texts.{UintOf};
 ghost use Rattle.asn1_core.specs.Gives.{ReadsAs};
@@ -42,262 +42,161 @@ fn number_cmp(a: u64, b: u64) -> Ordering
     one[from..].cmp(&other[other_from..])
 }
 
-impl FixedTag for u8 {
+/// A type of numbers from 0 to `MAX`. It is not for other crates: the four types below are all that have it.
+pub trait Number: Copy + Drop + PartialEq {
+    ghost MAX: { ℕ };
+
+    ghost number: { Self → ℕ };
+
+    /// The largest number.
+    const MAX: u64;
+
+    /// The number.
+    fn widened(self) -> u64
+        ensures value { result ≡ number self }
+        ensures small { result ≤ Self.MAX };
+
+    /// The value of this number.
+    fn narrowed(n: u64) -> Self
+        requires { n ≤ Self.MAX }
+        ensures { number result ≡ n };
+
+    ghost told: { (v w : Self) → (Self.number v ≡ Self.number w → Self.eq v w ≡ true) × (Self.eq v w ≡ true → Self.number v ≡ Self.number w) };
+}
+
+impl Number for u8 {
+    ghost MAX = { 255 };
+
+    ghost number = { λ n. n };
+
+    const MAX: u64 = 255;
+
+    fn widened(self) -> u64 {
+        u64::from(self)
+    }
+
+    fn narrowed(n: u64) -> u8 {
+        n as u8
+    }
+
+    ghost told = { number_same };
+}
+
+impl Number for u16 {
+    ghost MAX = { 65535 };
+
+    ghost number = { λ n. n };
+
+    const MAX: u64 = 65535;
+
+    fn widened(self) -> u64 {
+        u64::from(self)
+    }
+
+    fn narrowed(n: u64) -> u16 {
+        n as u16
+    }
+
+    ghost told = { number_same };
+}
+
+impl Number for u32 {
+    ghost MAX = { 4294967295 };
+
+    ghost number = { λ n. n };
+
+    const MAX: u64 = 4294967295;
+
+    fn widened(self) -> u64 {
+        u64::from(self)
+    }
+
+    fn narrowed(n: u64) -> u32 {
+        n as u32
+    }
+
+    ghost told = { number_same };
+}
+
+impl Number for u64 {
+    ghost MAX = { 18446744073709551615 };
+
+    ghost number = { λ n. n };
+
+    const MAX: u64 = 18446744073709551615;
+
+    fn widened(self) -> u64 {
+        self
+    }
+
+    fn narrowed(n: u64) -> u64 {
+        n
+    }
+
+    ghost told = { number_same };
+}
+
+impl<N: Number> FixedTag for N {
     ghost TAG = { record { first = 2; is_tag = refl } };
 
     const TAG: Tag = Tag::INTEGER;
 }
 
-impl<'a> DecodeValue<&'a [u8]> for u8 {
+impl<'a, N: Number> DecodeValue<&'a [u8]> for N {
     ghost Seen = { ℕ };
 
-    ghost seen = { λ n. n };
+    ghost seen = { N.number };
 
-    ghost value = { λ t. uint_of 255 };
+    ghost value = { λ t. uint_of N.MAX };
 
-    ghost text = { λ t. UintOf 255 };
+    ghost text = { λ t. UintOf N.MAX };
 
-    fn decode_value<R: Reader<&'a [u8]>>(r: &mut R, header: Header) -> Result<u8, Error> {
-        match number_value(r, header, 0xff) {
-            Ok(n) => Ok(n as u8),
+    fn decode_value<R: Reader<&'a [u8]>>(r: &mut R, header: Header) -> Result<N, Error> {
+        match number_value(r, header, N::MAX) {
+            Ok(n) => Ok(N::narrowed(n)),
             Err(e) => Err(e),
         }
     }
 
-    ghost exact = { λ t. uint_of-exact 255 };
+    ghost exact = { λ t. uint_of-exact N.MAX };
 }
 
-impl FixedTag for u16 {
-    ghost TAG = { record { first = 2; is_tag = refl } };
+impl<N: Number> EncodeValue for N {
+    ghost content = { λ n. shortest (N.number n) };
 
-    const TAG: Tag = Tag::INTEGER;
-}
-
-impl<'a> DecodeValue<&'a [u8]> for u16 {
-    ghost Seen = { ℕ };
-
-    ghost seen = { λ n. n };
-
-    ghost value = { λ t. uint_of 65535 };
-
-    ghost text = { λ t. UintOf 65535 };
-
-    fn decode_value<R: Reader<&'a [u8]>>(r: &mut R, header: Header) -> Result<u16, Error> {
-        match number_value(r, header, 0xffff) {
-            Ok(n) => Ok(n as u16),
-            Err(e) => Err(e),
-        }
-    }
-
-    ghost exact = { λ t. uint_of-exact 65535 };
-}
-
-impl FixedTag for u32 {
-    ghost TAG = { record { first = 2; is_tag = refl } };
-
-    const TAG: Tag = Tag::INTEGER;
-}
-
-impl<'a> DecodeValue<&'a [u8]> for u32 {
-    ghost Seen = { ℕ };
-
-    ghost seen = { λ n. n };
-
-    ghost value = { λ t. uint_of 4294967295 };
-
-    ghost text = { λ t. UintOf 4294967295 };
-
-    fn decode_value<R: Reader<&'a [u8]>>(r: &mut R, header: Header) -> Result<u32, Error> {
-        match number_value(r, header, 0xffff_ffff) {
-            Ok(n) => Ok(n as u32),
-            Err(e) => Err(e),
-        }
-    }
-
-    ghost exact = { λ t. uint_of-exact 4294967295 };
-}
-
-impl FixedTag for u64 {
-    ghost TAG = { record { first = 2; is_tag = refl } };
-
-    const TAG: Tag = Tag::INTEGER;
-}
-
-impl<'a> DecodeValue<&'a [u8]> for u64 {
-    ghost Seen = { ℕ };
-
-    ghost seen = { λ n. n };
-
-    ghost value = { λ t. uint_of 18446744073709551615 };
-
-    ghost text = { λ t. UintOf 18446744073709551615 };
-
-    fn decode_value<R: Reader<&'a [u8]>>(r: &mut R, header: Header) -> Result<u64, Error> {
-        match number_value(r, header, 0xffff_ffff_ffff_ffff) {
-            Ok(n) => Ok(n),
-            Err(e) => Err(e),
-        }
-    }
-
-    ghost exact = { λ t. uint_of-exact 18446744073709551615 };
-}
-
-impl EncodeValue for u8 {
-    ghost content = { shortest };
-
-    ghost writable = { λ n. n ≤ 255 };
+    ghost writable = { λ n. N.number n ≤ N.MAX };
 
     fn value_len(&self) -> Result<Length, Error> {
-        Ok(uint_value_len(u64::from(*self)))
+        Ok(uint_value_len(self.widened()))
     }
 
     fn encode_value<W: Writer>(&self, w: &mut W) -> Result<(), Error> {
-        write_uint_value(w, u64::from(*self))
+        write_uint_value(w, self.widened())
     }
 }
 
-impl<'a> Canonical<&'a [u8]> for u8 {
-    ghost canonical = { uint_canonical 255 };
+impl<'a, N: Number> Canonical<&'a [u8]> for N {
+    ghost canonical = { λ n h. uint_canonical N.MAX (N.number n) h };
 }
 
-impl<'a> Spelled<&'a [u8]> for u8 {
-    ghost spell = { λ b n. b ≡ uint n };
+impl<'a, N: Number> Spelled<&'a [u8]> for N {
+    ghost spell = { λ b n. b ≡ uint (N.number n) };
 
-    ghost spelled = { uint_spelled 255 };
+    ghost spelled = { λ b n. uint_spelled N.MAX b (N.number n) };
 }
 
-impl EncodeValue for u16 {
-    ghost content = { shortest };
+impl<N: Number> ValueOrd for N {
+    ghost value_order = { λ a b. octet_cmp (shortest (N.number a)) (shortest (N.number b)) };
 
-    ghost writable = { λ n. n ≤ 65535 };
-
-    fn value_len(&self) -> Result<Length, Error> {
-        Ok(uint_value_len(u64::from(*self)))
-    }
-
-    fn encode_value<W: Writer>(&self, w: &mut W) -> Result<(), Error> {
-        write_uint_value(w, u64::from(*self))
+    fn value_cmp(&self, other: &N) -> Result<Ordering, Error> {
+        Ok(number_cmp(self.widened(), other.widened()))
     }
 }
 
-impl<'a> Canonical<&'a [u8]> for u16 {
-    ghost canonical = { uint_canonical 65535 };
-}
-
-impl<'a> Spelled<&'a [u8]> for u16 {
-    ghost spell = { λ b n. b ≡ uint n };
-
-    ghost spelled = { uint_spelled 65535 };
-}
-
-impl EncodeValue for u32 {
-    ghost content = { shortest };
-
-    ghost writable = { λ n. n ≤ 4294967295 };
-
-    fn value_len(&self) -> Result<Length, Error> {
-        Ok(uint_value_len(u64::from(*self)))
-    }
-
-    fn encode_value<W: Writer>(&self, w: &mut W) -> Result<(), Error> {
-        write_uint_value(w, u64::from(*self))
-    }
-}
-
-impl<'a> Canonical<&'a [u8]> for u32 {
-    ghost canonical = { uint_canonical 4294967295 };
-}
-
-impl<'a> Spelled<&'a [u8]> for u32 {
-    ghost spell = { λ b n. b ≡ uint n };
-
-    ghost spelled = { uint_spelled 4294967295 };
-}
-
-impl EncodeValue for u64 {
-    ghost content = { shortest };
-
-    ghost writable = { λ n. n ≤ 18446744073709551615 };
-
-    fn value_len(&self) -> Result<Length, Error> {
-        Ok(uint_value_len(*self))
-    }
-
-    fn encode_value<W: Writer>(&self, w: &mut W) -> Result<(), Error> {
-        write_uint_value(w, *self)
-    }
-}
-
-impl<'a> Canonical<&'a [u8]> for u64 {
-    ghost canonical = { uint_canonical 18446744073709551615 };
-}
-
-impl<'a> Spelled<&'a [u8]> for u64 {
-    ghost spell = { λ b n. b ≡ uint n };
-
-    ghost spelled = { uint_spelled 18446744073709551615 };
-}
-
-impl ValueOrd for u8 {
-    ghost value_order = { λ a b. octet_cmp (shortest a) (shortest b) };
-
-    fn value_cmp(&self, other: &u8) -> Result<Ordering, Error> {
-        Ok(number_cmp(u64::from(*self), u64::from(*other)))
-    }
-}
-
-impl ContentOrd for u8 {
+impl<N: Number> ContentOrd for N {
     ghost ordered = { λ a b. refl };
 }
 
-impl ValueOrd for u16 {
-    ghost value_order = { λ a b. octet_cmp (shortest a) (shortest b) };
-
-    fn value_cmp(&self, other: &u16) -> Result<Ordering, Error> {
-        Ok(number_cmp(u64::from(*self), u64::from(*other)))
-    }
-}
-
-impl ContentOrd for u16 {
-    ghost ordered = { λ a b. refl };
-}
-
-impl ValueOrd for u32 {
-    ghost value_order = { λ a b. octet_cmp (shortest a) (shortest b) };
-
-    fn value_cmp(&self, other: &u32) -> Result<Ordering, Error> {
-        Ok(number_cmp(u64::from(*self), u64::from(*other)))
-    }
-}
-
-impl ContentOrd for u32 {
-    ghost ordered = { λ a b. refl };
-}
-
-impl ValueOrd for u64 {
-    ghost value_order = { λ a b. octet_cmp (shortest a) (shortest b) };
-
-    fn value_cmp(&self, other: &u64) -> Result<Ordering, Error> {
-        Ok(number_cmp(*self, *other))
-    }
-}
-
-impl ContentOrd for u64 {
-    ghost ordered = { λ a b. refl };
-}
-
-impl<'a> Compared<&'a [u8]> for u8 {
-    ghost compared = { number_same };
-}
-
-impl<'a> Compared<&'a [u8]> for u16 {
-    ghost compared = { number_same };
-}
-
-impl<'a> Compared<&'a [u8]> for u32 {
-    ghost compared = { number_same };
-}
-
-impl<'a> Compared<&'a [u8]> for u64 {
-    ghost compared = { number_same };
+impl<'a, N: Number> Compared<&'a [u8]> for N {
+    ghost compared = { N.told };
 }

@@ -3,7 +3,7 @@
 
 mod encryption_scheme;
 mod error;
-mod laws;
+pub mod laws;
 pub mod opening_laws;
 pub mod pbes2;
 mod scheme_encryption;

@@ -44,8 +44,7 @@ module _ {A V K L B W : Type 0} (seen : A → V) (P : List ℕ → V → Type 0)
       → PrivateKeyText P R Q b (private_key (algorithm o (seen_option seen p)) (seen_key k) (seen_option seen_public q))
   spelled_from b o p k q ((h, i), (a, l, x, y, s, t, f, g, e)) =
       let r = public_key_content bits q in
-      let content : laid (version_of q) a l x r y ≡ laid (version_of (seen_option seen_public q)) a l x r y = ap (λ (n : ℕ). laid n a l x r y) (sym (version_seen seen_public q)) in
-      (
+      let content : laid (version_of q) a l x r y ≡ laid (version_of (seen_option seen_public q)) a l x r y = ap (λ (n : ℕ). laid n a l x r y) (sym (version_seen seen_public q)) in (
         laid (version_of q) a l x r y,
         (
           a,

@@ -7,7 +7,7 @@ mod encryption;
 mod error;
 mod fields;
 mod implicit_bit_string;
-mod laws;
+pub mod laws;
 mod private_key_forms;
 mod private_key_info;
 mod version;

@@ -226,10 +226,19 @@ fn salts_and_outputs_have_bounds(rt: HostRuntime) -> Result<(), Fail> {
 #[test]
 fn a_refusal_is_printed_as_its_name(rt: HostRuntime) -> Result<(), Fail> {
     let name = Ident::new("i")?;
-    assert_eq!(rt;
-        Error::ParamInvalid { name }.to_string(rt.alloc())?.as_str(),
-        "ParamInvalid"
-    );
-    assert_eq!(rt; Error::Memory.to_string(rt.alloc())?.as_str(), "Memory");
+    for (refusal, text) in [
+        (Error::Algorithm, "Algorithm"),
+        (Error::EncodingInvalid, "EncodingInvalid"),
+        (Error::OutputSize, "OutputSize"),
+        (Error::ParamInvalid { name }, "ParamInvalid"),
+        (Error::ParamsInvalid, "ParamsInvalid"),
+        (Error::PasswordInvalid, "PasswordInvalid"),
+        (Error::SaltInvalid, "SaltInvalid"),
+        (Error::Version, "Version"),
+        (Error::Rng, "Rng"),
+        (Error::Memory, "Memory"),
+    ] {
+        assert_eq!(rt; refusal.to_string(rt.alloc())?.as_str(), text);
+    }
     Ok(())
 }

@@ -322,10 +322,7 @@ fn each_part_by_itself(rt: HostRuntime) {
 }
 
 /// The laws of a lawful type, at a value and a text.
-fn laws_hold<'a, T: Spelled<&'a [u8]> + Compared<&'a [u8]>>(
-    text: &'a [u8],
-    value: &T,
-) {
+fn laws_hold<'a, T: Spelled<&'a [u8]> + Compared<&'a [u8]>>(text: &'a [u8], value: &T) {
     texts_are_read::<&'a [u8], T>(text);
     exact_spellings::<&'a [u8], T>(text, value);
     canon_is_read::<&'a [u8], T>(value);
