@@ -205,25 +205,3 @@ fn texts_of_characters(rt: HostRuntime) {
     let mut odd = SliceReader::new(&[0x1e, 3, 0, 0x61, 0]);
     assert!(rt; read_bmp(alloc, &mut odd).is_err());
 }
-
-#[test]
-fn values_in_memory_of_their_own(rt: HostRuntime) {
-    let alloc = rt.alloc();
-    let mut octets = Octets::from_slice(alloc, &[1, 2]).expect(&rt, "octets");
-    octets.push(3).expect(&rt, "room");
-    octets.extend(&[4, 5]).expect(&rt, "room");
-    octets.as_mut_slice()[0] = 9;
-    let copy = octets.try_clone(alloc).expect(&rt, "octets");
-    octets.truncate(2);
-    assert!(rt; octets.as_slice() == &[9, 2][..]);
-    assert!(rt; copy.as_slice() == &[9, 2, 3, 4, 5][..]);
-    assert!(rt; octets < copy);
-    assert!(rt; !octets.is_empty());
-    let text = Text::from_text(alloc, "store").expect(&rt, "a text");
-    assert!(rt; text == text.try_clone(alloc).expect(&rt, "a text"));
-    let mut items: Items<u8> = Items::new(alloc);
-    items.push(7).expect(&rt, "room");
-    assert!(rt; items.get(0) == Some(&7));
-    assert!(rt; items.get(1).is_none());
-    assert!(rt; items.len() == 1);
-}

@@ -1,5 +1,5 @@
 -- Octets that are put behind others in an array.
-use Rattle.std.proofs.Common.{◌≡◌, ℕ, ◌+◌, ◌-◌, ◌≤◌, List, length, take, drop, ap, sym, subst, ◌∙◌, arith, length-drop}
+use Rattle.std.proofs.Common.{◌≡◌, ℕ, ◌+◌, ◌-◌, ◌≤◌, List, length, drop, ap, sym, ◌∙◌, arith, length-drop}
 use Rattle.std.proofs.lemmas.List.{drop-drop, drop-replicate, length-take-le}
 use Rattle.std.specs.Prelude.{replicate}
 use Rattle.std.proofs.lemmas.Slice.{drop-put_mid}

@@ -1,9 +1,13 @@
-//! Draws over octets in memory, and over a reader and a generator that may fail.
-use crate::{Draw, DrawnBytes, Failed, FailingDraw, ReadDraw, TryRngDraw};
+//! Draws, sources and sinks over memory, and over streams and generators that may fail.
+use crate::{
+    Draw, DrawnBytes, Failed, FailingDraw, MemorySink, MemorySource, ReadDraw, ReadSource, Sink,
+    Source, TryRngDraw, WriteSink,
+};
 use octet_core::{Items, Octets};
 use rand_core::TryRng;
 use std::alloc::Global;
 use std::fmt;
+use std::io::{self, Write};
 use std::test::Fail;
 
 /// A draw of the octets 1 to 5.
@@ -108,4 +112,59 @@ fn a_failure_of_a_generator_is_a_fault(rt: HostRuntime) {
     assert_eq!(rt; draw.fill(&mut pair), Ok(()));
     assert_eq!(rt; pair, [7, 7]);
     assert_eq!(rt; draw.fill(&mut pair), Err(Failed));
+}
+
+#[test]
+fn memory_is_read_and_written_in_pieces(rt: HostRuntime) -> Result<(), Fail> {
+    let mut failing = Items::new(rt.alloc());
+    failing.push(1)?;
+    let octets = Octets::from_slice(rt.alloc(), &[1, 2, 3])?;
+    let mut source = MemorySource::new(octets, 2, failing);
+    let mut buf = [0u8; 4];
+    assert_eq!(rt; source.read(&mut buf), Ok(2));
+    assert_eq!(rt; source.read(&mut buf), Err(Failed));
+    assert_eq!(rt; source.read(&mut buf), Ok(1));
+    assert_eq!(rt; buf, [3, 2, 0, 0]);
+    assert_eq!(rt; source.read(&mut buf), Ok(0));
+    let mut sink = MemorySink::new(rt.alloc(), 3, Items::new(rt.alloc()))?;
+    assert_eq!(rt; sink.write(&[1, 2]), Ok(2));
+    assert_eq!(rt; sink.write(&[3, 4]), Ok(1));
+    assert_eq!(rt; sink.write(&[4]), Err(Failed));
+    assert!(rt; sink.octets() == &[1, 2, 3][..]);
+    Ok(())
+}
+
+/// A writer that takes at most two octets at a call, and fails at its third.
+#[derive(Drop)]
+struct TiredWriter {
+    calls: u32,
+}
+
+impl Write for TiredWriter {
+    fn write(&mut self, buf: &[u8]) -> io::Result<usize> {
+        self.calls = self.calls.saturating_add(1);
+        if self.calls > 2 {
+            return Err(io::Error::from(io::ErrorKind::BrokenPipe));
+        }
+        Ok(buf.len().min(2))
+    }
+
+    fn flush(&mut self) -> io::Result<()> {
+        Ok(())
+    }
+}
+
+#[test]
+fn streams_are_read_and_written(rt: HostRuntime) {
+    let octets = [1u8, 2, 3];
+    let mut source = ReadSource::new(octets.as_slice());
+    let mut buf = [0u8; 2];
+    assert_eq!(rt; source.read(&mut buf), Ok(2));
+    assert_eq!(rt; buf, [1, 2]);
+    assert_eq!(rt; source.read(&mut buf), Ok(1));
+    assert_eq!(rt; source.read(&mut buf), Ok(0));
+    let mut sink = WriteSink::new(TiredWriter { calls: 0 });
+    assert_eq!(rt; sink.write(&[1, 2, 3]), Ok(2));
+    assert_eq!(rt; sink.write(&[3]), Ok(1));
+    assert_eq!(rt; sink.write(&[4]), Err(Failed));
 }
