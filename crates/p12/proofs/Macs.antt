@@ -4,7 +4,7 @@ use Rattle.std.proofs.lemmas.Slice.Eq.{bytes_eq-Decides}
 use Rattle.std.proofs.lemmas.Bool.{lt-ltb}
 use Rattle.std.proofs.Math.Nat.{div-eq_of_lt-le}
 use Rattle.p12.specs.Derivation.{turns}
-use Rattle.p12.specs.MacData.{has_mac, mac_agrees, mac_of, mac_value}
+use Rattle.p12.specs.MacData.{is_mac_digest, mac_agrees, mac_of, mac_value}
 use Rattle.p12.specs.declared.algorithm_identifier.AlgorithmIdentifier.{AlgorithmIdentifier}
 use Rattle.p12.specs.declared.mac_data.MacData.{MacData}
 
@@ -15,7 +15,7 @@ pub mac_is : (a : AlgorithmIdentifier) (q v salt d s : List ℕ) (r : ℕ) → d
 unfolding mac_of
 mac_is a q v salt d s r e f = ap (λ (x : List ℕ). made_mac a x s r) e ∙ ap (λ (x : List ℕ). made_mac a (mac_value a q salt r v) x r) f
 
-pub mac_of_agrees : (a : AlgorithmIdentifier) (q v salt : List ℕ) (r : ℕ) → has_mac a ≡ true → 1 ≤ r → mac_agrees (mac_of a q v salt r) q v ≡ true
+pub mac_of_agrees : (a : AlgorithmIdentifier) (q v salt : List ℕ) (r : ℕ) → is_mac_digest a ≡ true → 1 ≤ r → mac_agrees (mac_of a q v salt r) q v ≡ true
 unfolding mac_of mac_agrees
 mac_of_agrees a q v salt r is h = rw (is, lt-ltb 0 r (omega (arith, h)), (bytes_eq-Decides (mac_value a q salt r v) (mac_value a q salt r v)).1 refl) refl
 

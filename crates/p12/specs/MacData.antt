@@ -17,13 +17,13 @@ abbrev pub MacText : List ℕ → MacData → Type 0
 MacText = Sequence (Field DigestText (λ m. m.mac) (Field (Inside 0x04) (λ m. m.salt) (Field (OrNothing 1 (Uint (2 ^ 32 - 1))) (λ m. m.iterations) End)))
 
 -- whether a MAC under this digest can be tested: SHA-1 and SHA-256
-abbrev pub has_mac : AlgorithmIdentifier → Bool
-has_mac Sha1 = true
-has_mac Sha256 = true
-has_mac (PbewithSHAAnd40BitRC2CBC p) = false
-has_mac (PbeWithSHAAnd3KeyTripleDESCBC p) = false
-has_mac (Pbes2 par) = false
-has_mac (OtherAlg o) = false
+abbrev pub is_mac_digest : AlgorithmIdentifier → Bool
+is_mac_digest Sha1 = true
+is_mac_digest Sha256 = true
+is_mac_digest (PbewithSHAAnd40BitRC2CBC p) = false
+is_mac_digest (PbeWithSHAAnd3KeyTripleDESCBC p) = false
+is_mac_digest (Pbes2 par) = false
+is_mac_digest (OtherAlg o) = false
 
 -- HMAC over the hash h, whose answers have u octets, under a key of as many octets (RFC 7292 appendix B.4). The password comes in
 -- UTF-16.
@@ -43,11 +43,11 @@ mac_value (OtherAlg o) = λ q salt r v. []
 unfoldable pub mac_agrees : MacData → List ℕ → List ℕ → Bool
 mac_agrees m q v =
     let a = m.mac.digest_algorithm in
-    has_mac a && (nat_lt 0 m.iterations && bytes_eq (mac_value a q m.salt m.iterations v) m.mac.digest)
+    is_mac_digest a && (nat_lt 0 m.iterations && bytes_eq (mac_value a q m.salt m.iterations v) m.mac.digest)
 
 -- the steps of testing it
 abbrev pub mac_steps : MacData → ℕ
-mac_steps m = if has_mac m.mac.digest_algorithm then m.iterations else 0
+mac_steps m = if is_mac_digest m.mac.digest_algorithm then m.iterations else 0
 
 -- the MAC of a content under a digest, with this salt and count
 unfoldable pub mac_of : AlgorithmIdentifier → List ℕ → List ℕ → List ℕ → ℕ → MacData

@@ -1,7 +1,9 @@
 //! Algorithms of PKCS#12.
-ghost use Rattle.std.specs.Prelude.{◌+◌, ◌≡◌, ◌<◌, length, OnOk, IfOk, IfErr};
+ghost use Rattle.std.specs.Prelude.{◌+◌, ◌≡◌, ◌<◌, ◌≤◌, length, OnOk, IfOk, IfErr};
 ghost use Rattle.asn1_core.specs.Gives.{Gives, ReadsIn, GivesIn};
-ghost use Rattle.p12.specs.AlgorithmIdentifier.{AlgorithmText, ParamsText};
+ghost use Rattle.p12.specs.AlgorithmIdentifier.{AlgorithmText, ParamsText, cost, count, openable};
+ghost use Rattle.pkcs5.specs.Kinds as kinds;
+ghost use Rattle.pkcs5.specs.Opening as opening;
 ghost use Rattle.p12.specs.Error.{Reads};
 ghost use Rattle.asn1_core.specs.Reading.{made, perhaps};
 ghost use Rattle.p12.specs.declared.algorithm_identifier.AlgorithmIdentifier.TheVariants as algorithm;
@@ -16,7 +18,7 @@ use asn1_core::{
     read_uint,
 };
 use der_core::Decode;
-use pkcs5::pbes2::{PBES2_OID, Parameters};
+use pkcs5::pbes2::{Kdf, PBES2_OID, Parameters, Pbkdf2Prf};
 use std::alloc::Global;
 
 /// The parameters of a password-based scheme (RFC 7292 appendix C): the salt, and how many rounds derive its key.
@@ -268,5 +270,94 @@ impl AlgorithmIdentifier {
                 AlgorithmIdentifier::OtherAlg(other.try_clone(alloc)?)
             }
         })
+    }
+}
+
+/// The octets of an answer of a pseudorandom function.
+fn prf_output(prf: Pbkdf2Prf) -> u64
+    ensures { result ≡ opening.prf_output prf }
+{
+    match prf {
+        Pbkdf2Prf::HmacWithSha1 => 20,
+        Pbkdf2Prf::HmacWithSha224 => 28,
+        Pbkdf2Prf::HmacWithSha256 => 32,
+        Pbkdf2Prf::HmacWithSha384 => 48,
+        Pbkdf2Prf::HmacWithSha512 => 64,
+    }
+}
+
+/// The answers of the pseudorandom function that a round takes, of which there are as many as the key wants.
+fn answers_of(parameters: &Parameters) -> u64
+    ensures value { result ≡ opening.steps_of parameters.now }
+    ensures few { result ≤ 2 }
+{
+    match &parameters.kdf {
+        Kdf::Pbkdf2(params) => {
+            let output = prf_output(params.prf);
+            (parameters.encryption.key_size() as u64 + (output - 1)) / output
+        }
+    }
+}
+
+/// How many rounds derive a key.
+pub(crate) fn rounds_of(kdf: &Kdf) -> u32
+    ensures { result ≡ kinds.rounds_of kdf.now }
+{
+    match kdf {
+        Kdf::Pbkdf2(params) => params.iteration_count,
+    }
+}
+
+impl AlgorithmIdentifier {
+    /// Whether a text under it can be opened: Triple DES, and PBES2 where a length of the key that is stated is the
+    /// cipher's.
+    pub fn is_openable(&self) -> bool
+        ensures { result ≡ openable self.now }
+    {
+        match self {
+            AlgorithmIdentifier::PbeWithSHAAnd3KeyTripleDESCBC(_) => true,
+            AlgorithmIdentifier::Pbes2(parameters) => match parameters.kdf.key_length() {
+                Some(stated) => usize::from(stated) == parameters.encryption.key_size(),
+                None => true,
+            },
+            AlgorithmIdentifier::Sha1
+            | AlgorithmIdentifier::Sha256
+            | AlgorithmIdentifier::PbewithSHAAnd40BitRC2CBC(_)
+            | AlgorithmIdentifier::OtherAlg(_) => false,
+        }
+    }
+
+    /// How many rounds derive the key of an algorithm that can be opened; 0 for others.
+    pub fn count(&self) -> u64
+        ensures { result ≡ count self.now }
+    {
+        match self {
+            AlgorithmIdentifier::PbeWithSHAAnd3KeyTripleDESCBC(params) => params.iterations,
+            AlgorithmIdentifier::Pbes2(parameters) => u64::from(rounds_of(&parameters.kdf)),
+            AlgorithmIdentifier::Sha1
+            | AlgorithmIdentifier::Sha256
+            | AlgorithmIdentifier::PbewithSHAAnd40BitRC2CBC(_)
+            | AlgorithmIdentifier::OtherAlg(_) => 0,
+        }
+    }
+
+    /// The steps of opening a text: for Triple DES three digests a round, two for the key and one for the IV; for PBES2 the
+    /// answers of the pseudorandom function that make the key; 0 for others.
+    pub fn cost(&self) -> u128
+        ensures { result ≡ cost self.now }
+    {
+        match self {
+            AlgorithmIdentifier::PbeWithSHAAnd3KeyTripleDESCBC(params) => {
+                3 * u128::from(params.iterations)
+            }
+            AlgorithmIdentifier::Pbes2(parameters) => {
+                let rounds = rounds_of(&parameters.kdf);
+                u128::from(u64::from(rounds) * answers_of(parameters))
+            }
+            AlgorithmIdentifier::Sha1
+            | AlgorithmIdentifier::Sha256
+            | AlgorithmIdentifier::PbewithSHAAnd40BitRC2CBC(_)
+            | AlgorithmIdentifier::OtherAlg(_) => 0,
+        }
     }
 }

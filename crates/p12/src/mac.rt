@@ -3,7 +3,7 @@ ghost use Rattle.std.specs.Prelude.{◌≡◌, ◌+◌, ◌≤◌, ◌<◌, ◌^
 ghost use Rattle.mac_modes.specs.Hmac.{hmac};
 ghost use Rattle.std.specs.Str.{bytes_eq};
 ghost use Rattle.p12.specs.Derivation.{turns};
-ghost use Rattle.p12.specs.MacData.{has_mac, mac_agrees, mac_of, mac_steps, mac_under, mac_value};
+ghost use Rattle.p12.specs.MacData.{is_mac_digest, mac_agrees, mac_of, mac_steps, mac_under, mac_value};
 ghost use Rattle.p12.specs.declared.algorithm_identifier.AlgorithmIdentifier.TheVariants as algorithm;
 
 use crate::algorithm_identifier::AlgorithmIdentifier;

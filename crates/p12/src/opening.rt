@@ -6,16 +6,15 @@ ghost use Rattle.mac_modes.specs.Cbc.{uncbc};
 ghost use Rattle.p12.specs.AlgorithmIdentifier.{is_blocks, salt_of, taken, taken_pbe, triple_des_text, unlock, unlock_pbe, unlock_pbes2, unpadded};
 ghost use Rattle.p12.specs.Derivation.{derive12, turns};
 ghost use Rattle.p12.specs.declared.algorithm_identifier.AlgorithmIdentifier.TheVariants.{Pbes2};
-ghost use Rattle.pkcs5.specs.Kinds as kinds;
 
-use crate::algorithm_identifier::{AlgorithmIdentifier, Pkcs12PbeParams};
+use crate::algorithm_identifier::{AlgorithmIdentifier, Pkcs12PbeParams, rounds_of};
 use crate::derivation::derive;
 use crate::error::Error;
 use crate::password::bmp_string;
 use asn1_core::Octets;
 use block_core::{BlockCipher, TdesEde3};
 use mac_modes::cbc_decrypt_padded;
-use pkcs5::pbes2::{Kdf, Parameters};
+use pkcs5::pbes2::Parameters;
 use sha1::Sha1;
 use std::alloc::Global;
 use std::marker::Brand;
@@ -89,15 +88,6 @@ fn open_blocks<L: Ledger>(
     }
 }
 
-/// How many rounds derive a key.
-fn rounds(kdf: &Kdf) -> u32
-    ensures { result ≡ kinds.rounds_of kdf.now }
-{
-    match kdf {
-        Kdf::Pbkdf2(params) => params.iteration_count,
-    }
-}
-
 /// The text of a ciphertext under PBES2.
 fn open_pbes2<L: Ledger>(
     alloc: Global,
@@ -111,7 +101,7 @@ fn open_pbes2<L: Ledger>(
     ensures steps { OnOk result (steps.new ≡ steps.old + taken (Pbes2 parameters.now) ciphertext.now) }
     ensures at_most { (steps.old ≤ steps.new) × (steps.new ≤ steps.old + taken (Pbes2 parameters.now) ciphertext.now) }
 {
-    if rounds(&parameters.kdf) == 0 {
+    if rounds_of(&parameters.kdf) == 0 {
         return Ok(None);
     }
     let mut text = Octets::from_slice(alloc, ciphertext)?;
