@@ -6,7 +6,7 @@ use Rattle.asn1_core.specs.Texts.{Inside, Many, Raw, Perhaps}
 use Rattle.asn1_core.specs.declared.identifier.ObjectIdentifier.{ObjectIdentifier}
 use Rattle.p12.specs.declared.algorithm_identifier.Pkcs12PbeParams.{Pkcs12PbeParams}
 use Rattle.p12.specs.declared.algorithm_identifier.AlgorithmIdentifier.{AlgorithmIdentifier}
-use Rattle.p12.specs.declared.algorithm_identifier.AlgorithmIdentifier.TheVariants.{Sha1, PbewithSHAAnd40BitRC2CBC, PbeWithSHAAnd3KeyTripleDESCBC, OtherAlg}
+use Rattle.p12.specs.declared.algorithm_identifier.AlgorithmIdentifier.TheVariants.{Sha1, Sha256, PbewithSHAAnd40BitRC2CBC, PbeWithSHAAnd3KeyTripleDESCBC, Pbes2, OtherAlg}
 use Rattle.p12.specs.declared.encrypted_data.EncryptedData.{EncryptedData}
 use Rattle.p12.specs.declared.content_info.ContentInfo.{ContentInfo}
 use Rattle.p12.specs.declared.content_info.ContentInfo.TheVariants as content
@@ -53,6 +53,8 @@ params_fit b p r = let f = r.1 in through _ _ _ (inside_fits 0x04 f.0 p.salt f.2
 
 case_fits : (k : ObjectIdentifier) (q : List ℕ) (a : AlgorithmIdentifier) → AlgorithmCase k q a → Fits (salt_of a) q
 case_fits k q Sha1 r = omega arith
+case_fits k q Sha256 r = omega arith
+case_fits k q (Pbes2 par) r = omega arith
 case_fits k q (OtherAlg o) r = omega arith
 case_fits k q (PbewithSHAAnd40BitRC2CBC p) r = params_fit q p r.1
 case_fits k q (PbeWithSHAAnd3KeyTripleDESCBC p) r = params_fit q p r.1

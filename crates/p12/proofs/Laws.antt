@@ -9,11 +9,14 @@ use Rattle.asn1_core.specs.Texts.{Within, Many}
 use Rattle.asn1_core.specs.OctetLaws.{both}
 use Rattle.asn1_core.specs.StandLaws.{whole_sole}
 use Rattle.p12.specs.declared.algorithm_identifier.AlgorithmIdentifier.{AlgorithmIdentifier}
-use Rattle.p12.specs.declared.algorithm_identifier.AlgorithmIdentifier.TheVariants.{Sha1, PbewithSHAAnd40BitRC2CBC, PbeWithSHAAnd3KeyTripleDESCBC, OtherAlg}
+use Rattle.p12.specs.declared.algorithm_identifier.AlgorithmIdentifier.TheVariants.{Sha1, Sha256, PbewithSHAAnd40BitRC2CBC, PbeWithSHAAnd3KeyTripleDESCBC, Pbes2, OtherAlg}
 use Rattle.p12.specs.declared.content_info.ContentInfo.{ContentInfo}
 use Rattle.p12.specs.declared.pfx.PFX.{PFX}
 use Rattle.p12.specs.declared.safe_bag.SafeBag.{SafeBag}
-use Rattle.p12.specs.AlgorithmIdentifier.{IsOpened, cost, is_blocks, taken, unlock, unlock_pbe, unpadded, triple_des_text}
+use Rattle.pkcs5.specs.Kinds.{key_size, rounds_of}
+use Rattle.pkcs5.specs.Opening.{decrypted, states_length, steps_of}
+use Rattle.pkcs5.specs.declared.pbes2.parameters.Parameters.{Parameters}
+use Rattle.p12.specs.AlgorithmIdentifier.{IsOpened, cost, is_aes_blocks, is_blocks, taken, taken_pbe, unlock, unlock_pbe, unlock_pbes2, unpadded, triple_des_text}
 use Rattle.p12.specs.ContentInfo.{ContentFits, ContentText, IsContents}
 use Rattle.p12.specs.Password.{bmp_password, units_of_char}
 use Rattle.p12.specs.Pfx.{IsStore, PfxText, StoreFits}
@@ -57,29 +60,41 @@ none_some : {P : Type 0} (m : List ℕ) → None ≡ Some m → P
 none_some m e = absurd cc
 
 triple_des_opened : (p : _) (q c m : List ℕ) → unlock_pbe (PbeWithSHAAnd3KeyTripleDESCBC p) q c ≡ Some m → IsOpened (PbeWithSHAAnd3KeyTripleDESCBC p) c
-unfolding unlock_pbe taken
+unfolding unlock_pbe taken taken_pbe
 triple_des_opened p q c m h =
     let t = both (nat_lt 0 p.iterations) (is_blocks c) (not_none (nat_lt 0 p.iterations && is_blocks c) (unpadded 8 (triple_des_text q p.salt p.iterations c)) m h) in
     record { openable = refl; some_rounds = ltb-true 0 p.iterations t.0; all = rw t.1 refl }
 
-opened_pbe : (a : AlgorithmIdentifier) (q c m : List ℕ) → unlock_pbe a q c ≡ Some m → IsOpened a c
-unfolding unlock_pbe
-opened_pbe Sha1 q c m h = none_some m h
-opened_pbe (PbewithSHAAnd40BitRC2CBC p) q c m h = none_some m h
-opened_pbe (PbeWithSHAAnd3KeyTripleDESCBC p) q c m h = triple_des_opened p q c m h
-opened_pbe (OtherAlg o) q c m h = none_some m h
+pbes2_opened : (par : Parameters) (p c m : List ℕ) → unlock_pbes2 par p c ≡ Some m → IsOpened (Pbes2 par) c
+unfolding unlock_pbes2 taken
+pbes2_opened par p c m h =
+    let fits = states_length par.kdf (key_size par.encryption) in
+    let some = nat_lt 0 (rounds_of par.kdf) && is_aes_blocks c in
+    let t = both fits some (not_none (fits && some) (unpadded 16 (decrypted par p c)) m h) in
+    let u = both (nat_lt 0 (rounds_of par.kdf)) (is_aes_blocks c) t.1 in
+    record { openable = t.0; some_rounds = ltb-true 0 (rounds_of par.kdf) u.0; all = rw t.0 refl }
 
 pub unlock_opened : (a : AlgorithmIdentifier) (p c m : List ℕ) → unlock a p c ≡ Some m → IsOpened a c
 unfolding unlock
-unlock_opened a p c m h = opened_pbe a (bmp_password p) c m h
+unlock_opened Sha1 p c m h = none_some m h
+unlock_opened Sha256 p c m h = none_some m h
+unlock_opened (PbewithSHAAnd40BitRC2CBC params) p c m h = none_some m h
+unlock_opened (PbeWithSHAAnd3KeyTripleDESCBC params) p c m h = triple_des_opened params (bmp_password p) c m h
+unlock_opened (Pbes2 par) p c m h = pbes2_opened par p c m h
+unlock_opened (OtherAlg o) p c m h = none_some m h
 
 at_most : (t : Bool) (n : ℕ) → (if t then n else 0) ≤ n
 at_most true n = omega arith
 at_most false n = omega arith
 
 pub taken_most : (a : AlgorithmIdentifier) (c : List ℕ) → taken a c ≤ cost a
-unfolding taken
-taken_most a c = at_most (is_blocks c) (cost a)
+unfolding taken taken_pbe
+taken_most Sha1 c = omega arith
+taken_most Sha256 c = omega arith
+taken_most (PbewithSHAAnd40BitRC2CBC p) c = omega arith
+taken_most (PbeWithSHAAnd3KeyTripleDESCBC p) c = at_most (is_blocks c) (3 * p.iterations)
+taken_most (Pbes2 par) c = at_most (states_length par.kdf (key_size par.encryption)) (rounds_of par.kdf * steps_of par)
+taken_most (OtherAlg o) c = omega arith
 
 -- ---- the octets of a password
 

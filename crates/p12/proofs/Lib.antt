@@ -5,6 +5,7 @@ pub mod Public
 pub mod Sums
 pub mod Texts
 pub mod Paddings
+mod Pbes2
 pub mod Opened
 pub mod Macs
 pub mod Fits

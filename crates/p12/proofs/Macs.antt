@@ -1,18 +1,27 @@
 -- A MAC that is made here agrees.
-use Rattle.std.proofs.Common.{◌≡◌, ℕ, ◌≤◌, List, true, refl, ap, ◌∙◌, arith}
+use Rattle.std.proofs.Common.{◌≡◌, ℕ, ◌+◌, ◌-◌, ◌*◌, ◌/◌, ◌≤◌, ◌<◌, List, true, refl, sym, ap, ◌∙◌, arith}
 use Rattle.std.proofs.lemmas.Slice.Eq.{bytes_eq-Decides}
 use Rattle.std.proofs.lemmas.Bool.{lt-ltb}
-use Rattle.p12.specs.MacData.{mac_agrees, mac_of, mac_value}
-use Rattle.p12.specs.declared.algorithm_identifier.AlgorithmIdentifier.TheVariants.{Sha1}
+use Rattle.std.proofs.Math.Nat.{div-eq_of_lt-le}
+use Rattle.p12.specs.Derivation.{turns}
+use Rattle.p12.specs.MacData.{is_mac_digest, mac_agrees, mac_of, mac_value}
+use Rattle.p12.specs.declared.algorithm_identifier.AlgorithmIdentifier.{AlgorithmIdentifier}
 use Rattle.p12.specs.declared.mac_data.MacData.{MacData}
 
-abbrev pub made_mac : List ℕ → List ℕ → ℕ → MacData
-made_mac d s r = record { mac = record { digest_algorithm = Sha1; digest = d }; salt = s; iterations = r }
+abbrev pub made_mac : AlgorithmIdentifier → List ℕ → List ℕ → ℕ → MacData
+made_mac a d s r = record { mac = record { digest_algorithm = a; digest = d }; salt = s; iterations = r }
 
-pub mac_is : (q v salt d s : List ℕ) (r : ℕ) → d ≡ mac_value q salt r v → s ≡ salt → made_mac d s r ≡ mac_of q v salt r
+pub mac_is : (a : AlgorithmIdentifier) (q v salt d s : List ℕ) (r : ℕ) → d ≡ mac_value a q salt r v → s ≡ salt → made_mac a d s r ≡ mac_of a q v salt r
 unfolding mac_of
-mac_is q v salt d s r e f = ap (λ (x : List ℕ). made_mac x s r) e ∙ ap (λ (x : List ℕ). made_mac (mac_value q salt r v) x r) f
+mac_is a q v salt d s r e f = ap (λ (x : List ℕ). made_mac a x s r) e ∙ ap (λ (x : List ℕ). made_mac a (mac_value a q salt r v) x r) f
 
-pub mac_of_agrees : (q v salt : List ℕ) (r : ℕ) → 1 ≤ r → mac_agrees (mac_of q v salt r) q v ≡ true
+pub mac_of_agrees : (a : AlgorithmIdentifier) (q v salt : List ℕ) (r : ℕ) → is_mac_digest a ≡ true → 1 ≤ r → mac_agrees (mac_of a q v salt r) q v ≡ true
 unfolding mac_of mac_agrees
-mac_of_agrees q v salt r h = rw (lt-ltb 0 r (omega (arith, h)), (bytes_eq-Decides (mac_value q salt r v) (mac_value q salt r v)).1 refl) refl
+mac_of_agrees a q v salt r is h = rw (is, lt-ltb 0 r (omega (arith, h)), (bytes_eq-Decides (mac_value a q salt r v) (mac_value a q salt r v)).1 refl) refl
+
+-- one answer is enough for as many octets as it has
+turns_one : (u : ℕ) → 1 ≤ u → turns u u ≡ 1
+turns_one u h = div-eq_of_lt-le {k = 1} u (omega arith) (omega (arith, h))
+
+pub one_turn : (u : ℕ) → 1 ≤ u → (r n : ℕ) → r ≡ n → r * turns u u ≡ n
+one_turn u h r n e = ap (λ (k : ℕ). r * k) (turns_one u h) ∙ (let one : r * 1 ≡ r = omega arith in one ∙ e)

@@ -12,6 +12,9 @@ use Rattle.p12.specs.AlgorithmIdentifier.{unpadded, triple_des_text}
 whole_over : (base t : List ℕ) → length t ≡ length base → written_over base t ≡ t
 whole_over base t size = take_at t (drop (length t) base) (length base) size
 
+pub front_of : (base t after : List ℕ) (len : ℕ) → length t ≡ length base → after ≡ take len (written_over base t) → after ≡ take len t
+front_of base t after len size is = is ∙ ap (take len) (whole_over base t size)
+
 abbrev Decrypts : List ℕ → List ℕ → List ℕ → Option (List ℕ) → Type 0
 Decrypts key iv b r = unpadded 8 (uncbc (inv_tdes key) 8 iv b) ≡ r
 

@@ -1,80 +1,111 @@
--- Algorithms of PKCS#12 (RFC 7292 appendix C; AlgorithmIdentifier of RFC 5280 section 4.1.1.2).
+-- Algorithms of PKCS#12 (RFC 7292 appendix C; PBES2 of RFC 8018 appendix A.4; AlgorithmIdentifier of RFC 5280 section
+-- 4.1.1.2), and what they open under a password.
 use Rattle.std.specs.Prelude.{◌≡◌, ◌≢◌, ◌⊎◌, ℕ, ◌<◌, ◌-◌, ◌*◌, ◌^◌, ◌%◌, ◌==◌, ◌&&◌, nat_lt, if◌then◌else◌, Bool, true, false, List, [], length, take, slice_index, Option, Some, None}
 use Rattle.asn1_core.specs.Texts.{On, Perhaps, Raw, Uint, Oid, Inside}
 use Rattle.asn1_core.specs.Fields.{Field, End, Sequence}
 use Rattle.asn1_core.specs.Oid.{oid_octets}
 use Rattle.asn1_core.specs.declared.identifier.ObjectIdentifier.{ObjectIdentifier}
-use Rattle.asn1_core.specs.Der.{null}
+use Rattle.asn1_core.specs.Der.{IsShort, null}
 use Rattle.std.specs.Str.{bytes_eq}
 use Rattle.sha1.specs.Sha1.{sha1}
 use Rattle.block_core.specs.Tdes.{inv_tdes}
 use Rattle.mac_modes.specs.Cbc.{uncbc}
 use Rattle.mac_modes.specs.Padding.{padded}
+use Rattle.pkcs5.specs.Identifiers.{pbes2_oid}
+use Rattle.pkcs5.specs.Opening.{decrypted, states_length, steps_of}
+use Rattle.pkcs5.specs.Kinds.{key_size, rounds_of}
+use Rattle.pkcs5.specs.Parameters.{ParametersText}
+use Rattle.pkcs5.specs.declared.pbes2.parameters.Parameters.{Parameters}
 use Rattle.p12.specs.Derivation.{derive12}
 use Rattle.p12.specs.Password.{bmp_password}
-use Rattle.p12.specs.Identifiers.{sha1_oid, rc2_scheme_oid, triple_des_scheme_oid}
+use Rattle.p12.specs.Identifiers.{sha1_oid, sha256_oid, rc2_scheme_oid, triple_des_scheme_oid}
 use Rattle.p12.specs.declared.algorithm_identifier.Pkcs12PbeParams.{Pkcs12PbeParams}
 use Rattle.p12.specs.declared.algorithm_identifier.AlgorithmIdentifier.{AlgorithmIdentifier}
-use Rattle.p12.specs.declared.algorithm_identifier.AlgorithmIdentifier.TheVariants.{Sha1, PbewithSHAAnd40BitRC2CBC, PbeWithSHAAnd3KeyTripleDESCBC, OtherAlg}
+use Rattle.p12.specs.declared.algorithm_identifier.AlgorithmIdentifier.TheVariants.{Sha1, Sha256, PbewithSHAAnd40BitRC2CBC, PbeWithSHAAnd3KeyTripleDESCBC, Pbes2, OtherAlg}
 
 -- pkcs-12PbeParams ::= SEQUENCE { salt OCTET STRING, iterations INTEGER }, the count below 2 ^ 64
 abbrev pub ParamsText : List ℕ → Pkcs12PbeParams → Type 0
 ParamsText = Sequence (Field (Inside 0x04) (λ p. p.salt) (Field (Uint (2 ^ 64 - 1)) (λ p. p.iterations) End))
 
+-- parameters that are none of PBES2
+abbrev pub NoScheme : List ℕ → Type 0
+NoScheme q = (par : Parameters) → ParametersText q par → IsShort q → ⊥
+
 -- what stands behind the identifier k of an algorithm
 abbrev pub AlgorithmCase : ObjectIdentifier → List ℕ → AlgorithmIdentifier → Type 0
 AlgorithmCase k q Sha1 = (oid_octets k ≡ sha1_oid) × ((q ≡ []) ⊎ (q ≡ null))
+AlgorithmCase k q Sha256 = (oid_octets k ≡ sha256_oid) × ((q ≡ []) ⊎ (q ≡ null))
 AlgorithmCase k q (PbewithSHAAnd40BitRC2CBC p) = (oid_octets k ≡ rc2_scheme_oid) × ParamsText q p
 AlgorithmCase k q (PbeWithSHAAnd3KeyTripleDESCBC p) = (oid_octets k ≡ triple_des_scheme_oid) × ParamsText q p
-AlgorithmCase k q (OtherAlg o) = (oid_octets k ≢ sha1_oid) × (oid_octets k ≢ rc2_scheme_oid) × (oid_octets k ≢ triple_des_scheme_oid) × (o.algorithm_type ≡ k) × Perhaps Raw q o.params
+AlgorithmCase k q (Pbes2 par) = (oid_octets k ≡ pbes2_oid) × ParametersText q par
+AlgorithmCase k q (OtherAlg o) =
+    (oid_octets k ≢ sha1_oid) × (oid_octets k ≢ sha256_oid) × (oid_octets k ≢ rc2_scheme_oid) × (oid_octets k ≢ triple_des_scheme_oid)
+    × (oid_octets k ≡ pbes2_oid → NoScheme q) × (o.algorithm_type ≡ k) × Perhaps Raw q o.params
 
 -- AlgorithmIdentifier ::= SEQUENCE { algorithm OBJECT IDENTIFIER, parameters ANY OPTIONAL }
 abbrev pub AlgorithmText : List ℕ → AlgorithmIdentifier → Type 0
 AlgorithmText = Sequence (On Oid AlgorithmCase)
 
--- ---- opening (RFC 7292 appendix B and C)
+-- ---- opening (RFC 7292 appendix B and C; RFC 8018 section 6.2)
 
-abbrev pub is_sha1 : AlgorithmIdentifier → Bool
-is_sha1 Sha1 = true
-is_sha1 (PbewithSHAAnd40BitRC2CBC p) = false
-is_sha1 (PbeWithSHAAnd3KeyTripleDESCBC p) = false
-is_sha1 (OtherAlg o) = false
-
--- whether a text under it can be opened
+-- whether a text under it can be opened: Triple DES, and PBES2 where a length of the key that is stated is the cipher's
 abbrev pub openable : AlgorithmIdentifier → Bool
 openable Sha1 = false
+openable Sha256 = false
 openable (PbewithSHAAnd40BitRC2CBC p) = false
 openable (PbeWithSHAAnd3KeyTripleDESCBC p) = true
+openable (Pbes2 par) = states_length par.kdf (key_size par.encryption)
 openable (OtherAlg o) = false
 
 -- its count of rounds
 abbrev pub count : AlgorithmIdentifier → ℕ
 count Sha1 = 0
+count Sha256 = 0
 count (PbewithSHAAnd40BitRC2CBC p) = 0
 count (PbeWithSHAAnd3KeyTripleDESCBC p) = p.iterations
+count (Pbes2 par) = rounds_of par.kdf
 count (OtherAlg o) = 0
 
--- its share of the work: the SHA-1 digests of the key's two blocks and of the IV's one block
+-- its share of the work: for Triple DES the SHA-1 digests of the key's two blocks and of the IV's one block, for PBES2 the
+-- answers of the pseudorandom function that make the key
 abbrev pub cost : AlgorithmIdentifier → ℕ
 cost Sha1 = 0
+cost Sha256 = 0
 cost (PbewithSHAAnd40BitRC2CBC p) = 0
 cost (PbeWithSHAAnd3KeyTripleDESCBC p) = 3 * p.iterations
+cost (Pbes2 par) = rounds_of par.kdf * steps_of par
 cost (OtherAlg o) = 0
 
--- its salt
+-- its salt, where it is one of RFC 7292
 abbrev pub salt_of : AlgorithmIdentifier → List ℕ
 salt_of Sha1 = []
+salt_of Sha256 = []
 salt_of (PbewithSHAAnd40BitRC2CBC p) = p.salt
 salt_of (PbeWithSHAAnd3KeyTripleDESCBC p) = p.salt
+salt_of (Pbes2 par) = []
 salt_of (OtherAlg o) = []
 
 -- a positive multiple of 8 octets
 abbrev pub is_blocks : List ℕ → Bool
 is_blocks c = nat_lt 0 (length c) && (length c % 8 == 0)
 
--- the steps of opening a text: none where the algorithm cannot be opened, the count is 0, or the length is wrong
+-- the steps of opening a text of RFC 7292: none where its length is wrong
+unfoldable pub taken_pbe : AlgorithmIdentifier → List ℕ → ℕ
+taken_pbe Sha1 c = 0
+taken_pbe Sha256 c = 0
+taken_pbe (PbewithSHAAnd40BitRC2CBC p) c = 0
+taken_pbe (PbeWithSHAAnd3KeyTripleDESCBC p) c = if is_blocks c then 3 * p.iterations else 0
+taken_pbe (Pbes2 par) c = 0
+taken_pbe (OtherAlg o) c = 0
+
+-- the steps of opening a text
 unfoldable pub taken : AlgorithmIdentifier → List ℕ → ℕ
-taken a c = if is_blocks c then cost a else 0
+taken Sha1 c = 0
+taken Sha256 c = 0
+taken (PbewithSHAAnd40BitRC2CBC p) c = 0
+taken (PbeWithSHAAnd3KeyTripleDESCBC p) c = taken_pbe (PbeWithSHAAnd3KeyTripleDESCBC p) c
+taken (Pbes2 par) c = if states_length par.kdf (key_size par.encryption) then rounds_of par.kdf * steps_of par else 0
+taken (OtherAlg o) c = 0
 
 -- the text before its last k octets
 abbrev pub without_last : ℕ → List ℕ → List ℕ
@@ -90,16 +121,34 @@ unpadded n t =
 unfoldable pub triple_des_text : List ℕ → List ℕ → ℕ → List ℕ → List ℕ
 triple_des_text q salt r c = uncbc (inv_tdes (derive12 sha1 20 q salt r 1 24)) 8 (derive12 sha1 20 q salt r 2 8) c
 
--- a text opened under a password in UTF-16: none under another algorithm, with no rounds, of a wrong length, or with a wrong padding
+-- a text of RFC 7292 opened under a password in UTF-16: none under another algorithm, with no rounds, of a wrong length, or
+-- with a wrong padding
 unfoldable pub unlock_pbe : AlgorithmIdentifier → List ℕ → List ℕ → Option (List ℕ)
 unlock_pbe Sha1 q c = None
+unlock_pbe Sha256 q c = None
 unlock_pbe (PbewithSHAAnd40BitRC2CBC p) q c = None
 unlock_pbe (PbeWithSHAAnd3KeyTripleDESCBC p) q c = if nat_lt 0 p.iterations && is_blocks c then unpadded 8 (triple_des_text q p.salt p.iterations c) else None
+unlock_pbe (Pbes2 par) q c = None
 unlock_pbe (OtherAlg o) q c = None
 
--- a text opened under a password, given by its UTF-8
+-- a positive multiple of 16 octets
+abbrev pub is_aes_blocks : List ℕ → Bool
+is_aes_blocks c = nat_lt 0 (length c) && (length c % 16 == 0)
+
+-- a text opened by PBES2 under a password: none with no rounds, where the length of the key that is stated is not the
+-- cipher's, of a wrong length, or with a wrong padding
+unfoldable pub unlock_pbes2 : Parameters → List ℕ → List ℕ → Option (List ℕ)
+unlock_pbes2 par p c =
+    if states_length par.kdf (key_size par.encryption) && (nat_lt 0 (rounds_of par.kdf) && is_aes_blocks c) then unpadded 16 (decrypted par p c) else None
+
+-- a text opened under a password, given by its UTF-8: schemes of RFC 7292 take it in UTF-16, PBES2 as it is
 unfoldable pub unlock : AlgorithmIdentifier → List ℕ → List ℕ → Option (List ℕ)
-unlock a p c = unlock_pbe a (bmp_password p) c
+unlock Sha1 p c = None
+unlock Sha256 p c = None
+unlock (PbewithSHAAnd40BitRC2CBC params) p c = None
+unlock (PbeWithSHAAnd3KeyTripleDESCBC params) p c = unlock_pbe (PbeWithSHAAnd3KeyTripleDESCBC params) (bmp_password p) c
+unlock (Pbes2 par) p c = unlock_pbes2 par p c
+unlock (OtherAlg o) p c = None
 
 -- what opening a text shows
 pub record IsOpened (a : AlgorithmIdentifier) (c : List ℕ) : Type 0 where

@@ -7,6 +7,10 @@ use Rattle.asn1_core.specs.declared.identifier.ObjectIdentifier.{ObjectIdentifie
 abbrev pub sha1_oid : List ℕ
 sha1_oid = 0x2b ∷ 0x0e ∷ 0x03 ∷ 0x02 ∷ 0x1a ∷ []
 
+-- id-sha256 (RFC 8017 appendix B.1)
+abbrev pub sha256_oid : List ℕ
+sha256_oid = 0x60 ∷ 0x86 ∷ 0x48 ∷ 0x01 ∷ 0x65 ∷ 0x03 ∷ 0x04 ∷ 0x02 ∷ 0x01 ∷ []
+
 -- id-data (RFC 5652 section 4)
 abbrev pub data_oid : List ℕ
 data_oid = 0x2a ∷ 0x86 ∷ 0x48 ∷ 0x86 ∷ 0xf7 ∷ 0x0d ∷ 0x01 ∷ 0x07 ∷ 0x01 ∷ []

@@ -1,15 +1,17 @@
 -- Reading the rows from left to right. Nothing to believe here: each row is proved to read exactly its relation.
-use Rattle.std.specs.Prelude.{◌==◌, ◌-◌, ◌^◌, List, [], Ok, if◌then◌else◌}
+use Rattle.std.specs.Prelude.{ℕ, ◌==◌, ◌-◌, ◌^◌, List, [], Result, Ok, Err, if◌then◌else◌}
 use Rattle.std.specs.Str.{bytes_eq}
-use Rattle.asn1_core.specs.Reading.{Front, All, ◌>>=◌, whole, on, perhaps, many, made, within, ended, raw_at, oid_at, uint_at, inside_at}
+use Rattle.asn1_core.specs.Reading.{Fault, Front, All, ◌>>=◌, whole, on, perhaps, many, made, within, ended, raw_at, oid_at, uint_at, inside_at}
 use Rattle.asn1_core.specs.Fields.{latest, never, the, or_nothing}
 use Rattle.asn1_core.specs.Unicode.{bmp_at, ia5_at}
 use Rattle.asn1_core.specs.Oid.{oid_octets}
 use Rattle.asn1_core.specs.declared.identifier.ObjectIdentifier.{ObjectIdentifier}
-use Rattle.p12.specs.Identifiers.{sha1_oid, rc2_scheme_oid, triple_des_scheme_oid, data_oid, encrypted_data_oid, friendly_name_oid, local_key_id_oid, x509_certificate_oid, sdsi_certificate_oid, shrouded_key_bag_oid, cert_bag_oid}
+use Rattle.p12.specs.Identifiers.{sha1_oid, sha256_oid, rc2_scheme_oid, triple_des_scheme_oid, data_oid, encrypted_data_oid, friendly_name_oid, local_key_id_oid, x509_certificate_oid, sdsi_certificate_oid, shrouded_key_bag_oid, cert_bag_oid}
+use Rattle.pkcs5.specs.Identifiers.{pbes2_oid}
+use Rattle.pkcs5.specs.Parameters.{parameters_at}
 use Rattle.p12.specs.declared.algorithm_identifier.Pkcs12PbeParams.{Pkcs12PbeParams}
 use Rattle.p12.specs.declared.algorithm_identifier.AlgorithmIdentifier.{AlgorithmIdentifier}
-use Rattle.p12.specs.declared.algorithm_identifier.AlgorithmIdentifier.TheVariants.{Sha1, PbewithSHAAnd40BitRC2CBC, PbeWithSHAAnd3KeyTripleDESCBC, OtherAlg}
+use Rattle.p12.specs.declared.algorithm_identifier.AlgorithmIdentifier.TheVariants.{Sha1, Sha256, PbewithSHAAnd40BitRC2CBC, PbeWithSHAAnd3KeyTripleDESCBC, Pbes2, OtherAlg}
 use Rattle.p12.specs.declared.digest_info.DigestInfo.{DigestInfo}
 use Rattle.p12.specs.declared.mac_data.MacData.{MacData}
 use Rattle.p12.specs.declared.encrypted_data.EncryptedContentInfo.{EncryptedContentInfo}
@@ -34,8 +36,8 @@ null_at = within 0x05 (ended tt)
 unfoldable pub params_at : Front Pkcs12PbeParams
 params_at = within 0x30 (on (inside_at 0x04) (λ s. on (uint_at (2 ^ 64 - 1)) (λ n. ended (record { salt = s; iterations = n }))))
 
-abbrev pub sha1_all : All AlgorithmIdentifier
-sha1_all = made (λ o. Sha1) (perhaps null_at)
+abbrev pub digest_all : AlgorithmIdentifier → All AlgorithmIdentifier
+digest_all a = made (λ o. a) (perhaps null_at)
 
 abbrev pub rc2_all : All AlgorithmIdentifier
 rc2_all = made PbewithSHAAnd40BitRC2CBC (whole params_at)
@@ -46,10 +48,24 @@ triple_des_all = made PbeWithSHAAnd3KeyTripleDESCBC (whole params_at)
 abbrev pub other_algorithm_all : ObjectIdentifier → All AlgorithmIdentifier
 other_algorithm_all k = made (λ e. OtherAlg (record { algorithm_type = k; params = e })) (perhaps raw_at)
 
-abbrev pub algorithm_all : ObjectIdentifier → All AlgorithmIdentifier
+-- by the first reader, or where that finds a fault by the second
+abbrev pub first_ok : {A : Type 0} → Result A Fault → Result A Fault → Result A Fault
+first_ok (Ok v) r = Ok v
+first_ok (Err f) r = r
+
+abbrev pub or_else : {A : Type 0} → All A → All A → All A
+or_else p q b = first_ok (p b) (q b)
+
+abbrev pub pbes2_all : ObjectIdentifier → All AlgorithmIdentifier
+pbes2_all k = or_else (made Pbes2 (whole parameters_at)) (other_algorithm_all k)
+
+unfoldable pub algorithm_all : ObjectIdentifier → All AlgorithmIdentifier
 algorithm_all k =
-    if bytes_eq (oid_octets k) sha1_oid then sha1_all
-    else (if bytes_eq (oid_octets k) rc2_scheme_oid then rc2_all else (if bytes_eq (oid_octets k) triple_des_scheme_oid then triple_des_all else other_algorithm_all k))
+    if bytes_eq (oid_octets k) sha1_oid then digest_all Sha1
+    else (if bytes_eq (oid_octets k) sha256_oid then digest_all Sha256
+    else (if bytes_eq (oid_octets k) rc2_scheme_oid then rc2_all
+    else (if bytes_eq (oid_octets k) triple_des_scheme_oid then triple_des_all
+    else (if bytes_eq (oid_octets k) pbes2_oid then pbes2_all k else other_algorithm_all k))))
 
 unfoldable pub algorithm_at : Front AlgorithmIdentifier
 algorithm_at = within 0x30 (on oid_at algorithm_all)
@@ -59,8 +75,11 @@ algorithm_at = within 0x30 (on oid_at algorithm_all)
 unfoldable pub digest_at : Front DigestInfo
 digest_at = within 0x30 (on algorithm_at (λ a. on (inside_at 0x04) (λ d. ended (record { digest_algorithm = a; digest = d }))))
 
+abbrev pub iterations_all : All ℕ
+iterations_all = or_nothing 1 (whole (uint_at (2 ^ 32 - 1)))
+
 unfoldable pub mac_at : Front MacData
-mac_at = within 0x30 (on digest_at (λ d. on (inside_at 0x04) (λ s. on (uint_at (2 ^ 32 - 1)) (λ n. ended (record { mac = d; salt = s; iterations = n })))))
+mac_at = within 0x30 (on digest_at (λ d. on (inside_at 0x04) (λ s. made (λ n. record { mac = d; salt = s; iterations = n }) iterations_all)))
 
 -- ---- contents
 

@@ -1,18 +1,24 @@
 //! Algorithms of PKCS#12.
-ghost use Rattle.std.specs.Prelude.{◌+◌, ◌≡◌, ◌<◌, length, OnOk, IfOk, IfErr};
-ghost use Rattle.asn1_core.specs.Gives.{ReadsIn, GivesIn};
-ghost use Rattle.p12.specs.AlgorithmIdentifier.{AlgorithmText, ParamsText};
+ghost use Rattle.std.specs.Prelude.{◌+◌, ◌≡◌, ◌<◌, ◌≤◌, length, OnOk, IfOk, IfErr};
+ghost use Rattle.asn1_core.specs.Gives.{Gives, ReadsIn, GivesIn};
+ghost use Rattle.p12.specs.AlgorithmIdentifier.{AlgorithmText, ParamsText, cost, count, openable};
+ghost use Rattle.pkcs5.specs.Kinds as kinds;
+ghost use Rattle.pkcs5.specs.Opening as opening;
 ghost use Rattle.p12.specs.Error.{Reads};
-ghost use Rattle.p12.specs.Reading.{params_at, sha1_all, rc2_all, triple_des_all, other_algorithm_all, algorithm_all, algorithm_at};
+ghost use Rattle.asn1_core.specs.Reading.{made, perhaps};
+ghost use Rattle.p12.specs.declared.algorithm_identifier.AlgorithmIdentifier.TheVariants as algorithm;
+ghost use Rattle.p12.specs.Reading.{params_at, null_at, digest_all, rc2_all, triple_des_all, pbes2_all, other_algorithm_all, algorithm_all, algorithm_at};
 
 use crate::error::Error;
 use crate::identifiers::{
-    PBE_WITH_SHA1_AND_3KEY_TRIPLE_DES_CBC, PBE_WITH_SHA1_AND_40BIT_RC2_CBC, SHA1,
+    PBE_WITH_SHA1_AND_3KEY_TRIPLE_DES_CBC, PBE_WITH_SHA1_AND_40BIT_RC2_CBC, SHA1, SHA256,
 };
 use asn1_core::{
     ObjectIdentifier, Octets, Reader, SliceReader, Tag, read_identifier, read_inner, read_raw,
     read_uint,
 };
+use der_core::Decode;
+use pkcs5::pbes2::{Kdf, PBES2_OID, Parameters, Pbkdf2Prf};
 use std::alloc::Global;
 
 /// The parameters of a password-based scheme (RFC 7292 appendix C): the salt, and how many rounds derive its key.
@@ -40,12 +46,17 @@ pub struct OtherAlgorithmIdentifier {
 /// ```
 #[derive(Debug, PartialEq, Eq, Drop)]
 pub enum AlgorithmIdentifier {
-    /// The digest of the MAC.
+    /// A digest of MACs (RFC 8017 appendix B.1).
     Sha1,
+    /// A digest of MACs (RFC 8017 appendix B.1).
+    Sha256,
     /// RC2 with 40 bits (RFC 7292 appendix C), which is read and never opened.
     PbewithSHAAnd40BitRC2CBC(Pkcs12PbeParams),
     /// Triple DES with three keys (RFC 7292 appendix C).
     PbeWithSHAAnd3KeyTripleDESCBC(Pkcs12PbeParams),
+    /// PBES2 (RFC 8018 appendix A.4).
+    Pbes2(Parameters),
+    /// Any other algorithm, and PBES2 with parameters that are none of it.
     OtherAlg(OtherAlgorithmIdentifier),
 }
 
@@ -67,16 +78,30 @@ fn params_in_front(
     Ok(Pkcs12PbeParams { salt, iterations })
 }
 
-fn sha1_parameters(mut body: SliceReader<'_>) -> Result<AlgorithmIdentifier, asn1_core::Error>
-    ensures { GivesIn (λ x. x) result (sha1_all body.entry.rest.now) }
+/// That nothing stands, or NULL.
+fn no_parameters(mut body: SliceReader<'_>) -> Result<(), asn1_core::Error>
+    ensures { Gives (λ u. u) result (made (λ o. tt) (perhaps null_at) body.entry.rest.now) }
 {
     if body.is_finished() {
-        return Ok(AlgorithmIdentifier::Sha1);
+        return Ok(());
     }
     let null = read_inner(&mut body, Tag::NULL)?;
     null.finish()?;
-    body.finish()?;
+    body.finish()
+}
+
+fn sha1_parameters(body: SliceReader<'_>) -> Result<AlgorithmIdentifier, asn1_core::Error>
+    ensures { GivesIn (λ x. x) result (digest_all algorithm.Sha1 body.entry.rest.now) }
+{
+    no_parameters(body)?;
     Ok(AlgorithmIdentifier::Sha1)
+}
+
+fn sha256_parameters(body: SliceReader<'_>) -> Result<AlgorithmIdentifier, asn1_core::Error>
+    ensures { GivesIn (λ x. x) result (digest_all algorithm.Sha256 body.entry.rest.now) }
+{
+    no_parameters(body)?;
+    Ok(AlgorithmIdentifier::Sha256)
 }
 
 fn rc2_parameters(
@@ -123,6 +148,20 @@ fn other_parameters(
     }))
 }
 
+fn pbes2_parameters(
+    alloc: Global,
+    algorithm_type: ObjectIdentifier,
+    body: SliceReader<'_>,
+) -> Result<AlgorithmIdentifier, asn1_core::Error>
+    ensures { GivesIn (λ x. x) result (pbes2_all algorithm_type body.entry.rest.now) }
+{
+    match Parameters::from_der(body.rest) {
+        Ok(parameters) => Ok(AlgorithmIdentifier::Pbes2(parameters)),
+        Err(_) => other_parameters(alloc, algorithm_type, body),
+    }
+}
+
+#[tactic(auto, unfolding(crate::specs::Reading::algorithm_all))]
 fn algorithm_of(
     alloc: Global,
     algorithm_type: ObjectIdentifier,
@@ -132,10 +171,14 @@ fn algorithm_of(
 {
     if algorithm_type == SHA1 {
         sha1_parameters(body)
+    } else if algorithm_type == SHA256 {
+        sha256_parameters(body)
     } else if algorithm_type == PBE_WITH_SHA1_AND_40BIT_RC2_CBC {
         rc2_parameters(alloc, body)
     } else if algorithm_type == PBE_WITH_SHA1_AND_3KEY_TRIPLE_DES_CBC {
         triple_des_parameters(alloc, body)
+    } else if algorithm_type == PBES2_OID {
+        pbes2_parameters(alloc, algorithm_type, body)
     } else {
         other_parameters(alloc, algorithm_type, body)
     }
@@ -215,6 +258,8 @@ impl AlgorithmIdentifier {
     {
         Ok(match self {
             AlgorithmIdentifier::Sha1 => AlgorithmIdentifier::Sha1,
+            AlgorithmIdentifier::Sha256 => AlgorithmIdentifier::Sha256,
+            AlgorithmIdentifier::Pbes2(parameters) => AlgorithmIdentifier::Pbes2(*parameters),
             AlgorithmIdentifier::PbewithSHAAnd40BitRC2CBC(params) => {
                 AlgorithmIdentifier::PbewithSHAAnd40BitRC2CBC(params.try_clone(alloc)?)
             }
@@ -225,5 +270,94 @@ impl AlgorithmIdentifier {
                 AlgorithmIdentifier::OtherAlg(other.try_clone(alloc)?)
             }
         })
+    }
+}
+
+/// The octets of an answer of a pseudorandom function.
+fn prf_output(prf: Pbkdf2Prf) -> u64
+    ensures { result ≡ opening.prf_output prf }
+{
+    match prf {
+        Pbkdf2Prf::HmacWithSha1 => 20,
+        Pbkdf2Prf::HmacWithSha224 => 28,
+        Pbkdf2Prf::HmacWithSha256 => 32,
+        Pbkdf2Prf::HmacWithSha384 => 48,
+        Pbkdf2Prf::HmacWithSha512 => 64,
+    }
+}
+
+/// The answers of the pseudorandom function that a round takes, of which there are as many as the key wants.
+fn answers_of(parameters: &Parameters) -> u64
+    ensures value { result ≡ opening.steps_of parameters.now }
+    ensures few { result ≤ 2 }
+{
+    match &parameters.kdf {
+        Kdf::Pbkdf2(params) => {
+            let output = prf_output(params.prf);
+            (parameters.encryption.key_size() as u64 + (output - 1)) / output
+        }
+    }
+}
+
+/// How many rounds derive a key.
+pub(crate) fn rounds_of(kdf: &Kdf) -> u32
+    ensures { result ≡ kinds.rounds_of kdf.now }
+{
+    match kdf {
+        Kdf::Pbkdf2(params) => params.iteration_count,
+    }
+}
+
+impl AlgorithmIdentifier {
+    /// Whether a text under it can be opened: Triple DES, and PBES2 where a length of the key that is stated is the
+    /// cipher's.
+    pub fn is_openable(&self) -> bool
+        ensures { result ≡ openable self.now }
+    {
+        match self {
+            AlgorithmIdentifier::PbeWithSHAAnd3KeyTripleDESCBC(_) => true,
+            AlgorithmIdentifier::Pbes2(parameters) => match parameters.kdf.key_length() {
+                Some(stated) => usize::from(stated) == parameters.encryption.key_size(),
+                None => true,
+            },
+            AlgorithmIdentifier::Sha1
+            | AlgorithmIdentifier::Sha256
+            | AlgorithmIdentifier::PbewithSHAAnd40BitRC2CBC(_)
+            | AlgorithmIdentifier::OtherAlg(_) => false,
+        }
+    }
+
+    /// How many rounds derive the key of an algorithm that can be opened; 0 for others.
+    pub fn count(&self) -> u64
+        ensures { result ≡ count self.now }
+    {
+        match self {
+            AlgorithmIdentifier::PbeWithSHAAnd3KeyTripleDESCBC(params) => params.iterations,
+            AlgorithmIdentifier::Pbes2(parameters) => u64::from(rounds_of(&parameters.kdf)),
+            AlgorithmIdentifier::Sha1
+            | AlgorithmIdentifier::Sha256
+            | AlgorithmIdentifier::PbewithSHAAnd40BitRC2CBC(_)
+            | AlgorithmIdentifier::OtherAlg(_) => 0,
+        }
+    }
+
+    /// The steps of opening a text: for Triple DES three digests a round, two for the key and one for the IV; for PBES2 the
+    /// answers of the pseudorandom function that make the key; 0 for others.
+    pub fn cost(&self) -> u128
+        ensures { result ≡ cost self.now }
+    {
+        match self {
+            AlgorithmIdentifier::PbeWithSHAAnd3KeyTripleDESCBC(params) => {
+                3 * u128::from(params.iterations)
+            }
+            AlgorithmIdentifier::Pbes2(parameters) => {
+                let rounds = rounds_of(&parameters.kdf);
+                u128::from(u64::from(rounds) * answers_of(parameters))
+            }
+            AlgorithmIdentifier::Sha1
+            | AlgorithmIdentifier::Sha256
+            | AlgorithmIdentifier::PbewithSHAAnd40BitRC2CBC(_)
+            | AlgorithmIdentifier::OtherAlg(_) => 0,
+        }
     }
 }

@@ -10,6 +10,15 @@ pub(crate) const SHA1: ObjectIdentifier = ObjectIdentifier {
     size: 5,
 };
 
+/// id-sha256 (RFC 8017 appendix B.1).
+pub(crate) const SHA256: ObjectIdentifier = ObjectIdentifier {
+    octets: [
+        0x60, 0x86, 0x48, 0x01, 0x65, 0x03, 0x04, 0x02, 0x01, 0, 0, 0, 0, 0, 0, 0, 0, 0, 0, 0, 0,
+        0, 0, 0, 0, 0, 0, 0, 0, 0, 0, 0, 0, 0, 0, 0, 0, 0, 0,
+    ],
+    size: 9,
+};
+
 /// id-data (RFC 5652 section 4).
 pub(crate) const DATA: ObjectIdentifier = ObjectIdentifier {
     octets: [

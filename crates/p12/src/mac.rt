@@ -1,9 +1,10 @@
 //! The MAC of a store (RFC 7292 appendix B.4).
-ghost use Rattle.std.specs.Prelude.{◌≡◌, ◌+◌, ◌≤◌, ◌<◌, ◌^◌, ℕ, length, take, IfOk, IfErr, OnOk, true};
-ghost use Rattle.sha1.specs.Sha1.{sha1};
+ghost use Rattle.std.specs.Prelude.{◌≡◌, ◌+◌, ◌≤◌, ◌<◌, ◌^◌, ℕ, length, take, nat_lt, ◌&&◌, IfOk, IfErr, OnOk, true};
 ghost use Rattle.mac_modes.specs.Hmac.{hmac};
+ghost use Rattle.std.specs.Str.{bytes_eq};
 ghost use Rattle.p12.specs.Derivation.{turns};
-ghost use Rattle.p12.specs.MacData.{mac_agrees, mac_of, mac_steps, mac_value};
+ghost use Rattle.p12.specs.MacData.{is_mac_digest, mac_agrees, mac_of, mac_steps, mac_under, mac_value};
+ghost use Rattle.p12.specs.declared.algorithm_identifier.AlgorithmIdentifier.TheVariants as algorithm;
 
 use crate::algorithm_identifier::AlgorithmIdentifier;
 use crate::derivation::derive;
@@ -11,8 +12,7 @@ use crate::digest_info::DigestInfo;
 use crate::error::Error;
 use crate::mac_data::MacData;
 use asn1_core::Octets;
-use mac_modes::{Hmac, Prf};
-use sha1::Sha1;
+use mac_modes::{HashFn, Hmac, Prf, Sha1, Sha256};
 use std::alloc::Global;
 use std::marker::Brand;
 use std::sync::ledger::{Blank, Ledger};
@@ -21,75 +21,98 @@ use steps::Steps;
 /// What the derived key of a MAC is for (RFC 7292 appendix B.3).
 const MAC_ID: u8 = 3;
 
-/// The octets of a SHA-1 digest.
-const SHA1_OUTPUT: usize = 20;
-
-/// HMAC-SHA1 of one piece.
-fn hmac_sha1(key: &[u8], content: &[u8]) -> [u8; 20]
-    ensures { result ≡ hmac sha1 64 key.now content.now }
+/// HMAC over a hash of one piece.
+fn hmac_of<H: HashFn>(key: &[u8], content: &[u8]) -> [u8; 64]
+    ensures { take H.OUTPUT result ≡ hmac H.digest H.BLOCK key.now content.now }
 {
     let mut out = [0u8; 64];
-    if let Ok(mut keyed) = Hmac::<Sha1>::new_from_slice(key) {
+    if let Ok(mut keyed) = Hmac::<H>::new_from_slice(key) {
         keyed.update(content);
         keyed.finalize_into(&mut out);
     } else {
         unreachable!();
     }
-    let mut mac = [0u8; SHA1_OUTPUT];
-    mac.copy_from_slice(&out[..SHA1_OUTPUT]);
-    mac
+    out
 }
 
-/// The MAC of a content, under a count of at least 1.
-fn mac_counted<L: Ledger>(
+/// The MAC of a content under the hash `H`, and a count of at least 1.
+fn mac_counted<H: HashFn, L: Ledger>(
     alloc: Global,
     content: &[u8],
     password: &[u8],
     salt: &[u8],
     iterations: u32,
     steps: &mut Steps<L>,
-) -> Result<[u8; 20], Error>
+) -> Result<Octets, Error>
+    requires block { H.BLOCK ≡ 64 }
     requires rounds { 1 ≤ iterations }
     requires password { length password.now < 2 ^ 59 }
     requires salt { length salt.now < 2 ^ 59 }
-    ensures value { IfOk result (λ mac. mac ≡ mac_value password.now salt.now iterations content.now) }
+    ensures value { IfOk result (λ mac. mac ≡ mac_under H.digest H.OUTPUT password.now salt.now iterations content.now) }
     ensures err { IfErr result (λ e. e ≡ Error.Memory) }
     ensures steps { OnOk result (steps.new ≡ steps.old + iterations) }
     ensures at_most { (steps.old ≤ steps.new) × (steps.new ≤ steps.old + iterations) }
 {
     let rounds = u64::from(iterations);
-    let key = derive::<Sha1, L>(alloc, password, salt, rounds, MAC_ID, SHA1_OUTPUT, steps)?;
-    Ok(hmac_sha1(&key, content))
+    let key = derive::<H, L>(alloc, password, salt, rounds, MAC_ID, H::OUTPUT, steps)?;
+    let mac = hmac_of::<H>(&key, content);
+    Ok(Octets::from_slice(alloc, &mac[..H::OUTPUT])?)
 }
 
-fn mac_from<L: Ledger>(
+/// Whether the count is at least 1, and the digest the MAC of the content under the hash `H`.
+fn agrees_under<H: HashFn, L: Ledger>(
+    mac: &MacData,
+    alloc: Global,
+    content: &[u8],
+    password: &[u8],
+    steps: &mut Steps<L>,
+) -> Result<bool, Error>
+    requires block { H.BLOCK ≡ 64 }
+    requires password { length password.now < 2 ^ 59 }
+    requires salt { length mac.now.salt < 2 ^ 59 }
+    ensures value { IfOk result (λ agrees. agrees ≡ (nat_lt 0 mac.now.iterations
+        && bytes_eq (mac_under H.digest H.OUTPUT password.now mac.now.salt mac.now.iterations content.now) mac.now.mac.digest)) }
+    ensures err { IfErr result (λ e. e ≡ Error.Memory) }
+    ensures steps { OnOk result (steps.new ≡ steps.old + mac.now.iterations) }
+    ensures at_most { (steps.old ≤ steps.new) × (steps.new ≤ steps.old + mac.now.iterations) }
+{
+    if mac.iterations == 0 {
+        return Ok(false);
+    }
+    let salt = mac.salt.as_slice();
+    let made = mac_counted::<H, L>(alloc, content, password, salt, mac.iterations, steps)?;
+    Ok(made.as_slice() == mac.mac.digest.as_slice())
+}
+
+fn mac_from<H: HashFn, L: Ledger>(
     alloc: Global,
     content: &[u8],
     password: &[u8],
     salt: &[u8],
     iterations: u32,
     blank: Blank,
-) -> Result<[u8; 20], Error>
+) -> Result<Octets, Error>
+    requires block { H.BLOCK ≡ 64 }
     requires name { blank.name ≡ L.name }
     requires parts { blank.parts ≡ L.parts }
     requires some { 0 < blank.parts }
     requires rounds { 1 ≤ iterations }
     requires password { length password.now < 2 ^ 59 }
     requires salt { length salt.now < 2 ^ 59 }
-    ensures value { IfOk result (λ mac. mac ≡ mac_value password.now salt.now iterations content.now) }
+    ensures value { IfOk result (λ mac. mac ≡ mac_under H.digest H.OUTPUT password.now salt.now iterations content.now) }
     ensures err { IfErr result (λ e. e ≡ Error.Memory) }
 {
     let mut steps = Steps::<L>::open(blank);
-    mac_counted(alloc, content, password, salt, iterations, &mut steps)
+    mac_counted::<H, L>(alloc, content, password, salt, iterations, &mut steps)
 }
 
 impl MacData {
     /// Whether the MAC of the content under a password, which comes as `bmp_string` gives it, is the digest: true exactly where the
-    /// algorithm is SHA-1, the count at least 1, and the MAC equal to the digest. The only refusal is `Memory`. One step is taken for
-    /// each SHA-1 digest of a round: the count where the algorithm is SHA-1, and otherwise none.
+    /// algorithm is SHA-1 or SHA-256, the count at least 1, and the MAC under that hash equal to the digest. The only refusal is
+    /// `Memory`. One step is taken for each hash of a round: the count under these two algorithms, and otherwise none.
     ///
     /// Caller: the content has fewer than 2^32 octets, password and salt fewer than 2^59 each.
-    #[tactic(auto, unfolding(crate::specs::MacData::mac_agrees))]
+    #[tactic(auto, unfolding(crate::specs::MacData::mac_agrees, crate::specs::MacData::mac_value))]
     pub fn verify_mac_counted<L: Ledger>(
         &self,
         alloc: Global,
@@ -107,15 +130,14 @@ impl MacData {
     {
         match &self.mac.digest_algorithm {
             AlgorithmIdentifier::Sha1 => {
-                if self.iterations == 0 {
-                    return Ok(false);
-                }
-                let salt = self.salt.as_slice();
-                let mac = mac_counted(alloc, content, password, salt, self.iterations, steps)?;
-                Ok(mac.as_slice() == self.mac.digest.as_slice())
+                agrees_under::<Sha1, L>(self, alloc, content, password, steps)
+            }
+            AlgorithmIdentifier::Sha256 => {
+                agrees_under::<Sha256, L>(self, alloc, content, password, steps)
             }
             AlgorithmIdentifier::PbewithSHAAnd40BitRC2CBC(_)
             | AlgorithmIdentifier::PbeWithSHAAnd3KeyTripleDESCBC(_)
+            | AlgorithmIdentifier::Pbes2(_)
             | AlgorithmIdentifier::OtherAlg(_) => Ok(false),
         }
     }
@@ -155,6 +177,7 @@ impl MacData {
     /// `Memory`.
     ///
     /// Caller: at least one round, a content of fewer than 2^32 octets, password and salt of fewer than 2^59 octets each.
+    #[tactic(auto, unfolding(crate::specs::MacData::mac_of, crate::specs::MacData::mac_value))]
     pub fn with_salt(
         alloc: Global,
         content: &[u8],
@@ -166,19 +189,47 @@ impl MacData {
         requires content { length content.now < 2 ^ 32 }
         requires password { length password.now < 2 ^ 59 }
         requires salt { length salt.now < 2 ^ 59 }
-        ensures value { IfOk result (λ m. m ≡ mac_of password.now content.now salt.now iterations) }
+        ensures value { IfOk result (λ m. m ≡ mac_of algorithm.Sha1 password.now content.now salt.now iterations) }
         ensures agrees { IfOk result (λ m. mac_agrees m password.now content.now ≡ true) }
         ensures err { IfErr result (λ e. e ≡ Error.Memory) }
     {
-        let mac = mac_from::<Brand>(alloc, content, password, salt, iterations, Blank::new(1))?;
-        let digest = Octets::from_slice(alloc, &mac)?;
-        let salt = Octets::from_slice(alloc, salt)?;
+        let blank = Blank::new(1);
+        let mac = mac_from::<Sha1, Brand>(alloc, content, password, salt, iterations, blank)?;
         Ok(MacData {
             mac: DigestInfo {
                 digest_algorithm: AlgorithmIdentifier::Sha1,
-                digest,
+                digest: mac,
             },
-            salt,
+            salt: Octets::from_slice(alloc, salt)?,
+            iterations,
+        })
+    }
+
+    /// `with_salt` under SHA-256.
+    #[tactic(auto, unfolding(crate::specs::MacData::mac_of, crate::specs::MacData::mac_value))]
+    pub fn with_salt_sha256(
+        alloc: Global,
+        content: &[u8],
+        password: &[u8],
+        salt: &[u8],
+        iterations: u32,
+    ) -> Result<MacData, Error>
+        requires iterations { 1 ≤ iterations }
+        requires content { length content.now < 2 ^ 32 }
+        requires password { length password.now < 2 ^ 59 }
+        requires salt { length salt.now < 2 ^ 59 }
+        ensures value { IfOk result (λ m. m ≡ mac_of algorithm.Sha256 password.now content.now salt.now iterations) }
+        ensures agrees { IfOk result (λ m. mac_agrees m password.now content.now ≡ true) }
+        ensures err { IfErr result (λ e. e ≡ Error.Memory) }
+    {
+        let blank = Blank::new(1);
+        let mac = mac_from::<Sha256, Brand>(alloc, content, password, salt, iterations, blank)?;
+        Ok(MacData {
+            mac: DigestInfo {
+                digest_algorithm: AlgorithmIdentifier::Sha256,
+                digest: mac,
+            },
+            salt: Octets::from_slice(alloc, salt)?,
             iterations,
         })
     }

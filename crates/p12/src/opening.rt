@@ -3,15 +3,18 @@ ghost use Rattle.std.specs.Prelude.{◌≡◌, ◌+◌, ◌*◌, ◌%◌, ◌≤
 ghost use Rattle.sha1.specs.Sha1.{sha1};
 ghost use Rattle.block_core.specs.Tdes.{inv_tdes};
 ghost use Rattle.mac_modes.specs.Cbc.{uncbc};
-ghost use Rattle.p12.specs.AlgorithmIdentifier.{is_blocks, salt_of, taken, triple_des_text, unlock_pbe, unpadded};
+ghost use Rattle.p12.specs.AlgorithmIdentifier.{is_blocks, salt_of, taken, taken_pbe, triple_des_text, unlock, unlock_pbe, unlock_pbes2, unpadded};
 ghost use Rattle.p12.specs.Derivation.{derive12, turns};
+ghost use Rattle.p12.specs.declared.algorithm_identifier.AlgorithmIdentifier.TheVariants.{Pbes2};
 
-use crate::algorithm_identifier::{AlgorithmIdentifier, Pkcs12PbeParams};
+use crate::algorithm_identifier::{AlgorithmIdentifier, Pkcs12PbeParams, rounds_of};
 use crate::derivation::derive;
 use crate::error::Error;
+use crate::password::bmp_string;
 use asn1_core::Octets;
 use block_core::{BlockCipher, TdesEde3};
 use mac_modes::cbc_decrypt_padded;
+use pkcs5::pbes2::Parameters;
 use sha1::Sha1;
 use std::alloc::Global;
 use std::marker::Brand;
@@ -85,6 +88,32 @@ fn open_blocks<L: Ledger>(
     }
 }
 
+/// The text of a ciphertext under PBES2.
+fn open_pbes2<L: Ledger>(
+    alloc: Global,
+    parameters: &Parameters,
+    ciphertext: &[u8],
+    password: &[u8],
+    steps: &mut Steps<L>,
+) -> Result<Option<Octets>, Error>
+    ensures value { IfOk result (λ m. m ≡ unlock_pbes2 parameters.now password.now ciphertext.now) }
+    ensures err { IfErr result (λ e. e ≡ Error.Memory) }
+    ensures steps { OnOk result (steps.new ≡ steps.old + taken (Pbes2 parameters.now) ciphertext.now) }
+    ensures at_most { (steps.old ≤ steps.new) × (steps.new ≤ steps.old + taken (Pbes2 parameters.now) ciphertext.now) }
+{
+    if rounds_of(&parameters.kdf) == 0 {
+        return Ok(None);
+    }
+    let mut text = Octets::from_slice(alloc, ciphertext)?;
+    match parameters.decrypt_in_place_counted(password, text.as_mut_slice(), steps) {
+        Ok(len) => {
+            text.truncate(len);
+            Ok(Some(text))
+        }
+        Err(_) => Ok(None),
+    }
+}
+
 impl AlgorithmIdentifier {
     /// The plain octets of a ciphertext under a password, which comes as `bmp_string` gives it. None exactly where the algorithm
     /// is not Triple DES, the count is 0, the ciphertext is empty or not whole blocks of 8 octets, or its padding is wrong. The only
@@ -92,7 +121,7 @@ impl AlgorithmIdentifier {
     /// whole blocks, and otherwise none.
     ///
     /// Caller: the ciphertext has fewer than 2^32 octets, password and salt fewer than 2^59 each.
-    #[tactic(auto, unfolding(crate::specs::AlgorithmIdentifier::unlock_pbe, crate::specs::AlgorithmIdentifier::taken))]
+    #[tactic(auto, unfolding(crate::specs::AlgorithmIdentifier::unlock_pbe, crate::specs::AlgorithmIdentifier::taken_pbe))]
     pub fn decrypt_pbe_counted<L: Ledger>(
         &self,
         alloc: Global,
@@ -105,8 +134,8 @@ impl AlgorithmIdentifier {
         requires salt { length (salt_of self.now) < 2 ^ 59 }
         ensures value { IfOk result (λ m. m ≡ unlock_pbe self.now password.now ciphertext.now) }
         ensures err { IfErr result (λ e. e ≡ Error.Memory) }
-        ensures steps { OnOk result (steps.new ≡ steps.old + taken self.now ciphertext.now) }
-        ensures at_most { (steps.old ≤ steps.new) × (steps.new ≤ steps.old + taken self.now ciphertext.now) }
+        ensures steps { OnOk result (steps.new ≡ steps.old + taken_pbe self.now ciphertext.now) }
+        ensures at_most { (steps.old ≤ steps.new) × (steps.new ≤ steps.old + taken_pbe self.now ciphertext.now) }
     {
         match self {
             AlgorithmIdentifier::PbeWithSHAAnd3KeyTripleDESCBC(params) => {
@@ -119,7 +148,9 @@ impl AlgorithmIdentifier {
                 open_blocks(alloc, params, ciphertext, password, steps)
             }
             AlgorithmIdentifier::Sha1
+            | AlgorithmIdentifier::Sha256
             | AlgorithmIdentifier::PbewithSHAAnd40BitRC2CBC(_)
+            | AlgorithmIdentifier::Pbes2(_)
             | AlgorithmIdentifier::OtherAlg(_) => Ok(None),
         }
     }
@@ -158,5 +189,42 @@ impl AlgorithmIdentifier {
         ensures err { IfErr result (λ e. e ≡ Error.Memory) }
     {
         self.decrypt_pbe_from::<Brand>(alloc, ciphertext, password, Blank::new(1))
+    }
+
+    /// The plain octets of a ciphertext under a password: Triple DES takes it as `bmp_string` gives it, PBES2 as its UTF-8. None
+    /// exactly where the algorithm is neither, a length of the key is stated that is not the cipher's, the count is 0, the
+    /// ciphertext is empty or not whole blocks, or its padding is wrong. The only refusal is `Memory`. Steps for Triple DES as
+    /// `decrypt_pbe_counted` takes them; for PBES2 one for each answer of the pseudorandom function.
+    ///
+    /// Caller: the ciphertext has fewer than 2^32 octets, the password fewer than 2^57, the salt fewer than 2^59.
+    #[tactic(auto, unfolding(crate::specs::AlgorithmIdentifier::unlock, crate::specs::AlgorithmIdentifier::taken))]
+    pub fn decrypt_text_counted<L: Ledger>(
+        &self,
+        alloc: Global,
+        ciphertext: &[u8],
+        password: &str,
+        steps: &mut Steps<L>,
+    ) -> Result<Option<Octets>, Error>
+        requires ciphertext { length ciphertext.now < 2 ^ 32 }
+        requires password { length password.now < 2 ^ 57 }
+        requires salt { length (salt_of self.now) < 2 ^ 59 }
+        ensures value { IfOk result (λ m. m ≡ unlock self.now password.now ciphertext.now) }
+        ensures err { IfErr result (λ e. e ≡ Error.Memory) }
+        ensures steps { OnOk result (steps.new ≡ steps.old + taken self.now ciphertext.now) }
+        ensures at_most { (steps.old ≤ steps.new) × (steps.new ≤ steps.old + taken self.now ciphertext.now) }
+    {
+        match self {
+            AlgorithmIdentifier::PbeWithSHAAnd3KeyTripleDESCBC(_) => {
+                let units = bmp_string(alloc, password)?;
+                self.decrypt_pbe_counted(alloc, ciphertext, units.as_slice(), steps)
+            }
+            AlgorithmIdentifier::Pbes2(parameters) => {
+                open_pbes2(alloc, parameters, ciphertext, password.as_bytes(), steps)
+            }
+            AlgorithmIdentifier::Sha1
+            | AlgorithmIdentifier::Sha256
+            | AlgorithmIdentifier::PbewithSHAAnd40BitRC2CBC(_)
+            | AlgorithmIdentifier::OtherAlg(_) => Ok(None),
+        }
     }
 }

@@ -7,9 +7,8 @@ use Rattle.p12.specs.declared.mac_data.MacData.{MacData}
 use Rattle.p12.specs.declared.content_info.ContentInfo.{ContentInfo}
 use Rattle.p12.specs.declared.content_info.ContentInfo.TheVariants as content
 use Rattle.p12.specs.declared.safe_bag.SafeBag.{SafeBag}
-use Rattle.p12.specs.AlgorithmIdentifier.{is_sha1}
 use Rattle.p12.specs.ContentInfo.{IsContents, NoContents}
-use Rattle.p12.specs.MacData.{mac_agrees, mac_steps}
+use Rattle.p12.specs.MacData.{is_mac_digest, mac_agrees, mac_steps}
 use Rattle.p12.specs.Password.{bmp_password}
 use Rattle.p12.specs.Pfx.{IsStore, NoStore}
 use Rattle.transfer.specs.declared.error.TransferError.{TransferError}
@@ -44,23 +43,23 @@ all_open p limit sum next cs gss ks a is h =
 
 -- ---- The MAC
 
-pub mac_unsupported : (p : List ℕ) (limit : ℕ) (v : List ℕ) (m : MacData) → is_sha1 m.mac.digest_algorithm ≡ false → MacTable p limit v m (refused MacUnsupported) 0
+pub mac_unsupported : (p : List ℕ) (limit : ℕ) (v : List ℕ) (m : MacData) → is_mac_digest m.mac.digest_algorithm ≡ false → MacTable p limit v m (refused MacUnsupported) 0
 unfolding MacTable
 mac_unsupported p limit v m h = inl (h, refl, refl)
 
--- the steps of a MAC under SHA-1
-pub mac_counted : (m : MacData) (old new : ℕ) → is_sha1 m.mac.digest_algorithm ≡ true → new ≡ old + mac_steps m → new ≡ old + m.iterations
+-- the steps of a MAC that can be tested
+pub mac_counted : (m : MacData) (old new : ℕ) → is_mac_digest m.mac.digest_algorithm ≡ true → new ≡ old + mac_steps m → new ≡ old + m.iterations
 mac_counted m old new s h = grind (arith, s, h)
 
-pub no_rounds : (p : List ℕ) (limit : ℕ) (v : List ℕ) (m : MacData) → is_sha1 m.mac.digest_algorithm ≡ true → m.iterations ≡ 0 → MacTable p limit v m (refused ZeroIterations) 0
+pub no_rounds : (p : List ℕ) (limit : ℕ) (v : List ℕ) (m : MacData) → is_mac_digest m.mac.digest_algorithm ≡ true → m.iterations ≡ 0 → MacTable p limit v m (refused ZeroIterations) 0
 unfolding MacTable
 no_rounds p limit v m s h = inr (λ f. true_false _ s f, inl (h, refl, refl))
 
-pub too_much : (p : List ℕ) (limit : ℕ) (v : List ℕ) (m : MacData) → is_sha1 m.mac.digest_algorithm ≡ true → 0 < m.iterations → limit < m.iterations → MacTable p limit v m (refused WorkLimit) 0
+pub too_much : (p : List ℕ) (limit : ℕ) (v : List ℕ) (m : MacData) → is_mac_digest m.mac.digest_algorithm ≡ true → 0 < m.iterations → limit < m.iterations → MacTable p limit v m (refused WorkLimit) 0
 unfolding MacTable
 too_much p limit v m s r h = inr (λ f. true_false _ s f, inr (λ z. omega (arith, z, r), inl (h, refl, refl)))
 
-pub mismatch : (p : List ℕ) (limit : ℕ) (v : List ℕ) (m : MacData) → is_sha1 m.mac.digest_algorithm ≡ true → 0 < m.iterations → m.iterations ≤ limit → mac_agrees m (bmp_password p) v ≡ false
+pub mismatch : (p : List ℕ) (limit : ℕ) (v : List ℕ) (m : MacData) → is_mac_digest m.mac.digest_algorithm ≡ true → 0 < m.iterations → m.iterations ≤ limit → mac_agrees m (bmp_password p) v ≡ false
     → MacTable p limit v m (refused MacMismatch) m.iterations
 unfolding MacTable
 mismatch p limit v m s r l h = inr (λ f. true_false _ s f, inr (λ z. omega (arith, z, r), inr (λ z. omega (arith, z, l), inl (h, refl, refl))))
@@ -68,13 +67,13 @@ mismatch p limit v m s r l h = inr (λ f. true_false _ s f, inr (λ z. omega (ar
 pub no_contents : (p : List ℕ) (limit : ℕ) (v : List ℕ) (m : MacData) → IsMacOk p v m → m.iterations ≤ limit → NoContents v → MacTable p limit v m (refused ContentMalformed) m.iterations
 unfolding MacTable
 no_contents p limit v m ok l k =
-    inr (λ f. true_false _ ok.of_sha1 f, inr (λ z. omega (arith, z, ok.some_rounds), inr (λ z. omega (arith, z, l), inr (λ f. true_false _ ok.agrees f, inl (k, refl, refl)))))
+    inr (λ f. true_false _ ok.known f, inr (λ z. omega (arith, z, ok.some_rounds), inr (λ z. omega (arith, z, l), inr (λ f. true_false _ ok.agrees f, inl (k, refl, refl)))))
 
 pub has_contents : (p : List ℕ) (limit : ℕ) (v : List ℕ) (m : MacData) (cs : List ContentInfo) (w : Verdict) (n : ℕ) → IsMacOk p v m → m.iterations ≤ limit → IsContents v cs
     → ContentsTable p limit m.iterations cs w n → MacTable p limit v m w n
 unfolding MacTable
 has_contents p limit v m cs w n ok l k t =
-    inr (λ f. true_false _ ok.of_sha1 f, inr (λ z. omega (arith, z, ok.some_rounds), inr (λ z. omega (arith, z, l), inr (λ f. true_false _ ok.agrees f, inr (λ none. none cs k, (cs, k, t))))))
+    inr (λ f. true_false _ ok.known f, inr (λ z. omega (arith, z, ok.some_rounds), inr (λ z. omega (arith, z, l), inr (λ f. true_false _ ok.agrees f, inr (λ none. none cs k, (cs, k, t))))))
 
 -- ---- The store
 

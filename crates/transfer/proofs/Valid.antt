@@ -67,7 +67,7 @@ mac_open p limit v m gss ks n (inr (a, inr (b, inl h))) = absurd (not_refused gs
 mac_open p limit v m gss ks n (inr (a, inr (b, inr (c, inl h)))) = absurd (not_refused gss ks _ h.1)
 mac_open p limit v m gss ks n (inr (a, inr (b, inr (c, inr (d, inl h))))) = absurd (not_refused gss ks _ h.1)
 mac_open p limit v m gss ks n (inr (a, inr (b, inr (c, inr (d, inr (e, (cs, is, t))))))) = record {
-  ok = record { of_sha1 = not_false _ a; some_rounds = not_zero _ b; agrees = not_false _ d };
+  ok = record { known = not_false _ a; some_rounds = not_zero _ b; agrees = not_false _ d };
   cs = cs;
   is = is;
   parts = contents_open p limit m.iterations cs gss ks n t;

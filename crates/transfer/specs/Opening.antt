@@ -11,9 +11,9 @@ use Rattle.p12.specs.declared.safe_bag.SafeBagKind.{SafeBagKind}
 use Rattle.p12.specs.declared.safe_bag.SafeBagKind.TheVariants as bag
 use Rattle.p12.specs.declared.cert_bag.CertBag.TheVariants as cert
 use Rattle.p12.specs.declared.encrypted_private_key_info.EncryptedPrivateKeyInfo.{EncryptedPrivateKeyInfo}
-use Rattle.p12.specs.AlgorithmIdentifier.{cost, count, is_sha1, openable, taken, unlock}
+use Rattle.p12.specs.AlgorithmIdentifier.{cost, count, openable, taken, unlock}
 use Rattle.p12.specs.ContentInfo.{IsContents, NoContents}
-use Rattle.p12.specs.MacData.{mac_agrees}
+use Rattle.p12.specs.MacData.{is_mac_digest, mac_agrees}
 use Rattle.p12.specs.Password.{bmp_password}
 use Rattle.p12.specs.Pfx.{IsStore, NoStore}
 use Rattle.p12.specs.SafeBag.{IsBags, NoBags}
@@ -142,7 +142,7 @@ ContentsTable p limit sum cs = Parts (of_contents p limit) limit sum cs (KeysTab
 
 unfoldable pub MacTable : List ℕ → ℕ → List ℕ → MacData → Verdict → ℕ → Type 0
 MacTable p limit v m =
-    Row (is_sha1 m.mac.digest_algorithm ≡ false) (refused MacUnsupported) 0
+    Row (is_mac_digest m.mac.digest_algorithm ≡ false) (refused MacUnsupported) 0
     (Row (m.iterations ≡ 0) (refused ZeroIterations) 0
     (Row (limit < m.iterations) (refused WorkLimit) 0
     (Row (mac_agrees m (bmp_password p) v ≡ false) (refused MacMismatch) m.iterations

@@ -6,7 +6,7 @@ use Rattle.p12.specs.declared.mac_data.MacData.{MacData}
 use Rattle.p12.specs.declared.content_info.ContentInfo.{ContentInfo}
 use Rattle.p12.specs.declared.content_info.ContentInfo.TheVariants as content
 use Rattle.p12.specs.declared.safe_bag.SafeBag.{SafeBag}
-use Rattle.p12.specs.AlgorithmIdentifier.{is_sha1}
+use Rattle.p12.specs.MacData.{is_mac_digest}
 use Rattle.p12.specs.ContentInfo.{IsContents}
 use Rattle.p12.specs.MacData.{mac_agrees}
 use Rattle.p12.specs.Password.{bmp_password}
@@ -16,7 +16,7 @@ use Rattle.transfer.specs.Opening.{Comes, ContentOpens, FirstCause, KeyOpens, al
 
 -- The MAC of a store agrees under a password.
 pub record IsMacOk (p v : List ℕ) (m : MacData) : Type 0 where
-  pub of_sha1 : is_sha1 m.mac.digest_algorithm ≡ true
+  pub known : is_mac_digest m.mac.digest_algorithm ≡ true
   pub some_rounds : 1 ≤ m.iterations
   pub agrees : mac_agrees m (bmp_password p) v ≡ true
 

@@ -11,22 +11,7 @@ use std::alloc::Global;
 use std::sync::ledger::Ledger;
 use steps::Steps;
 
-/// The count of an algorithm that can be opened, and its share of the work: three digests an iteration, two for the key
-/// and one for the IV.
-fn count_and_cost(algorithm: &AlgorithmIdentifier) -> Option<(u64, u128)>
-    ensures some { IfSome result (λ r. (openable algorithm.now ≡ true) × (r.0 ≡ count algorithm.now) × (r.1 ≡ cost algorithm.now)) }
-    ensures none { IfNone result (openable algorithm.now ≡ false) }
-{
-    match algorithm {
-        AlgorithmIdentifier::PbeWithSHAAnd3KeyTripleDESCBC(parameters) => {
-            Some((parameters.iterations, 3 * u128::from(parameters.iterations)))
-        }
-        _ => None,
-    }
-}
-
 /// The plain octets of a text under the password; None where it does not open. The only refusal is `Memory`.
-#[tactic(auto, unfolding(p12::specs::AlgorithmIdentifier::unlock))]
 fn decrypt<L: Ledger>(
     alloc: Global,
     algorithm: &AlgorithmIdentifier,
@@ -42,7 +27,7 @@ fn decrypt<L: Ledger>(
     ensures steps { OnOk result (steps.new ≡ steps.old + taken algorithm.now text.now) }
     ensures at_most { (steps.old ≤ steps.new) × (steps.new ≤ steps.old + taken algorithm.now text.now) }
 {
-    match algorithm.decrypt_pbe_counted(alloc, text, password.units(), steps) {
+    match algorithm.decrypt_text_counted(alloc, text, password.as_str(), steps) {
         Ok(plain) => Ok(plain),
         Err(_) => Err(Error::Memory),
     }
@@ -67,12 +52,13 @@ pub(crate) fn open_lock<L: Ledger>(
     ensures refused { IfErr result (Stops (LockFault password.now limit spent algorithm.now text.now (λ _ _ _. ⊥)) steps.old steps.new) }
     ensures at_most { (steps.old ≤ steps.new) × (steps.new + spent ≤ steps.old + limit) }
 {
-    let Some((count, cost)) = count_and_cost(algorithm) else {
+    if !algorithm.is_openable() {
         return Err(TransferError::Unsupported);
-    };
-    if count == 0 {
+    }
+    if algorithm.count() == 0 {
         return Err(TransferError::ZeroIterations);
     }
+    let cost = algorithm.cost();
     if cost > u128::from(limit - spent) {
         return Err(TransferError::WorkLimit);
     }

@@ -1,7 +1,6 @@
 //! The MAC of a store.
 ghost use Rattle.std.specs.Prelude.{◌≡◌, ◌+◌, ◌≤◌, ◌<◌, ◌^◌, ℕ, length, IfOk, IfErr, OnOk};
-ghost use Rattle.p12.specs.AlgorithmIdentifier.{is_sha1};
-ghost use Rattle.p12.specs.MacData.{mac_agrees, mac_steps};
+ghost use Rattle.p12.specs.MacData.{is_mac_digest, mac_agrees, mac_steps};
 ghost use Rattle.p12.specs.Password.{bmp_password};
 ghost use Rattle.transfer.specs.Opening.{MacTable, Stops, refused};
 ghost use Rattle.transfer.specs.Verdicts.{IsMacOk};
@@ -14,11 +13,14 @@ use std::alloc::Global;
 use std::sync::ledger::Ledger;
 use steps::Steps;
 
-/// Whether the algorithm is SHA-1.
-fn is_sha1(algorithm: &AlgorithmIdentifier) -> bool
-    ensures { result ≡ is_sha1 algorithm.now }
+/// Whether a MAC under this digest can be tested.
+fn is_mac_digest(algorithm: &AlgorithmIdentifier) -> bool
+    ensures { result ≡ is_mac_digest algorithm.now }
 {
-    matches!(algorithm, AlgorithmIdentifier::Sha1)
+    matches!(
+        algorithm,
+        AlgorithmIdentifier::Sha1 | AlgorithmIdentifier::Sha256
+    )
 }
 
 /// Whether the MAC of the text agrees under the password. The only refusal is `Memory`.
@@ -60,7 +62,7 @@ pub(crate) fn check_mac<L: Ledger>(
     ensures refused { IfErr result (Stops (λ e n. MacTable password.now limit text.now mac.now (refused e) n) steps.old steps.new) }
     ensures at_most { (steps.old ≤ steps.new) × (steps.new ≤ steps.old + limit) }
 {
-    if !is_sha1(&mac.mac.digest_algorithm) {
+    if !is_mac_digest(&mac.mac.digest_algorithm) {
         return Err(TransferError::MacUnsupported);
     }
     let count = u64::from(mac.iterations);

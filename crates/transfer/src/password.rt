@@ -38,6 +38,13 @@ impl StorePassword {
         }
     }
 
+    /// Its text.
+    pub(crate) fn as_str(&self) -> &str
+        ensures { result.now ≡ self.now }
+    {
+        self.text.as_str()
+    }
+
     /// Its UTF-16, the upper octet of each unit first, with two zeros behind it.
     #[tactic(auto, using(p12::proofs::Laws::password_fits))]
     pub(crate) fn units(&self) -> &[u8]

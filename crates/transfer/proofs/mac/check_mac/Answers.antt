@@ -1,27 +1,27 @@
 use Rattle.std.proofs.Common.{◌≡◌, arith, true}
-use Rattle.p12.specs.AlgorithmIdentifier.{is_sha1}
+use Rattle.p12.specs.MacData.{is_mac_digest}
 use Rattle.transfer.proofs.Rows.{mac_counted, mac_unsupported, mismatch, no_rounds, too_much}
 use Rattle.transfer.proofs.mac.check_mac.Goals as goal
 
-pub returns-then-not-is_sha1-clause-refused : goal.returns-then-not-is_sha1-clause-refused
-returns-then-not-is_sha1-clause-refused g c =
-    (0, mac_unsupported c.args.password.now c.args.limit c.args.text.now c.args.mac.now (grind (arith, c.is_sha1.ensures, c.if-not-is_sha1.true)), omega arith)
+pub returns-then-not-is_mac_digest-clause-refused : goal.returns-then-not-is_mac_digest-clause-refused
+returns-then-not-is_mac_digest-clause-refused g c =
+    (0, mac_unsupported c.args.password.now c.args.limit c.args.text.now c.args.mac.now (grind (arith, c.is_mac_digest.ensures, c.if-not-is_mac_digest.true)), omega arith)
 
 pub returns-then-count-eq0-clause-refused : goal.returns-then-count-eq0-clause-refused
 returns-then-count-eq0-clause-refused g c =
-    (0, no_rounds c.args.password.now c.args.limit c.args.text.now c.args.mac.now (grind (arith, c.is_sha1.ensures, c.if-not-is_sha1.false)) (grind (arith, c.from-count.ensures, c.if-count-eq0.true)), omega arith)
+    (0, no_rounds c.args.password.now c.args.limit c.args.text.now c.args.mac.now (grind (arith, c.is_mac_digest.ensures, c.if-not-is_mac_digest.false)) (grind (arith, c.from-count.ensures, c.if-count-eq0.true)), omega arith)
 
 pub returns-then-count-limit-clause-refused : goal.returns-then-count-limit-clause-refused
 returns-then-count-limit-clause-refused g c = (
   0,
-  too_much c.args.password.now c.args.limit c.args.text.now c.args.mac.now (grind (arith, c.is_sha1.ensures, c.if-not-is_sha1.false)) (grind (arith, c.from-count.ensures, c.if-count-eq0.false))
+  too_much c.args.password.now c.args.limit c.args.text.now c.args.mac.now (grind (arith, c.is_mac_digest.ensures, c.if-not-is_mac_digest.false)) (grind (arith, c.from-count.ensures, c.if-count-eq0.false))
       (grind (arith, c.from-count.ensures, c.if-count-limit.true)),
   omega arith,
 )
 
 pub returns-then-not-branch-clause-refused : goal.returns-then-not-branch-clause-refused
 returns-then-not-branch-clause-refused g c =
-    let s : is_sha1 c.args.mac.now.mac.digest_algorithm ≡ true = grind (arith, c.is_sha1.ensures, c.if-not-is_sha1.false) in (
+    let s : is_mac_digest c.args.mac.now.mac.digest_algorithm ≡ true = grind (arith, c.is_mac_digest.ensures, c.if-not-is_mac_digest.false) in (
       c.args.mac.now.iterations,
       mismatch c.args.password.now c.args.limit c.args.text.now c.args.mac.now s (grind (arith, c.from-count.ensures, c.if-count-eq0.false))
           (grind (arith, c.from-count.ensures, c.if-count-limit.false)) (grind (arith, c.in_ok-verify_mac.ensures.value, c.if-not-branch.true)),
@@ -30,10 +30,10 @@ returns-then-not-branch-clause-refused g c =
 
 pub returns-clause-passed : goal.returns-clause-passed
 returns-clause-passed g c =
-    let s : is_sha1 c.args.mac.now.mac.digest_algorithm ≡ true = grind (arith, c.is_sha1.ensures, c.if-not-is_sha1.false) in
+    let s : is_mac_digest c.args.mac.now.mac.digest_algorithm ≡ true = grind (arith, c.is_mac_digest.ensures, c.if-not-is_mac_digest.false) in
     let same : c.from-count.result ≡ c.args.mac.now.iterations = grind (arith, c.from-count.ensures) in
     let counted = mac_counted c.args.mac.now _ _ s c.in_ok-verify_mac.ensures.steps in (
-      record { of_sha1 = s; some_rounds = grind (arith, same, c.if-count-eq0.false); agrees = grind (arith, c.in_ok-verify_mac.ensures.value, c.if-not-branch.false) },
+      record { known = s; some_rounds = grind (arith, same, c.if-count-eq0.false); agrees = grind (arith, c.in_ok-verify_mac.ensures.value, c.if-not-branch.false) },
       same,
       omega arith,
       omega (arith, counted, same),
