@@ -5,17 +5,21 @@ Run at the top of the repository, with OpenSSL 3 and the package `cryptography`:
     PYTHONPATH=tests python3 tests/vectors/transferred_keys.py
 
 It writes crates/transfer/src/tests/key_rows.rt. Each document is computed under the stated initialization vector and salt by
-`make_store`, with Python's `hashlib` and `cryptography`. The last store is OpenSSL's, with a random key and random salts: a
-new run writes others. Last run with OpenSSL 3.0.19.
+`make_store`, with Python's `hashlib` and `cryptography`. The last two stores are OpenSSL's, with random keys and salts: a new run
+writes others. Last run with OpenSSL 3.0.19.
 """
 
+import hashlib
+import hmac
 import subprocess
 import tempfile
 from pathlib import Path
 
 from make_store import (
-    certificate_bag, data, encrypt, key_bag, scheme, sealed, sealed_document, sealed_key, sequence, store_with_mac,
+    NULL, certificate_bag, data, encrypt, encrypted_data, identifier, key_bag, number, octet_string, scheme, sealed, sealed_document,
+    sealed_key, sequence, store, store_with_mac,
 )
+from read_store import SHA1
 
 ROWS = Path("crates/transfer/src/tests/key_rows.rt")
 
@@ -44,7 +48,68 @@ def realistic():
     return store_with_mac(sequence(sealed(bags, "changeit", SALTS[1], 2048), data(sequence(key))), "changeit", SALTS[2], 2048)
 
 
-def openssl():
+def derived(name, password, salt, count, purpose, size):
+    """The derivation of RFC 7292 appendix B.2 over a hash with blocks of 64 octets, by numbers."""
+    units = password.encode("utf-16-be") + bytes(2)
+
+    def filled(octets):
+        return (octets * 64)[: 64 * -(-len(octets) // 64)] if octets else b""
+
+    blocks, answer = filled(salt) + filled(units), b""
+    while len(answer) < size:
+        digest = bytes([purpose]) * 64 + blocks
+        for _ in range(count):
+            digest = hashlib.new(name, digest).digest()
+        answer += digest
+        more = int.from_bytes((digest * 64)[:64], "big") + 1
+        parts = [int.from_bytes(blocks[i : i + 64], "big") for i in range(0, len(blocks), 64)]
+        blocks = b"".join(((part + more) % 2**512).to_bytes(64, "big") for part in parts)
+    return answer[:size]
+
+
+def mac_under(name, oid, contents, password, salt, count, written=True):
+    """MAC data under this hash; the count may be left out."""
+    size = hashlib.new(name).digest_size
+    digest = hmac.digest(derived(name, password, salt, count, 3, size), contents, name)
+    return sequence(sequence(sequence(identifier(oid), NULL), octet_string(digest)), octet_string(salt), number(count) if written else b"")
+
+
+SHA_256, SHA_384 = "2.16.840.1.101.3.4.2.1", "2.16.840.1.101.3.4.2.2"
+PRFS = {"sha1": "1.2.840.113549.2.7", "sha256": "1.2.840.113549.2.9", "sha512": "1.2.840.113549.2.11"}
+
+
+def pbes2(password, plain, salt, count, prf="sha256", length=b""):
+    """The PBES2 scheme of these parameters, and the text under it (RFC 8018 section 6.2)."""
+    from cryptography.hazmat.primitives.ciphers import Cipher, algorithms, modes
+
+    vector = bytes(reversed(salt)) + salt
+    size = 16 - len(plain) % 16
+    key = hashlib.pbkdf2_hmac(prf, password.encode(), salt, max(count, 1), 32)
+    encryptor = Cipher(algorithms.AES(key), modes.CBC(vector)).encryptor()
+    ciphertext = encryptor.update(plain + bytes([size]) * size) + encryptor.finalize()
+    function = b"" if prf == "sha1" else sequence(identifier(PRFS[prf]), NULL)
+    kdf = sequence(identifier("1.2.840.113549.1.5.12"), sequence(octet_string(salt), number(count), length, function))
+    cipher = sequence(identifier("2.16.840.1.101.3.4.1.42"), octet_string(vector))
+    return sequence(identifier("1.2.840.113549.1.5.13"), sequence(kdf, cipher)), ciphertext
+
+
+def todays(prf="sha256", count=2048, length=b"", mac=("sha256", SHA_256), key_scheme=None):
+    """A store in today's format: a certificate in a content under PBES2, a key under PBES2, a MAC under SHA-256."""
+    scheme_of_key, ciphertext = pbes2("changeit", KEY, SALTS[0], count, prf, length)
+    key = key_bag(key_scheme or scheme_of_key, ciphertext)
+    content = encrypted_data(*pbes2("changeit", sequence(certificate_bag(CERTIFICATES[0])), SALTS[1], 2048))
+    contents = sequence(content, data(sequence(key)))
+    return store(contents, mac_under(*mac, contents, "changeit", SALTS[2], 2048))
+
+
+def under_scrypt():
+    """A scheme of PBES2 under scrypt (RFC 7914 section 7)."""
+    kdf = sequence(identifier("1.3.6.1.4.1.11591.4.11"), sequence(octet_string(SALTS[0]), number(16384), number(8), number(1)))
+    cipher = sequence(identifier("2.16.840.1.101.3.4.1.42"), octet_string(bytes(16)))
+    return sequence(identifier("1.2.840.113549.1.5.13"), sequence(kdf, cipher))
+
+
+def openssl(words=("-keypbe", "PBE-SHA1-3DES", "-certpbe", "PBE-SHA1-3DES", "-macalg", "sha1")):
     """A store of OpenSSL, its certificate and its key."""
     with tempfile.TemporaryDirectory() as folder:
         key, certificate, store, text = [f"{folder}/{name}" for name in ("key", "certificate", "store", "text")]
@@ -55,7 +120,7 @@ def openssl():
         call("req", "-x509", "-newkey", "ed25519", "-nodes", "-keyout", key, "-out", certificate, "-subj", "/CN=a", "-days", "9999")
         call(
             "pkcs12", "-export", "-inkey", key, "-in", certificate, "-name", "a", "-out", store, "-passout", "pass:changeit",
-            "-keypbe", "PBE-SHA1-3DES", "-certpbe", "PBE-SHA1-3DES", "-macalg", "sha1",
+            *words,
         )
         call("pkcs8", "-topk8", "-nocrypt", "-in", key, "-outform", "DER", "-out", text)
         call("x509", "-in", certificate, "-outform", "DER", "-out", folder + "/certificate.der")
@@ -103,6 +168,24 @@ def rows():
     for name, blocks in (("seven octets", bytes(7)), ("no octets", b""), ("a padding of nine", nine)):
         yield f"{name} in a key bag", "p q 1 9", store_of([key_bag(scheme(SALTS[0], 1), blocks)], "p"), drawn, "DecryptFailed", None
 
+    seal = document(KEY, "hunter42", 2048, drawn)
+    one = lines(CERTIFICATES[:1], [seal])
+    yield "today's format: three counts of 2,048", "changeit hunter42 2048 6144", todays(), drawn, "Done", one
+    yield "today's format, one step less", "changeit hunter42 2048 6143", todays(), drawn, "WorkLimit", None
+    yield "a key under HMAC-SHA1, two answers a round", "changeit hunter42 2048 8192", todays("sha1"), drawn, "Done", one
+    yield "the same, one step less", "changeit hunter42 2048 8191", todays("sha1"), drawn, "WorkLimit", None
+    yield "a key under HMAC-SHA512, its length stated", "changeit hunter42 2048 6144", todays("sha512", 2048, number(32)), drawn, "Done", one
+    yield "another length of the key", "changeit hunter42 2048 9999", todays("sha256", 2048, number(16)), drawn, "Unsupported", None
+    yield "a key under scrypt", "changeit hunter42 2048 9999", todays(key_scheme=under_scrypt()), drawn, "Unsupported", None
+    yield "a key of no rounds", "changeit hunter42 2048 9999", todays(count=0), drawn, "ZeroIterations", None
+    yield "a MAC under SHA-384", "changeit hunter42 2048 9999", todays(mac=("sha384", SHA_384)), drawn, "MacUnsupported", None
+    yield "today's format, another password", "x hunter42 2048 9999", todays(), drawn, "MacMismatch", None
+    contents = sequence(data(sequence(certificate_bag(CERTIFICATES[0]))))
+    bare = store(contents, mac_under("sha1", SHA1, contents, "p", SALTS[2], 1, False))
+    yield "a MAC with no count", "p q 1 1", bare, b"", "Done", lines(CERTIFICATES[:1], [])
+
+    made, certificate, key = openssl(())
+    yield "a store of OpenSSL 3 by default", "changeit q 5 6144", made, drawn, "Done", lines([certificate], [document(key, "q", 5, drawn)])
     made, certificate, key = openssl()
     yield "a store of OpenSSL", "changeit q 5 14336", made, drawn, "Done", lines([certificate], [document(key, "q", 5, drawn)])
 
@@ -127,8 +210,8 @@ def main():
     text = HEAD
     made = list(rows())
     text += f"pub(crate) const KEY_ROWS: [KeyRow; {len(made)}] = [\n"
-    for name, words, store, line, status, due in made:
-        spelled = store.hex() + "\\n" + line.hex() + "\\n"
+    for name, words, whole, line, status, due in made:
+        spelled = whole.hex() + "\\n" + line.hex() + "\\n"
         due = f"error: {status}\n" if due is None else due
         text += f"    // {name}\n    KeyRow {{\n        words: \"transfer {words}\",\n        input: \"{spelled}\",\n"
         text += f"        status: Status::{status},\n        written: \"{due.replace(chr(10), chr(92) + 'n')}\",\n    }},\n"

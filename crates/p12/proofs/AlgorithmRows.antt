@@ -118,11 +118,24 @@ algorithm_from k q Sha256 (is, r) = let n = nullable_from q r in inr (another (o
 algorithm_from k q (PbewithSHAAnd40BitRC2CBC p) (is, r) =
     inr (another (oid_octets k) rc2_scheme_oid sha1_oid is refl, inr (another (oid_octets k) rc2_scheme_oid sha256_oid is refl, inl (is, (p, r, refl))))
 algorithm_from k q (PbeWithSHAAnd3KeyTripleDESCBC p) (is, r) =
-    inr (another (oid_octets k) triple_des_scheme_oid sha1_oid is refl, inr (another (oid_octets k) triple_des_scheme_oid sha256_oid is refl,
-    inr (another (oid_octets k) triple_des_scheme_oid rc2_scheme_oid is refl, inl (is, (p, r, refl)))))
+    inr (
+      another (oid_octets k) triple_des_scheme_oid sha1_oid is refl,
+      inr (
+        another (oid_octets k) triple_des_scheme_oid sha256_oid is refl,
+        inr (another (oid_octets k) triple_des_scheme_oid rc2_scheme_oid is refl, inl (is, (p, r, refl))),
+      ),
+    )
 algorithm_from k q (Pbes2 par) (is, r) =
-    inr (another (oid_octets k) pbes2_oid sha1_oid is refl, inr (another (oid_octets k) pbes2_oid sha256_oid is refl, inr (another (oid_octets k) pbes2_oid rc2_scheme_oid is refl,
-    inr (another (oid_octets k) pbes2_oid triple_des_scheme_oid is refl, inl (is, inl (par, r, refl))))))
+    inr (
+      another (oid_octets k) pbes2_oid sha1_oid is refl,
+      inr (
+        another (oid_octets k) pbes2_oid sha256_oid is refl,
+        inr (
+          another (oid_octets k) pbes2_oid rc2_scheme_oid is refl,
+          inr (another (oid_octets k) pbes2_oid triple_des_scheme_oid is refl, inl (is, inl (par, r, refl))),
+        ),
+      ),
+    )
 algorithm_from k q (OtherAlg o) r = other_from k q o r (bytes_eq (oid_octets k) pbes2_oid) refl
 
 algorithm_case-exact : (k : ObjectIdentifier) → ExactAll (AlgorithmCase k) (algorithm_all k)

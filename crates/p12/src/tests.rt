@@ -360,3 +360,43 @@ fn faulty_stores_are_refused(rt: HostRuntime) {
     let copy = store.try_clone(alloc).expect(&rt, "memory");
     assert!(rt; copy.version == 3);
 }
+
+/// A scheme of PBES2 with PBKDF2 over HMAC-SHA256 and AES-256 in CBC mode, and one with scrypt (RFC 7914 section 7), of OpenSSL.
+const PBES2: &str =
+    "305706092a864886f70d01050d304a302906092a864886f70d01050c301c040879d982e70df91a8802020800300c06082a864886f70d02090500301d060960864801650304012a0410b2d02d78b2efd9dff694cf8e0af40925";
+
+const UNDER_SCRYPT: &str =
+    "304f06092a864886f70d01050d3042302106092b06010401da47040b30140408e6211e2348ad69e002024000020108020101301d060960864801650304012a04109bd0a6251f2254f9fd5963887c27cf01";
+
+#[test]
+fn pbes2_is_read_where_it_is_one_of_its_schemes(rt: HostRuntime) {
+    let alloc = rt.alloc();
+    let digits = octets(&rt, alloc, PBES2);
+    let scheme = AlgorithmIdentifier::parse(alloc, &mut SliceReader::new(&digits));
+    let scheme = scheme.expect(&rt, "an algorithm");
+    assert!(rt; matches!(&scheme, AlgorithmIdentifier::Pbes2(_)));
+    assert!(rt; scheme.is_openable() && scheme.count() == 2048 && scheme.cost() == 2048);
+    let digits = octets(&rt, alloc, UNDER_SCRYPT);
+    let scheme = AlgorithmIdentifier::parse(alloc, &mut SliceReader::new(&digits));
+    let scheme = scheme.expect(&rt, "an algorithm");
+    assert!(rt; matches!(&scheme, AlgorithmIdentifier::OtherAlg(_)));
+    assert!(rt; !scheme.is_openable() && scheme.cost() == 0);
+}
+
+#[test]
+fn a_mac_under_sha_256_is_made(rt: HostRuntime) {
+    let alloc = rt.alloc();
+    let password = bmp_string(alloc, "p").expect(&rt, "memory");
+    let salt = [1, 2, 3, 4, 5, 6, 7, 8];
+    let mac = MacData::with_salt_sha256(alloc, b"abc", password.as_slice(), &salt, 3);
+    let mac = mac.expect(&rt, "memory");
+    assert!(rt;
+        is(
+            &mac.mac.digest,
+            &rt,
+            alloc,
+            "18a725d34707ec5b4ed6cad4d8ddc60155b01f5871f85af4c16a683d09dc580b"
+        )
+    );
+    assert!(rt; mac.verify_mac(alloc, b"abc", password.as_slice()) == Ok(true));
+}

@@ -7,8 +7,8 @@ ghost use Rattle.transfer.specs.DueText.{AppendsPart, digits_line, out};
 ghost use Rattle.outside.specs.Faults.{Rose};
 
 use crate::digits::encode_into;
-use outside::{Failed, Sink};
 use asn1_core::Octets;
+use outside::{Failed, Sink};
 
 /// How many octets of a line are encoded for one write.
 const PIECE: usize = 16_000;

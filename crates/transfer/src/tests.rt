@@ -3,7 +3,7 @@ ghost use Rattle.std.specs.Prelude.{◌≡◌, ◌<◌};
 
 mod key_rows;
 
-use crate::{Failed, MemorySink, MemorySource, ReadSource, Sink, Source, Status, WriteSink, run};
+use crate::{MemorySink, MemorySource, Status, run};
 use asn1_core::{Items, Octets};
 use key_rows::{KEY_ROWS, ONE_DOCUMENT, ONE_KEY};
 use mac_modes::{Draw, DrawnBytes, FailingDraw};
@@ -174,55 +174,6 @@ fn a_failed_read_and_a_failed_write_are_named(rt: HostRuntime) -> Result<(), Fai
         b"",
         Blank::new(1),
     )
-}
-
-#[test]
-fn a_source_gives_pieces_and_fails_at_the_listed_reads(rt: HostRuntime) -> Result<(), Fail> {
-    let alloc = rt.alloc();
-    let mut failing = Items::new(alloc);
-    failing.push(1)?;
-    let mut source = MemorySource::new(Octets::from_slice(alloc, b"abcde")?, 3, failing);
-    let mut buffer = [0; 4];
-    assert_eq!(rt; source.read(&mut buffer), Ok(3));
-    assert_eq!(rt; source.read(&mut buffer), Err(Failed));
-    assert_eq!(rt; source.read(&mut buffer), Ok(2));
-    assert_eq!(rt; &buffer, b"dec\0");
-    assert_eq!(rt; source.read(&mut buffer), Ok(0));
-    Ok(())
-}
-
-#[test]
-fn a_sink_takes_what_it_has_room_for(rt: HostRuntime) -> Result<(), Fail> {
-    let alloc = rt.alloc();
-    let mut failing = Items::new(alloc);
-    failing.push(0)?;
-    let mut sink = MemorySink::new(alloc, 5, failing)?;
-    assert_eq!(rt; sink.write(b"abc"), Err(Failed));
-    assert_eq!(rt; sink.write(b"abc"), Ok(3));
-    assert_eq!(rt; sink.write(b"def"), Ok(2));
-    assert_eq!(rt; sink.write(b"f"), Err(Failed));
-    assert_eq!(rt; sink.write(b""), Ok(0));
-    assert_eq!(rt; sink.octets(), b"abcde".as_slice());
-    Ok(())
-}
-
-#[test]
-fn a_source_over_a_reader_reads_it(rt: HostRuntime) -> Result<(), Fail> {
-    let octets: &[u8] = b"abc";
-    let mut source = ReadSource::new(octets);
-    let mut buffer = [0; 4];
-    assert_eq!(rt; source.read(&mut buffer), Ok(3));
-    assert_eq!(rt; &buffer, b"abc\0");
-    assert_eq!(rt; source.read(&mut buffer), Ok(0));
-    Ok(())
-}
-
-#[test]
-fn a_sink_over_a_writer_writes_to_it(rt: HostRuntime) -> Result<(), Fail> {
-    let mut sink = WriteSink::new(Vec::new(rt.alloc()));
-    assert_eq!(rt; sink.write(b"abc"), Ok(3));
-    assert_eq!(rt; sink.write(b""), Ok(0));
-    Ok(())
 }
 
 /// One certificate in a plain content, with a MAC of one round under the password `p`.
@@ -419,7 +370,7 @@ fn contents_that_do_not_open_are_refused(rt: HostRuntime) -> Result<(), Fail> {
         ),
         (
             "transfer p q 1 9",
-            "3081b4020103307906092a864886f70d010701a06c046a3068306606092a864886f70d010706a0593057020100305206092a864886f70d010701301b060a2a864886f70d010c0103300d0408080706050403020102010280287873788e8e3e60877e5037817e5579ae4a00be95da2efe4da705e184f285071b846962c79482f0c630343025300d0609608648016503040201050004145f7379ade122642977f123ae10f9f15cdeb0bcc304080102030405060708020101",
+            "3081b4020103307906092a864886f70d010701a06c046a3068306606092a864886f70d010706a0593057020100305206092a864886f70d010701301b060a2a864886f70d010c0103300d0408080706050403020102010280287873788e8e3e60877e5037817e5579ae4a00be95da2efe4da705e184f285071b846962c79482f0c630343025300d0609608648016503040202050004145f7379ade122642977f123ae10f9f15cdeb0bcc304080102030405060708020101",
             Status::MacUnsupported,
             "error: MacUnsupported\n",
         ),
