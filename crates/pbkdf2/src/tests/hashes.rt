@@ -1,7 +1,7 @@
 //! Password hashes: one that the Rust crate `pbkdf2` gives, and refusals.
 use crate::{Algorithm, Params, PasswordHasher, PasswordVerifier, Pbkdf2};
-use octet_core::Octets;
 use mac_modes::DrawnBytes;
+use octet_core::Octets;
 use phc_core::{CustomizedPasswordHasher, Error, Ident, ParamsString, PasswordHash};
 use std::test::Fail;
 
