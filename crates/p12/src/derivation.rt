@@ -95,8 +95,8 @@ pub(crate) fn derive<H: HashFn, L: Ledger>(
     Ok(key)
 }
 
-/// `derive` over SHA-1, with a counter of its own.
-fn derive_from<L: Ledger>(
+/// `derive` with a counter of its own.
+fn derive_from<H: HashFn, L: Ledger>(
     alloc: Global,
     password: &[u8],
     salt: &[u8],
@@ -112,14 +112,40 @@ fn derive_from<L: Ledger>(
     requires password { length password.now < 2 ^ 59 }
     requires salt { length salt.now < 2 ^ 59 }
     requires size { size ≤ 2 ^ 32 }
-    ensures { IfOk result (λ key. key.items ≡ derive12 sha1 20 password.now salt.now rounds id size) }
+    ensures { IfOk result (λ key. key.items ≡ derive12 H.digest H.OUTPUT password.now salt.now rounds id size) }
 {
     let mut steps = Steps::<L>::open(blank);
-    derive::<Sha1, L>(alloc, password, salt, rounds, id, size, &mut steps)
+    derive::<H, L>(alloc, password, salt, rounds, id, size, &mut steps)
 }
 
-/// `size` octets under a password and a salt with SHA-1 (RFC 7292 appendix B.2). The password comes as `bmp_string` gives it;
-/// `id` is 1 for a key, 2 for an initial value and 3 for the key of a MAC. The only refusal is `Memory`.
+/// `size` octets under a password and a salt over a hash function whose blocks have 64 octets (RFC 7292 appendix B.2). The
+/// password comes as `bmp_string` gives it; `id` is 1 for a key, 2 for an initial value and 3 for the key of a MAC. The only
+/// refusal is `Memory`.
+///
+/// Caller: `H::BLOCK` is 64, at least one round, `size` at most 2^32, password and salt of fewer than 2^59 octets each.
+pub fn pbepkcs12<H: HashFn>(
+    alloc: Global,
+    pass: &[u8],
+    salt: &[u8],
+    iterations: u64,
+    id: u8,
+    size: u64,
+) -> Result<Octets, Error>
+    requires block { H.BLOCK ≡ 64 }
+    requires iterations { 1 ≤ iterations }
+    requires size { size ≤ 2 ^ 32 }
+    requires pass { length pass.now < 2 ^ 59 }
+    requires salt { length salt.now < 2 ^ 59 }
+    ensures ok { IfOk result (λ key. key ≡ derive12 H.digest H.OUTPUT pass.now salt.now iterations id size) }
+    ensures err { IfErr result (λ e. e ≡ Error.Memory) }
+{
+    let size = size as usize;
+    let blank = Blank::new(1);
+    let key = derive_from::<H, Brand>(alloc, pass, salt, iterations, id, size, blank)?;
+    Ok(Octets::from_vec(key))
+}
+
+/// `pbepkcs12` with SHA-1.
 ///
 /// Caller: at least one round, `size` at most 2^32, password and salt of fewer than 2^59 octets each.
 pub fn pbepkcs12sha1(
@@ -137,14 +163,5 @@ pub fn pbepkcs12sha1(
     ensures ok { IfOk result (λ key. key ≡ derive12 sha1 20 pass.now salt.now iterations id size) }
     ensures err { IfErr result (λ e. e ≡ Error.Memory) }
 {
-    let key = derive_from::<Brand>(
-        alloc,
-        pass,
-        salt,
-        iterations,
-        id,
-        size as usize,
-        Blank::new(1),
-    )?;
-    Ok(Octets::from_vec(key))
+    pbepkcs12::<Sha1>(alloc, pass, salt, iterations, id, size)
 }

@@ -24,7 +24,7 @@ pub use algorithm_identifier::{AlgorithmIdentifier, OtherAlgorithmIdentifier, Pk
 pub use attribute::{OtherAttribute, PKCS12Attribute};
 pub use cert_bag::CertBag;
 pub use content_info::{ContentInfo, OtherContext};
-pub use derivation::pbepkcs12sha1;
+pub use derivation::{pbepkcs12, pbepkcs12sha1};
 pub use digest_info::DigestInfo;
 pub use encrypted_data::{EncryptedContentInfo, EncryptedData};
 pub use encrypted_private_key_info::EncryptedPrivateKeyInfo;

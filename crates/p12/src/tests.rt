@@ -2,9 +2,10 @@
 //! and `hmac`, Triple DES by OpenSSL.
 use crate::{
     AlgorithmIdentifier, CertBag, ContentInfo, Error, MacData, PFX, PKCS12Attribute, SafeBag,
-    SafeBagKind, bmp_string, pbepkcs12sha1,
+    SafeBagKind, bmp_string, pbepkcs12, pbepkcs12sha1,
 };
 use asn1_core::{ObjectIdentifier, Octets, Reader, SliceReader};
+use mac_modes::Sha256;
 use std::alloc::Global;
 use std::process::Abort;
 
@@ -174,6 +175,16 @@ fn an_encrypted_key_opens(rt: HostRuntime) {
 fn a_mac_is_made_with_a_salt(rt: HostRuntime) {
     let alloc = rt.alloc();
     let salt = [1, 2, 3, 4, 5, 6, 7, 8];
+    let key = pbepkcs12::<Sha256>(alloc, password.as_slice(), &salt, 3, 3, 32);
+    let key = key.expect(&rt, "memory");
+    assert!(rt;
+        is(
+            &key,
+            &rt,
+            alloc,
+            "d04c492650aa7f7baef9a5d04ba461327147093827b5f7c92f70f7ae6299e8f4"
+        )
+    );
     let mac = MacData::with_salt(alloc, &[0x30, 0], &[0, 0], &salt, 1).expect(&rt, "memory");
     assert!(rt;
         is(
@@ -388,6 +399,16 @@ fn a_mac_under_sha_256_is_made(rt: HostRuntime) {
     let alloc = rt.alloc();
     let password = bmp_string(alloc, "p").expect(&rt, "memory");
     let salt = [1, 2, 3, 4, 5, 6, 7, 8];
+    let key = pbepkcs12::<Sha256>(alloc, password.as_slice(), &salt, 3, 3, 32);
+    let key = key.expect(&rt, "memory");
+    assert!(rt;
+        is(
+            &key,
+            &rt,
+            alloc,
+            "d04c492650aa7f7baef9a5d04ba461327147093827b5f7c92f70f7ae6299e8f4"
+        )
+    );
     let mac = MacData::with_salt_sha256(alloc, b"abc", password.as_slice(), &salt, 3);
     let mac = mac.expect(&rt, "memory");
     assert!(rt;

@@ -12,3 +12,4 @@ mod Drawn
 mod Places
 mod Settling
 mod Answering
+pub mod Decided

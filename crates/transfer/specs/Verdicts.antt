@@ -1,5 +1,5 @@
--- One store has one verdict, and which stores are valid.
-use Rattle.std.specs.Prelude.{ℕ, ◌+◌, ◌≤◌, ◌≡◌, ◌↔◌, List, length, Some, None, true}
+-- Each store has one verdict, and which stores are valid.
+use Rattle.std.specs.Prelude.{ℕ, ◌+◌, ◌≤◌, ◌≡◌, ◌↔◌, List, length, Some, true}
 use Rattle.std.specs.List.{sum_by}
 use Rattle.p12.specs.declared.pfx.PFX.{PFX}
 use Rattle.p12.specs.declared.mac_data.MacData.{MacData}
@@ -11,8 +11,9 @@ use Rattle.p12.specs.ContentInfo.{IsContents}
 use Rattle.p12.specs.MacData.{mac_agrees}
 use Rattle.p12.specs.Password.{bmp_password}
 use Rattle.p12.specs.Pfx.{IsStore}
+use Rattle.transfer.specs.declared.error.TransferError.{TransferError}
 use Rattle.transfer.specs.Parts.{Each}
-use Rattle.transfer.specs.Opening.{Comes, ContentOpens, FirstCause, KeyOpens, all_shrouded, content_share, key_share, opened}
+use Rattle.transfer.specs.Opening.{Comes, ContentOpens, FirstCause, KeyOpens, Verdict, all_shrouded, content_share, key_share, opened}
 
 -- The MAC of a store agrees under a password.
 pub record IsMacOk (p v : List ℕ) (m : MacData) : Type 0 where
@@ -56,10 +57,14 @@ Sole {V} T = (v w : V) (m n : ℕ) → T v m → T w n → (v ≡ w) × (m ≡ n
 abbrev pub OneVerdict : Type 0
 OneVerdict = (b p : List ℕ) (limit : ℕ) → Sole (Comes b p limit)
 
+-- Each list of octets has a verdict, after a number of steps, under each password and each limit.
+abbrev pub EachHasVerdict : Type 0
+EachHasVerdict = (b p : List ℕ) (limit : ℕ) → (w : Verdict) × (n : ℕ) × Comes b p limit w n
+
 -- A store comes to be opened exactly where it opens within the limit, and then its work is the number of steps.
 abbrev pub OpenedExactly : Type 0
 OpenedExactly = (b p : List ℕ) (limit : ℕ) (gss : List (List SafeBag)) (ks : List (List ℕ)) (n : ℕ) → Comes b p limit (opened gss ks) n ↔ (Opens b p gss ks n × (n ≤ limit))
 
 -- No cause refuses a store exactly where it is valid.
 abbrev pub ValidExactly : Type 0
-ValidExactly = (b p : List ℕ) (limit : ℕ) → FirstCause b p limit None ↔ IsValid b p limit
+ValidExactly = (b p : List ℕ) (limit : ℕ) → ((e : TransferError) → FirstCause b p limit (Some e) → ⊥) ↔ IsValid b p limit

@@ -13,7 +13,7 @@ mod error;
 mod input;
 mod input_text;
 mod keys;
-mod laws;
+pub mod laws;
 mod lock;
 mod mac;
 mod opening;
@@ -27,7 +27,7 @@ mod transferred;
 mod words;
 
 pub use error::TransferError;
-pub use laws::{drawn_in_place, one_verdict, opened_exactly, valid_exactly};
+pub use laws::{drawn_in_place, each_has_verdict, one_verdict, opened_exactly, valid_exactly};
 pub use outside::{Failed, MemorySink, MemorySource, ReadSource, Sink, Source, WriteSink};
 pub use status::Status;
 pub use top_call::run;
