@@ -175,16 +175,6 @@ fn an_encrypted_key_opens(rt: HostRuntime) {
 fn a_mac_is_made_with_a_salt(rt: HostRuntime) {
     let alloc = rt.alloc();
     let salt = [1, 2, 3, 4, 5, 6, 7, 8];
-    let key = pbepkcs12::<Sha256>(alloc, password.as_slice(), &salt, 3, 3, 32);
-    let key = key.expect(&rt, "memory");
-    assert!(rt;
-        is(
-            &key,
-            &rt,
-            alloc,
-            "d04c492650aa7f7baef9a5d04ba461327147093827b5f7c92f70f7ae6299e8f4"
-        )
-    );
     let mac = MacData::with_salt(alloc, &[0x30, 0], &[0, 0], &salt, 1).expect(&rt, "memory");
     assert!(rt;
         is(
