@@ -24,7 +24,7 @@ line() {
     printf '%-52s %14s %8s\n' "$@"
 }
 
-build public_keys "asn1_core der_core spki" "asn1_core der_core spki" decode 2
+build public_keys "octet_core asn1_core der_core spki" "asn1_core der_core spki" decode 2
 line "a public key of 294 octets" microseconds MiB
 line "decoded, borrowed" "$(microseconds decode)" "$(mebibytes decode 1000)"
 line "decoded into memory of its own" "$(microseconds decode-owned)" "$(mebibytes decode-owned 1000)"
