@@ -34,7 +34,7 @@ for n in range(0, 150, 5):
 
 print("\n# Python's cryptography: key, nonce, text")
 for size in (16, 24, 32):
-    for n in range(0, 70):
+    for n in range(0, 70, 1 if size == 16 else 3):
         key, nonce, text = bytes(range(n, n + size)), bytes(range(n + 7, n + 19)), bytes(range(100, 100 + n))
         sealed = AESGCM(key).encrypt(nonce, text, None)
         print(f"gcm-aes{8 * size}-encrypt {word(key)} {word(nonce)} {word(text)} = {word(sealed)}")

@@ -1,13 +1,13 @@
 #!/usr/bin/env python3
-"""Writes the password hashes of other programs for the tests of the crate phc_core.
+"""Writes known answers of PHC strings: the password hashes of other programs.
 
 Run at the top of the repository, with Debian's own Python, its packages argon2, python3-argon2, python3-passlib,
 python3-bcrypt, python3-nacl, php-cli, librust-pbkdf2-dev and librust-pbkdf2+simple-dev, and a cargo:
 
     /usr/bin/python3 tests/vectors/phc_strings.py
 
-It writes crates/phc_core/src/tests/program_strings.rt: password hashes that these programs write, in PHC strings and in
-other formats that begin alike. Where a program takes the salt from its caller, each run makes its string anew and
+It writes tests/vectors/phc_strings.txt: password hashes that these programs write, in PHC strings and in other formats
+that begin alike, which are refused. Where a program takes the salt from its caller, each run makes its string anew and
 writes the same file. PHP and libsodium draw the salt, so their strings are those of one run, and each run has the
 program say that they are hashes of the password.
 
@@ -30,7 +30,7 @@ import argon2
 import nacl.pwhash
 from passlib import hash as passlib
 
-FILE = Path("crates/phc_core/src/tests/program_strings.rt")
+FILE = Path("tests/vectors/phc_strings.txt")
 PASSWORD = b"password"
 SALT = b"somesalt"
 
@@ -142,13 +142,14 @@ def other_formats():
     yield "libxcrypt, yescrypt: parameters without names", crypt.crypt(PASSWORD.decode(), "$y$j9T$somesaltsome$")
 
 
-def table(name, strings):
-    rows = [f'    // {program}\n    "{text}",\n' for program, text in strings]
-    return f"\npub(crate) const {name}: [&str; {len(rows)}] = [\n{''.join(rows)}];\n"
+def case(program, text, answer):
+    return f"# {program}: {text}\nphc-string {text.encode().hex()} = {answer}\n"
 
 
 FILE.write_text(
-    "//! What other programs write, by `tests/vectors/phc_strings.py`.\n"
-    + table("IN_PHC_STRINGS", phc_strings())
-    + table("IN_OTHER_FORMATS", other_formats())
+    "# Known answers of PHC strings, written by tests/vectors/phc_strings.py.\n"
+    + "\n# PHC strings of other programs\n"
+    + "".join(case(program, text, text.encode().hex()) for program, text in phc_strings())
+    + "\n# other formats of other programs\n"
+    + "".join(case(program, text, "!EncodingInvalid") for program, text in other_formats())
 )

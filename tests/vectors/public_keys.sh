@@ -22,6 +22,7 @@ row() {
     openssl pkey -in "$work/key" -pubout -outform DER -out "$work/public"
     {
         echo "# $name: ${parameters:-no parameters}"
+        echo "spki-fingerprint $(digits <"$work/public")00 = !Malformed"
         echo "spki-fingerprint $(digits <"$work/public") = $(openssl pkey -pubin -inform DER -in "$work/public" -outform DER | sha256sum | cut -d ' ' -f 1)"
     } >>"$rows"
 }
