@@ -1,3 +1,2 @@
 mod callers;
 mod phc_strings;
-mod program_strings;

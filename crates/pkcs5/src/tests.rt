@@ -1,8 +1,6 @@
 //! Texts of schemes, and texts under passwords.
 
 mod encryption;
-mod openssl_schemes;
-mod refused_schemes;
 mod texts;
 
 use asn1_core::ObjectIdentifier;

@@ -2,7 +2,6 @@
 
 mod callers;
 mod documents;
-mod openssl_documents;
 mod openssl_keys;
 mod refusals;
 

@@ -1,6 +1,5 @@
-//! Texts: what is read of them, what is written, and what is refused.
-use super::openssl_schemes::{OpensslScheme, SCHEMES};
-use super::refused_schemes::{REFUSED, RefusedScheme};
+//! Texts: what is read of them, what is written, and what is refused. More schemes are lines of `tests/vectors/schemes.txt` and
+//! `tests/vectors/grammars.txt`.
 use super::{octets, oid};
 use crate::pbes2::{
     self, AES_128_CBC_OID, HMAC_WITH_SHA1_OID, HMAC_WITH_SHA256_OID, Kdf, PBES2_OID, PBKDF2_OID,
@@ -22,23 +21,6 @@ use std::process::Abort;
 const AES_256: &str =
     "305706092a864886f70d01050d304a302906092a864886f70d01050c301c040879d982e70df91a8802020800300c06082a864886f70d02090500301d060960864801650304012a0410b2d02d78b2efd9dff694cf8e0af40925";
 
-/// The same row with scrypt, with Triple DES and with DES.
-const SCRYPT: &str =
-    "304f06092a864886f70d01050d3042302106092b06010401da47040b30140408e6211e2348ad69e002024000020108020101301d060960864801650304012a04109bd0a6251f2254f9fd5963887c27cf01";
-
-const TRIPLE_DES: &str =
-    "304e06092a864886f70d01050d3041302906092a864886f70d01050c301c040832a0ae2e01bbe32902020800300c06082a864886f70d02090500301406082a864886f70d0307040897e8f53ab0aca359";
-
-const DES: &str =
-    "304b06092a864886f70d01050d303e302906092a864886f70d01050c301c040809e7edfbd9f21e2b02020800300c06082a864886f70d02090500301106052b0e0302070408f4aaf206a18de7ad";
-
-/// A scheme whose PRF has no NULL, and the text that is written of it.
-const WITHOUT_NULL: &str =
-    "305d06092a864886f70d01050d3050302f06092a864886f70d01050c302204100c12aa39d743d1633ddbb615a5ec1b6a02020800300a06082a864886f70d0209301d060960864801650304012a0410baba52272b5a30263d62f81ae27ad768";
-
-const WITH_NULL: &str =
-    "305f06092a864886f70d01050d3052303106092a864886f70d01050c302404100c12aa39d743d1633ddbb615a5ec1b6a02020800300c06082a864886f70d02090500301d060960864801650304012a0410baba52272b5a30263d62f81ae27ad768";
-
 /// Parameters of PBKDF2, of salt `00` to `07` and 2,048 rounds.
 const PARAMS: &str = "301c0408000102030405060702020800300c06082a864886f70d02090500";
 
@@ -59,61 +41,12 @@ fn is_kept<'a, T: Canonical<&'a [u8]> + PartialEq>(
     read == *value && found.as_slice() == written && size.value as usize == written.len()
 }
 
-/// Whether the text is read, and the value that is read written as `written`.
-fn is_written(rt: &impl Abort, alloc: Global, text: &str, written: &str) -> bool {
-    let (text, written) = (octets(rt, alloc, text), octets(rt, alloc, written));
-    let again = EncryptionScheme::from_der(written.as_slice()).expect(rt, "a scheme");
-    is_kept(rt, alloc, text.as_slice(), written.as_slice(), &again)
-}
-
-/// Whether this is the scheme that OpenSSL was asked for, and it is written as it was.
-fn is_openssl_scheme(rt: &impl Abort, alloc: Global, row: &OpensslScheme) -> bool {
-    let text = octets(rt, alloc, row.text);
-    let scheme = EncryptionScheme::from_der(text.as_slice()).expect(rt, "a scheme");
-    let parameters = scheme.pbes2().expect(rt, "PBES2");
-    let function = parameters.kdf.pbkdf2().expect(rt, "PBKDF2");
-    is_written(rt, alloc, row.text, row.text)
-        && parameters.encryption.key_size() == row.key_size
-        && function.prf == row.prf
-        && function.iteration_count == row.rounds
-        && function.key_length.is_none()
-        && function.salt.as_bytes().len() == 8
-}
-
-#[test]
-fn schemes_of_openssl_are_read_and_written_back(rt: HostRuntime) {
-    let alloc = rt.alloc();
-    for row in &SCHEMES {
-        assert!(rt; is_openssl_scheme(&rt, alloc, row), "{}", row.text);
-    }
-}
-
-#[test]
-fn a_prf_without_null_is_written_with_it(rt: HostRuntime) {
-    let alloc = rt.alloc();
-    assert!(rt; is_written(&rt, alloc, WITHOUT_NULL, WITH_NULL));
-    assert!(rt; is_written(&rt, alloc, WITH_NULL, WITH_NULL));
-}
-
-#[test]
-fn hmac_over_sha_1_is_left_out(rt: HostRuntime) {
-    let alloc = rt.alloc();
-    let canonical =
-        "304906092a864886f70d01050d303c301b06092a864886f70d01050c300e0408000102030405060702020800301d060960864801650304012a0410a0a1a2a3a4a5a6a7a8a9aaabacadaeaf";
-    for text in [
-        canonical,
-        "305706092a864886f70d01050d304a302906092a864886f70d01050c301c0408000102030405060702020800300c06082a864886f70d02070500301d060960864801650304012a0410a0a1a2a3a4a5a6a7a8a9aaabacadaeaf",
-        "305506092a864886f70d01050d3048302706092a864886f70d01050c301a0408000102030405060702020800300a06082a864886f70d0207301d060960864801650304012a0410a0a1a2a3a4a5a6a7a8a9aaabacadaeaf",
-    ] {
-        assert!(rt; is_written(&rt, alloc, text, canonical), "{text}");
-    }
-}
-
 #[test]
 fn the_parts_of_a_scheme(rt: HostRuntime) {
     let alloc = rt.alloc();
     let text = octets(&rt, alloc, AES_256);
     let scheme = EncryptionScheme::try_from(text.as_slice()).expect(&rt, "a scheme");
+    assert!(rt; is_kept(&rt, alloc, text.as_slice(), text.as_slice(), &scheme));
     assert!(rt; scheme.oid() == PBES2_OID && PBES2_OID == oid(&rt, "1.2.840.113549.1.5.13"));
     let parameters = scheme.pbes2().expect(&rt, "PBES2");
     assert!(rt; EncryptionScheme::from(*parameters) == scheme);
@@ -135,42 +68,19 @@ fn the_parts_of_a_scheme(rt: HostRuntime) {
     assert!(rt; &iv[..] == octets(&rt, alloc, iv_digits).as_slice());
 }
 
-/// Whether the text is refused as this row says.
-fn is_refused(rt: &impl Abort, alloc: Global, row: &RefusedScheme) -> bool {
-    let text = octets(rt, alloc, row.text);
-    let refusal = match row.unknown {
-        Some(unknown) => OidUnknown {
-            oid: oid(rt, unknown),
-        },
-        None => Malformed,
-    };
-    EncryptionScheme::from_der(text.as_slice()) == Err(refusal)
-        && EncryptionScheme::try_from(text.as_slice()) == Err(refusal)
-}
-
 #[test]
-fn refusals_come_in_their_order(rt: HostRuntime) {
+fn texts_of_no_scheme_are_refused(rt: HostRuntime) {
     let alloc = rt.alloc();
-    for row in &REFUSED {
-        assert!(rt; is_refused(&rt, alloc, row), "{}", row.why);
-    }
-}
-
-#[test]
-fn schemes_that_are_not_known_here(rt: HostRuntime) {
-    let alloc = rt.alloc();
-    for (text, unknown) in [
-        (SCRYPT, "1.3.6.1.4.1.11591.4.11"),
-        (TRIPLE_DES, "1.2.840.113549.3.7"),
-        (DES, "1.3.14.3.2.7"),
-    ] {
-        let row = RefusedScheme {
-            why: "",
-            text,
-            unknown: Some(unknown),
-        };
-        assert!(rt; is_refused(&rt, alloc, &row), "{unknown}");
-    }
+    assert!(rt; EncryptionScheme::from_der(&[]) == Err(Malformed));
+    assert!(rt; EncryptionScheme::try_from(&[0x30, 0][..]) == Err(Malformed));
+    // Triple DES
+    let text = octets(
+        &rt,
+        alloc,
+        "304e06092a864886f70d01050d3041302906092a864886f70d01050c301c040832a0ae2e01bbe32902020800300c06082a864886f70d02090500301406082a864886f70d0307040897e8f53ab0aca359",
+    );
+    let oid = oid(&rt, "1.2.840.113549.3.7");
+    assert!(rt; EncryptionScheme::try_from(text.as_slice()) == Err(OidUnknown { oid }));
 }
 
 #[test]
@@ -247,7 +157,7 @@ fn the_algorithm_of_a_cipher(rt: HostRuntime) {
 }
 
 #[test]
-fn algorithms_without_parameters(rt: HostRuntime) {
+fn algorithms_without_parameters_and_with_null(rt: HostRuntime) {
     let bare: AlgorithmIdentifierRef<'_> = AlgorithmIdentifier {
         oid: PBKDF2_OID,
         parameters: None,
@@ -255,10 +165,6 @@ fn algorithms_without_parameters(rt: HostRuntime) {
     assert!(rt; Kdf::try_from(bare) == Err(Malformed));
     assert!(rt; EncryptionScheme::try_from(bare) == Err(Malformed));
     assert!(rt; pbes2::EncryptionScheme::try_from(bare) == Err(Malformed));
-}
-
-#[test]
-fn algorithms_with_null(rt: HostRuntime) {
     let algorithm = AlgorithmIdentifier {
         oid: PBES2_OID,
         parameters: Some(AnyRef::from(Null)),

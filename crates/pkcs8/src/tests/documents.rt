@@ -1,5 +1,4 @@
-//! Private keys under passwords.
-use super::openssl_documents::DOCUMENTS;
+//! Private keys under passwords. More documents are lines of `tests/vectors/encrypted_keys.txt`.
 use super::{KEY, octets};
 use crate::{EncryptedPrivateKeyInfo, EncryptedPrivateKeyInfoRef, Error, PrivateKeyInfoRef};
 use der_core::{Decode, Encode, OctetStringRef, canon_is_read, exact_spellings, texts_are_read};
@@ -36,18 +35,6 @@ fn opens_and_seals(rt: &impl Abort, alloc: Global, document: &str, key: &str) ->
 }
 
 #[test]
-fn documents_of_openssl_are_opened_and_made_again(rt: HostRuntime) {
-    let alloc = rt.alloc();
-    for document in &DOCUMENTS {
-        assert!(rt;
-            opens_and_seals(&rt, alloc, document.document, document.key),
-            "{}",
-            document.name
-        );
-    }
-}
-
-#[test]
 fn a_document_of_another_program_is_opened_and_made_again(rt: HostRuntime) {
     let alloc = rt.alloc();
     assert!(rt; opens_and_seals(&rt, alloc, SEALED, KEY));
@@ -69,14 +56,8 @@ fn refusal(alloc: Global, document: &[u8], password: &[u8]) -> Option<Error> {
 fn another_password_opens_nothing(rt: HostRuntime) {
     let alloc = rt.alloc();
     let failed = Some(Error::EncryptedPrivateKey(pkcs5::Error::DecryptFailed));
-    for document in &DOCUMENTS {
-        let text = octets(&rt, alloc, document.document);
-        assert!(rt;
-            refusal(alloc, text.as_slice(), b"hunter43") == failed,
-            "{}",
-            document.name
-        );
-    }
+    let text = octets(&rt, alloc, SEALED);
+    assert!(rt; refusal(alloc, text.as_slice(), b"hunter43") == failed);
 }
 
 /// Octets under `hunter42` in two rounds, by the package `cryptography` of Python: an OCTET STRING, a SEQUENCE and an octet more, and an
