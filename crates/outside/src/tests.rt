@@ -1,4 +1,6 @@
 //! Draws over octets in memory, and over a reader and a generator that may fail.
+mod streams;
+
 use crate::{Draw, DrawnBytes, Failed, FailingDraw, ReadDraw, TryRngDraw};
 use octet_core::{Items, Octets};
 use rand_core::TryRng;
