@@ -33,7 +33,7 @@ curve() {
 
 cat >"$rows" <<'END'
 # Public keys of OpenSSL, written by tests/vectors/public_keys.sh with OpenSSL 3.0.19: of each its SubjectPublicKeyInfo, and the
-# SHA-256 digest of that. A comment says of which kind it is, and the parameters of its algorithm.
+# SHA-256 digest of that; with an octet more it is refused. A comment says of which kind it is, and the parameters of its algorithm.
 END
 row RSA 0500 -algorithm RSA -pkeyopt rsa_keygen_bits:2048
 curve P-256
