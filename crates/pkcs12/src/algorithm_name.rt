@@ -25,11 +25,16 @@ fn scheme_name(identifier: &str) -> Option<&'static str> {
     })
 }
 
-/// The digests of MACs, and the functions under PBKDF2 that are not opened.
+/// The digests of MACs, and the functions under PBKDF2.
 fn digest_name(identifier: &str) -> Option<&'static str> {
     Some(match identifier {
         "1.2.840.113549.2.5" => "MD5",
         "1.2.840.113549.2.6" => "hmacWithMD5",
+        "1.2.840.113549.2.7" => "hmacWithSHA1",
+        "1.2.840.113549.2.8" => "hmacWithSHA224",
+        "1.2.840.113549.2.9" => "hmacWithSHA256",
+        "1.2.840.113549.2.10" => "hmacWithSHA384",
+        "1.2.840.113549.2.11" => "hmacWithSHA512",
         "1.2.840.113549.2.12" => "hmacWithSHA512-224",
         "1.2.840.113549.2.13" => "hmacWithSHA512-256",
         "2.16.840.1.101.3.4.2.2" => "SHA-384",
