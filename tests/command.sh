@@ -179,19 +179,22 @@ holds limit_has_bounds fails 2 Usage "0 to 18446744073709551615" check "$plain" 
 holds format_has_two_values fails 2 Usage "pem or der" export "$keyed" --out "$work/none" --format txt
 holds no_such_store fails 3 ReadFault "No such file" check "$work/no-such.p12"
 
-# Stores as OpenSSL writes them by default, under RC2, and as the recipe makes them anew.
+# Stores with a MAC of SHA-512, under PBES2 with Triple DES and under RC2, and as the recipe makes them anew; one of OpenSSL's default.
 other_algorithms() {
     have_openssl other_algorithms || return 0
     openssl pkey -inform DER -in "$home/examples/openssl-key/key-0.der" -out "$work/key.pem" &&
         openssl x509 -inform DER -in "$home/examples/openssl-key/cert-0.der" -out "$work/cert.pem" &&
         openssl pkcs12 -export -inkey "$work/key.pem" -in "$work/cert.pem" -passout pass:p -out "$work/default.p12" &&
-        openssl pkcs12 -export -inkey "$work/key.pem" -in "$work/cert.pem" -macalg sha1 -passout pass:p -out "$work/pbes2.p12" &&
-        openssl pkcs12 -export -inkey "$work/key.pem" -in "$work/cert.pem" -certpbe PBE-SHA1-3DES -macalg sha1 -passout pass:p \
-            -out "$work/pbes2-key.p12" || return 1
+        openssl pkcs12 -export -inkey "$work/key.pem" -in "$work/cert.pem" -macalg sha512 -passout pass:p -out "$work/sha512.p12" &&
+        openssl pkcs12 -export -inkey "$work/key.pem" -in "$work/cert.pem" -certpbe DES-EDE3-CBC -passout pass:p -out "$work/triple.p12" &&
+        openssl pkcs12 -export -inkey "$work/key.pem" -in "$work/cert.pem" -keypbe DES-EDE3-CBC -passout pass:p \
+            -out "$work/triple-key.p12" || return 1
     echo p >"$work/p"
-    fails 13 MacUnsupported "SHA-256 (2.16.840.1.101.3.4.2.1)" check "$work/default.p12" --password-file "$work/p" &&
-        fails 11 Unsupported "PBES2 (1.2.840.113549.1.5.13)" check "$work/pbes2.p12" --password-file "$work/p" &&
-        fails 11 Unsupported "a private key is encrypted by PBES2" check "$work/pbes2-key.p12" --password-file "$work/p" || return 1
+    ends 0 check "$work/default.p12" --password-file "$work/p" &&
+        fails 13 MacUnsupported "SHA-512 (2.16.840.1.101.3.4.2.3)" check "$work/sha512.p12" --password-file "$work/p" &&
+        fails 11 Unsupported "a content is encrypted by PBES2 with" check "$work/triple.p12" --password-file "$work/p" &&
+        fails 11 Unsupported "Triple DES (1.2.840.113549.3.7)" check "$work/triple.p12" --password-file "$work/p" &&
+        fails 11 Unsupported "a private key is encrypted by PBES2 with" check "$work/triple-key.p12" --password-file "$work/p" || return 1
     if ! openssl pkcs12 -export -legacy -inkey "$work/key.pem" -in "$work/cert.pem" -passout pass:p -out "$work/rc2.p12" 2>/dev/null; then
         echo "skipped RC2: this openssl does not write it"
         return 0
@@ -203,8 +206,8 @@ holds other_algorithms_are_named other_algorithms
 # The commands that the refusal prints, with passwords in place of questions: what they make is opened to the same key.
 recipe() {
     have_openssl recipe || return 0
-    fails 13 MacUnsupported SHA-256 check "$work/default.p12" --password-file "$work/p" || return 1
-    grep -E '^    (openssl|rm) ' "$work/told" | sed -e "s|STORE.p12|$work/default.p12 -passin pass:p -passout pass:middle|" \
+    fails 13 MacUnsupported SHA-512 check "$work/sha512.p12" --password-file "$work/p" || return 1
+    grep -E '^    (openssl|rm) ' "$work/told" | sed -e "s|STORE.p12|$work/sha512.p12 -passin pass:p -passout pass:middle|" \
         -e "s|-in all.pem|-in all.pem -passin pass:middle|" -e "s|NEW.p12|$work/anew.p12 -passout pass:q|" >"$work/recipe.sh"
     [ "$(wc -l <"$work/recipe.sh")" -eq 3 ] && (cd "$work" && sh -e recipe.sh) || return 1
     echo q >"$work/q"
@@ -221,11 +224,11 @@ recipe_of_java() {
     }
     echo password >"$work/java-password"
     for name in one two; do
-        keytool -genkeypair -alias "$name" -keyalg EC -dname "CN=$name" -keystore "$work/java.p12" -storetype PKCS12 \
+        keytool -J-Dkeystore.pkcs12.legacy -genkeypair -alias "$name" -keyalg EC -dname "CN=$name" -keystore "$work/java.p12" -storetype PKCS12 \
             -storepass password -keypass password >"$work/told" 2>&1 || return 1
     done
-    fails 13 MacUnsupported SHA-256 check "$work/java.p12" --password-file "$work/java-password" || return 1
-    sed -n '/^    keytool /,/HmacPBESHA1$/p' "$home/README.md" | sed -e "s|STORE.p12|$work/java.p12 -srcstorepass password|" \
+    fails 11 Unsupported "pbeWithSHAAnd40BitRC2-CBC" check "$work/java.p12" --password-file "$work/java-password" || return 1
+    sed -n '/^    keytool /p' "$home/README.md" | sed -e "s|STORE.p12|$work/java.p12 -srcstorepass password|" \
         -e "s|NEW.p12|$work/java-anew.p12 -deststorepass password|" >"$work/recipe.sh"
     sh -e "$work/recipe.sh" >"$work/told" 2>&1 && ends 0 check "$work/java-anew.p12" --password-file "$work/java-password" &&
         [ "$(cat "$work/said")" = "$(printf 'certificates: 2\nprivate keys: 2')" ]

@@ -103,15 +103,38 @@ refuses() {
 opens openssl-plain "$examples/openssl-plain.p12" "$examples/password" "$examples"
 for folder in "$examples"/*/; do
     folder=${folder%/}
+    [ "$folder" != "$examples/refused" ] || continue
     opens "$(basename "$folder")" "$folder/store.p12" "$folder/password" "$folder"
 done
 
 # The work of each store is the limit that just suffices (examples/README.md).
-for pair in openssl:8192 openssl-unicode:8192 keytool:8192 gnutls:4200000 openssl-key:14336; do
+for pair in openssl:8192 openssl-unicode:8192 keytool:8192 gnutls:4200000 openssl-key:14336 openssl-default:6144 keytool-default:30000 \
+    gnutls-default:2400000 cryptography-default:42048; do
     folder=$examples/${pair%:*}
     steps=${pair#*:}
     refuses "${pair%:*}-limit-too-low" "$folder/store.p12" "$folder/password" WorkLimit --limit "$((steps - 1))"
     refuses "${pair%:*}-another-password" "$folder/store.p12" "$examples/README.md" MacMismatch
 done
+
+# The store of refused/$1 is refused by the name $2, and the command says $3. What OpenSSL makes of it by the commands of the refusal,
+# with passwords in place of questions and the further words for the first, opens.
+renewed() {
+    name=$1 cause=$2 met=$3
+    shift 3
+    folder=$examples/refused/$name
+    refuses "$name" "$folder/store.p12" "$folder/password" "$cause"
+    good=no
+    if grep -qF -- "$met" "$work/told"; then
+        good=yes
+    fi
+    report "$name-is-named" $good
+    command -v openssl >/dev/null || return 0
+    openssl pkcs12 "$@" -in "$folder/store.p12" -passin "file:$folder/password" -passout pass:middle -out "$work/all.pem" 2>"$work/told" &&
+        openssl pkcs12 -export -in "$work/all.pem" -passin pass:middle -passout "file:$folder/password" -out "$work/$name.p12" \
+            -certpbe AES-256-CBC -keypbe AES-256-CBC -macalg sha256 2>"$work/told" || cat "$work/told" >&2
+    opens "$name-anew" "$work/$name.p12" "$folder/password" "$folder"
+}
+renewed nss-ber Malformed "the store is in BER, and only DER is read: an element of indefinite length begins at octet 0"
+renewed openssl-legacy Unsupported "pbeWithSHAAnd40BitRC2-CBC (1.2.840.113549.1.12.1.6)" -legacy
 
 exit "$failed"

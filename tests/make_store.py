@@ -5,7 +5,21 @@ It writes what `read_store.py` reads. A part may be wrong on purpose: nothing he
 
 import hashlib
 
-from read_store import DATA, ENCRYPTED_DATA, CERT_BAG, SHA1, SHROUDED_KEY_BAG, TRIPLE_DES, X509, element, mac_of, triple_des
+from read_store import (
+    CERT_BAG,
+    DATA,
+    ENCRYPTED_DATA,
+    PBES2,
+    PBKDF2,
+    SHA1,
+    SHROUDED_KEY_BAG,
+    TRIPLE_DES,
+    X509,
+    element,
+    mac_of,
+    pbes2_cipher,
+    triple_des,
+)
 
 
 def sequence(*parts):
@@ -65,13 +79,23 @@ def scheme(salt, count, name=TRIPLE_DES):
     return sequence(identifier(name), sequence(octet_string(salt), number(count)))
 
 
+def pbes2(parameters, function_parameters=NULL):
+    """PBES2 with PBKDF2, as `read_pbes2` has its parameters; a function None is left out."""
+    salt, count, length, function, cipher, vector = parameters
+    stated = b"" if length is None else number(length)
+    prf = b"" if function is None else sequence(identifier(function), function_parameters)
+    derivation = sequence(identifier(PBKDF2), sequence(octet_string(salt), number(count), stated, prf))
+    scheme = sequence(identifier(cipher), octet_string(vector))
+    return sequence(identifier(PBES2), sequence(derivation, scheme))
+
+
 def encrypted_data(algorithm, ciphertext):
     info = sequence(identifier(DATA), algorithm, element(0x80, ciphertext))
     return sequence(identifier(ENCRYPTED_DATA), context(0, sequence(number(0), info)))
 
 
-def padded(octets):
-    size = 8 - len(octets) % 8
+def padded(octets, block=8):
+    size = block - len(octets) % block
     return octets + bytes([size]) * size
 
 
@@ -81,13 +105,21 @@ def encrypt(password, salt, count, blocks):
     return encryptor.update(blocks) + encryptor.finalize()
 
 
+def encrypt_pbes2(password, parameters, blocks):
+    """AES in CBC mode of whole blocks, under the derived key."""
+    encryptor = pbes2_cipher(password, parameters).encryptor()
+    return encryptor.update(blocks) + encryptor.finalize()
+
+
 def sealed(octets, password, salt, count):
     """A content under Triple DES."""
     return encrypted_data(scheme(salt, count), encrypt(password, salt, count, padded(octets)))
 
 
 def mac_data(digest, salt, count, algorithm=identifier(SHA1) + NULL):
-    return sequence(sequence(sequence(algorithm), octet_string(digest)), octet_string(salt), number(count))
+    """The MAC's data; a count None is left out."""
+    stated = b"" if count is None else number(count)
+    return sequence(sequence(sequence(algorithm), octet_string(digest)), octet_string(salt), stated)
 
 
 def store(contents, mac):

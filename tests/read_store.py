@@ -2,14 +2,14 @@
 """An independent reader of PKCS#12 stores, which states what the program has to answer.
 
 It is written from the standards alone: X.690 (DER), RFC 7292 (the store, and the derivation of appendix B.2), RFC 2104 (HMAC),
-and RFC 5958 (private keys). SHA-1 and HMAC are those of Python, Triple DES that of the package `cryptography`. It holds the whole store
-as Python values and its numbers as Python integers.
+RFC 8018 (PBES2) and RFC 5958 (private keys). The digests, HMAC and PBKDF2 are those of Python, Triple DES and AES those of the
+package `cryptography`. It holds the whole store as Python values and its numbers as Python integers.
 
     tests/read_store.py STORE.p12 --password-file FILE [--limit STEPS]
 
 prints `cert HEX` for each X.509 certificate in store order and then `key HEX` for each private key, in its canonical encoding, or
-`error: NAME`, and on standard error the steps that were taken: a step is one SHA-1 digest of the derivation's iterations. It ends with 0
-where the store opens and with 1 where it is refused.
+`error: NAME`, and on standard error the steps that were taken: a step is one digest of the derivation's iterations, or one answer of
+PBKDF2's pseudorandom function. It ends with 0 where the store opens and with 1 where it is refused.
 """
 
 import argparse
@@ -31,6 +31,28 @@ RC2_40 = "1.2.840.113549.1.12.1.6"
 SHROUDED_KEY_BAG = "1.2.840.113549.1.12.10.1.2"
 CERT_BAG = "1.2.840.113549.1.12.10.1.3"
 SHA1 = "1.3.14.3.2.26"
+SHA256 = "2.16.840.1.101.3.4.2.1"
+PBES2 = "1.2.840.113549.1.5.13"
+PBKDF2 = "1.2.840.113549.1.5.12"
+
+# The digest of each MAC that is tested, and the octets of its answer.
+MAC_DIGESTS = {SHA1: ("sha1", 20), SHA256: ("sha256", 32)}
+
+# The digest under each pseudorandom function of PBKDF2 (RFC 8018 appendix B.1), and the octets of its answer.
+HMAC_SHA1 = "1.2.840.113549.2.7"
+FUNCTIONS = {
+    HMAC_SHA1: ("sha1", 20),
+    "1.2.840.113549.2.8": ("sha224", 28),
+    "1.2.840.113549.2.9": ("sha256", 32),
+    "1.2.840.113549.2.10": ("sha384", 48),
+    "1.2.840.113549.2.11": ("sha512", 64),
+}
+
+# The octets of the key of each cipher of PBES2: AES in CBC mode.
+CIPHERS = {"2.16.840.1.101.3.4.1.2": 16, "2.16.840.1.101.3.4.1.22": 24, "2.16.840.1.101.3.4.1.42": 32}
+
+# The most octets of a salt of PBKDF2 that is read.
+LONGEST_SALT = 32
 
 
 class Malformed(Exception):
@@ -140,11 +162,43 @@ def only(octets):
 # PKCS#12 (RFC 7292, section 4).
 
 
-def read_algorithm(parts):
-    """The name of an algorithm, with salt and count where it is one of the two schemes."""
+def read_function(parts):
+    """The pseudorandom function of PBKDF2 with its parameters, which are NULL or left out."""
     inner = parts.sequence()
     name = inner.identifier()
-    if name == SHA1:
+    expect(name in FUNCTIONS)
+    if inner.more():
+        expect(inner.value(0x05) == b"")
+    inner.end()
+    return name
+
+
+def read_pbes2(octets):
+    """(salt, count, stated length of the key or None, function, cipher, initial vector) of the parameters of PBES2."""
+    body = only(octets)
+    derivation, scheme = body.sequence(), body.sequence()
+    body.end()
+    expect(derivation.identifier() == PBKDF2)
+    parameters = derivation.sequence()
+    derivation.end()
+    salt, count = parameters.octet_string(), parameters.number(32)
+    expect(len(salt) <= LONGEST_SALT)
+    length = parameters.number(16) if parameters.next_tag() == 0x02 else None
+    function = read_function(parameters) if parameters.next_tag() == 0x30 else HMAC_SHA1
+    parameters.end()
+    cipher = scheme.identifier()
+    expect(cipher in CIPHERS)
+    vector = scheme.octet_string()
+    expect(len(vector) == 16)
+    scheme.end()
+    return salt, count, length, function, cipher, vector
+
+
+def read_algorithm(parts):
+    """The name of an algorithm; with salt and count where it is one of the two schemes, with the parameters where it is PBES2."""
+    inner = parts.sequence()
+    name = inner.identifier()
+    if name in MAC_DIGESTS:
         if inner.more():
             expect(inner.value(0x05) == b"")
         result = (name, None, None)
@@ -153,9 +207,14 @@ def read_algorithm(parts):
         result = (name, parameters.octet_string(), parameters.number(64))
         parameters.end()
     else:
-        if inner.more():
-            inner.element()
+        octets = inner.element() if inner.more() else b""
         result = (name, None, None)
+        if name == PBES2:
+            # What is no PBES2 of RFC 8018 is another algorithm.
+            try:
+                result = (name, read_pbes2(octets), None)
+            except Malformed:
+                pass
     inner.end()
     return result
 
@@ -262,7 +321,8 @@ def read_pfx(octets):
         digest = info.octet_string()
         info.end()
         salt = data.octet_string()
-        mac = (algorithm, digest, salt, data.number(32))
+        # iterations INTEGER DEFAULT 1
+        mac = (algorithm, digest, salt, data.number(32) if data.more() else 1)
         data.end()
     parts.end()
     return content, mac
@@ -305,7 +365,7 @@ def canonical_key(octets):
     return element(0x30, element(0x02, bytes([version])) + written)
 
 
-# The derivation of RFC 7292, appendix B.2, with SHA-1 (u = 20, v = 64), the MAC and the opening.
+# The derivation of RFC 7292, appendix B.2 (v = 64), the MAC and the opening.
 
 
 def bmp_password(password):
@@ -313,7 +373,7 @@ def bmp_password(password):
     return password.encode("utf-16-be") + b"\0\0"
 
 
-def derive(password, salt, count, purpose, size):
+def derive(password, salt, count, purpose, size, digest="sha1"):
     """`size` octets for the purpose 1 (a key), 2 (an initial vector) or 3 (a MAC)."""
 
     def fill(text):
@@ -326,15 +386,16 @@ def derive(password, salt, count, purpose, size):
     while len(key) < size:
         block = bytes([purpose]) * 64 + b"".join(number.to_bytes(64, "big") for number in numbers)
         for _ in range(count):
-            block = hashlib.sha1(block).digest()
+            block = hashlib.new(digest, block).digest()
         key += block
         step = int.from_bytes((block * 4)[:64], "big") + 1
         numbers = [(number + step) % 2**512 for number in numbers]
     return key[:size]
 
 
-def mac_of(password, salt, count, content):
-    return hmac.new(derive(password, salt, count, 3, 20), content, hashlib.sha1).digest()
+def mac_of(password, salt, count, content, algorithm=SHA1):
+    digest, size = MAC_DIGESTS[algorithm]
+    return hmac.new(derive(password, salt, count, 3, size, digest), content, digest).digest()
 
 
 def triple_des(password, salt, count):
@@ -359,6 +420,27 @@ def unlock(password, salt, count, ciphertext):
     padded = decryptor.update(ciphertext) + decryptor.finalize()
     size = padded[-1]
     if not 1 <= size <= 8 or padded[-size:] != bytes([size]) * size:
+        return None
+    return padded[:-size]
+
+
+def pbes2_cipher(password, parameters):
+    """AES in CBC mode, without padding, under the key that PBKDF2 derives from the password's UTF-8."""
+    from cryptography.hazmat.primitives.ciphers import Cipher, algorithms, modes
+
+    salt, count, _, function, cipher, vector = parameters
+    key = hashlib.pbkdf2_hmac(FUNCTIONS[function][0], password.encode(), salt, count, CIPHERS[cipher])
+    return Cipher(algorithms.AES(key), modes.CBC(vector))
+
+
+def unlock_pbes2(password, parameters, ciphertext):
+    """The plaintext, or None where the ciphertext has no right length or padding."""
+    if not ciphertext or len(ciphertext) % 16:
+        return None
+    decryptor = pbes2_cipher(password, parameters).decryptor()
+    padded = decryptor.update(ciphertext) + decryptor.finalize()
+    size = padded[-1]
+    if not 1 <= size <= 16 or padded[-size:] != bytes([size]) * size:
         return None
     return padded[:-size]
 
@@ -404,17 +486,19 @@ class Opening:
         if mac is None:
             raise Refused("MacMissing")
         (algorithm, _, _), digest, salt, count = mac
-        if algorithm != SHA1:
+        if algorithm not in MAC_DIGESTS:
             raise Refused("MacUnsupported")
         if count == 0:
             raise Refused("ZeroIterations")
         self.share(count)
         self.steps += count
-        if mac_of(self.password, salt, count, content) != digest:
+        if mac_of(self.password, salt, count, content, algorithm) != digest:
             raise Refused("MacMismatch")
 
     def unlock(self, algorithm, ciphertext):
         name, salt, count = algorithm
+        if name == PBES2 and salt is not None:
+            return self.unlock_pbes2(salt, ciphertext)
         if name != TRIPLE_DES:
             raise Refused("Unsupported")
         if count == 0:
@@ -424,6 +508,22 @@ class Opening:
         if ciphertext and len(ciphertext) % 8 == 0:
             self.steps += 3 * count
         octets = unlock(self.password, salt, count, ciphertext)
+        if octets is None:
+            raise Refused("DecryptFailed")
+        return octets
+
+    def unlock_pbes2(self, parameters, ciphertext):
+        _, count, length, function, cipher, _ = parameters
+        size = CIPHERS[cipher]
+        if length not in (None, size):
+            raise Refused("Unsupported")
+        if count == 0:
+            raise Refused("ZeroIterations")
+        # As many answers a round as the key takes.
+        steps = count * -(-size // FUNCTIONS[function][1])
+        self.share(steps)
+        self.steps += steps
+        octets = unlock_pbes2(self.password, parameters, ciphertext)
         if octets is None:
             raise Refused("DecryptFailed")
         return octets

@@ -2,8 +2,9 @@
 """Makes damaged_stores.txt: variants of one small sealed store, each with the answer that is due.
 
 The store has one certificate, the two octets `3000`, in a content under Triple DES of count 2, and a MAC of count 1; its password
-is `p`. Some have a private key beside it, under Triple DES of count 2. The due answers are written here by hand. The independent reader `tests/read_store.py` has to agree with each, or nothing
-is written. `tests/vectors/damaged_stores_openssl.sh` asks OpenSSL about the stores that it judges by the same rules.
+is `p`. Some have a private key beside it, under Triple DES of count 2. Others are as programs of today write them: the MAC under
+SHA-256, content and key under PBES2 with AES-256. The due answers are written here by hand. The independent reader
+`tests/read_store.py` has to agree with each, or nothing is written. `tests/vectors/damaged_stores_openssl.sh` asks OpenSSL about the stores that it judges by the same rules.
 
     tests/vectors/damaged_stores.py >tests/vectors/damaged_stores.txt
 """
@@ -44,10 +45,14 @@ KEY_BAG = make.sealed_key(ED25519_KEY, PASSWORD, KEY_SALT, COUNT)
 # Octets for two documents, which a second line of the input gives.
 DRAWN = bytes(range(0xA0, 0xE0))
 NEW_PASSWORD, ROUNDS = b"new", 3
-SHA256 = "2.16.840.1.101.3.4.2.1"
-PBES2 = "1.2.840.113549.1.5.13"
+SHA384, SHA512 = "2.16.840.1.101.3.4.2.2", "2.16.840.1.101.3.4.2.3"
+PBMAC1 = "1.2.840.113549.1.5.14"
+SCRYPT = "1.3.6.1.4.1.11591.4.11"
 SECRET_BAG = "1.2.840.113549.1.12.10.1.5"
 UNSTRUCTURED_NAME = "1.2.840.113549.1.9.2"
+HMAC_MD5, HMAC_SHA1, HMAC_SHA224, HMAC_SHA256, HMAC_SHA384, HMAC_SHA512 = (f"1.2.840.113549.2.{arc}" for arc in range(6, 12))
+AES_128, AES_192, AES_256 = (f"2.16.840.1.101.3.4.1.{arc}" for arc in (2, 22, 42))
+TRIPLE_DES_CBC, AES_256_GCM = "1.2.840.113549.3.7", "2.16.840.1.101.3.4.1.46"
 ENVELOPED_DATA = "1.2.840.113549.1.7.3"
 
 rows = []
@@ -187,8 +192,8 @@ def other_schemes():
     padded_scheme = make.sequence(make.identifier(read.TRIPLE_DES), padded_count)
     row("content_count_with_a_zero_before_it", with_content(with_scheme(padded_scheme)), "ContentMalformed", 1)
     row("content_under_rc2", with_content(with_scheme(make.scheme(CONTENT_SALT, COUNT, read.RC2_40))), "Unsupported", 1)
-    pbes2 = make.sequence(make.identifier(PBES2), make.sequence())
-    row("content_under_pbes2", with_content(with_scheme(pbes2)), "Unsupported", 1)
+    pbes2 = make.sequence(make.identifier(read.PBES2), make.sequence())
+    row("content_under_pbes2_without_parameters", with_content(with_scheme(pbes2)), "Unsupported", 1)
 
 
 def other_macs():
@@ -208,9 +213,16 @@ def other_macs():
     row("mac_count_0", under(count=0), "ZeroIterations", 0)
     row("mac_count_most", under(count=2**32 - 1), "WorkLimit", 0, limit=2**32 - 2)
     row("mac_count_2_to_32", under(count=2**32), "Malformed", 0)
-    row("mac_under_sha256", under(algorithm=make.identifier(SHA256) + make.NULL), "MacUnsupported", 0)
+    # An absent count is 1.
+    row("mac_count_absent", under(count=None), "Done", WORK, [CERTIFICATE])
+    row("mac_count_absent_limit_0", under(count=None), "WorkLimit", 0, limit=0)
+    row("mac_count_1_stated", under(count=1), "Done", WORK, [CERTIFICATE])
+    # The MAC of SHA-1 under the name of SHA-256.
+    row("mac_named_sha256", under(algorithm=make.identifier(read.SHA256) + make.NULL), "MacMismatch", 1)
+    for name, algorithm in (("sha384", SHA384), ("sha512", SHA512), ("pbmac1", PBMAC1)):
+        row(f"mac_under_{name}", under(algorithm=make.identifier(algorithm) + make.NULL), "MacUnsupported", 0)
     # The algorithm is looked at before the count, and both before the limit.
-    row("mac_under_sha256_count_0", under(count=0, algorithm=make.identifier(SHA256)), "MacUnsupported", 0, limit=0)
+    row("mac_under_sha384_count_0", under(count=0, algorithm=make.identifier(SHA384)), "MacUnsupported", 0, limit=0)
     row("mac_missing", make.store(CONTENTS, b""), "MacMissing", 0)
 
 
@@ -384,10 +396,184 @@ def key_texts(work):
         row(name, sealed(octets), "KeyMalformed", work, drawn=DRAWN)
 
 
+# Stores as programs of today write them.
+
+PBKDF2_SALT, VECTOR = bytes(range(0x10, 0x20)), bytes(range(0x20, 0x30))
+
+
+def pbes2(count=COUNT, length=None, function=HMAC_SHA256, cipher=AES_256, salt=PBKDF2_SALT, vector=VECTOR):
+    return salt, count, length, function, cipher, vector
+
+
+def under_pbes2(octets, parameters, password=PASSWORD):
+    """The ciphertext of the octets, padded."""
+    if parameters[3] is None:
+        parameters = parameters[:3] + (HMAC_SHA1,) + parameters[4:]
+    return make.encrypt_pbes2(password, parameters, make.padded(octets, 16))
+
+
+def pbes2_content(parameters, octets=BAGS, password=PASSWORD):
+    return make.encrypted_data(make.pbes2(parameters), under_pbes2(octets, parameters, password))
+
+
+def with_sha256(contents, count=MAC_COUNT, password=PASSWORD):
+    """The contents under a MAC of SHA-256; a count of 1 is left out."""
+    digest = read.mac_of(password, MAC_SALT, count, contents, read.SHA256)
+    algorithm = make.identifier(read.SHA256) + make.NULL
+    return make.store(contents, make.mac_data(digest, MAC_SALT, None if count == 1 else count, algorithm))
+
+
+def today(parameters, **options):
+    return with_sha256(make.sequence(pbes2_content(parameters, **options)))
+
+
+def todays_macs():
+    digest = read.mac_of(PASSWORD, MAC_SALT, MAC_COUNT, CONTENTS, read.SHA256)
+
+    def under(digest=digest, count=MAC_COUNT, parameters=make.NULL):
+        return make.store(CONTENTS, make.mac_data(digest, MAC_SALT, count, make.identifier(read.SHA256) + parameters))
+
+    row("sha256", under(), "Done", WORK, [CERTIFICATE])
+    row("sha256_without_null", under(parameters=b""), "Done", WORK, [CERTIFICATE])
+    row("sha256_with_a_number", under(parameters=make.number(0)), "Malformed", 0)
+    row("sha256_count_absent", under(count=None), "Done", WORK, [CERTIFICATE])
+    row("sha256_count_0", under(count=0), "ZeroIterations", 0)
+    row("sha256_count_2", with_sha256(CONTENTS, 2), "Done", WORK + 1, [CERTIFICATE])
+    row("sha256_count_2_as_1", under(count=2), "MacMismatch", 2)
+    row("sha256_another_password", under(), "MacMismatch", 1, password="x")
+    row("sha256_last_bit", under(digest=flipped(digest, 31)), "MacMismatch", 1)
+    # A MAC of 20 octets is that of SHA-1.
+    row("sha256_of_20", under(digest=digest[:20]), "MacMismatch", 1)
+    row("sha256_of_33", under(digest=digest + b"\0"), "MacMismatch", 1)
+    keyed = read.hmac.new(read.derive(PASSWORD, MAC_SALT, 1, 3, 20), CONTENTS, "sha256").digest()
+    row("sha256_under_a_key_of_20", under(digest=keyed), "MacMismatch", 1)
+
+
+def todays_contents():
+    # The steps are the answers of the function: two where one answer is shorter than the key.
+    for name, parameters, work in (
+        ("sha1_aes128", pbes2(function=HMAC_SHA1, cipher=AES_128), 2),
+        ("sha1_aes192", pbes2(function=HMAC_SHA1, cipher=AES_192), 4),
+        ("sha1_aes256", pbes2(function=HMAC_SHA1), 4),
+        ("sha224_aes192", pbes2(function=HMAC_SHA224, cipher=AES_192), 2),
+        ("sha224_aes256", pbes2(function=HMAC_SHA224), 4),
+        ("sha256_aes128", pbes2(cipher=AES_128), 2),
+        ("sha256_aes256", pbes2(), 2),
+        ("sha384_aes256", pbes2(function=HMAC_SHA384), 2),
+        ("sha512_aes256", pbes2(function=HMAC_SHA512), 2),
+        ("default_function_aes256", pbes2(function=None), 4),
+        ("key_length_32", pbes2(length=32), 2),
+        ("count_3", pbes2(count=3), 3),
+        ("salt_of_32", pbes2(salt=bytes(32)), 2),
+        ("salt_of_none", pbes2(salt=b""), 2),
+    ):
+        row(f"pbes2_{name}", today(parameters), "Done", 1 + work, [CERTIFICATE])
+    store = today(pbes2())
+    row("pbes2_limit_reached", store, "Done", 3, [CERTIFICATE], limit=3)
+    row("pbes2_limit_passed", store, "WorkLimit", 1, limit=2)
+    row("pbes2_two_answers_limit_passed", today(pbes2(function=HMAC_SHA1)), "WorkLimit", 1, limit=4)
+    # MAC and contents may be of different times.
+    row("pbes2_mac_under_sha1", with_content(pbes2_content(pbes2())), "Done", 3, [CERTIFICATE])
+    # The password is UTF-8 for PBES2, and UTF-16 for the MAC.
+    letters = "\u00e9\u4e2d"
+    row("pbes2_letters", with_sha256(make.sequence(pbes2_content(pbes2(), password=letters)), password=letters), "Done", 3, [CERTIFICATE], password=letters)
+    row("pbes2_under_another_password", with_sha256(make.sequence(pbes2_content(pbes2(), password="q"))), "DecryptFailed", 3)
+
+
+def todays_schemes():
+    def named(parameters, **options):
+        """The sound ciphertext under parameters that are not its own."""
+        return with_sha256(make.sequence(make.encrypted_data(make.pbes2(parameters, **options), under_pbes2(BAGS, pbes2()))))
+
+    row("pbes2_another_function", named(pbes2(function=HMAC_SHA512)), "DecryptFailed", 3)
+    row("pbes2_another_salt", named(pbes2(salt=flipped(PBKDF2_SALT, 0))), "DecryptFailed", 3)
+    row("pbes2_another_count", named(pbes2(count=3)), "DecryptFailed", 4)
+    row("pbes2_another_vector", named(pbes2(vector=flipped(VECTOR, 0))), "ContentMalformed", 3)
+    row("pbes2_count_0", named(pbes2(count=0)), "ZeroIterations", 1)
+    row("pbes2_count_0_limit_1", named(pbes2(count=0)), "ZeroIterations", 1, limit=1)
+    row("pbes2_count_most", named(pbes2(count=2**32 - 1)), "WorkLimit", 1, limit=2**32 - 1)
+    # A length of the key that is not the cipher's, before the count and the limit.
+    for length in (0, 16, 31, 33):
+        row(f"pbes2_key_length_{length}", named(pbes2(length=length)), "Unsupported", 1)
+    row("pbes2_key_length_16_count_0", named(pbes2(length=16, count=0)), "Unsupported", 1, limit=1)
+    # Parameters that are none of PBES2 here are those of another algorithm.
+    for name, parameters in (
+        ("count_2_to_32", pbes2(count=2**32)),
+        ("key_length_2_to_16", pbes2(length=2**16)),
+        ("salt_of_33", pbes2(salt=bytes(33))),
+        ("vector_of_15", pbes2(vector=VECTOR[:15])),
+        ("under_hmac_md5", pbes2(function=HMAC_MD5)),
+        ("triple_des", pbes2(cipher=TRIPLE_DES_CBC, vector=VECTOR[:8])),
+        ("aes256_gcm", pbes2(cipher=AES_256_GCM)),
+    ):
+        row(f"pbes2_{name}", named(parameters), "Unsupported", 1)
+    row("pbes2_function_with_a_number", named(pbes2(), function_parameters=make.number(0)), "Unsupported", 1)
+    costs = make.sequence(make.octet_string(PBKDF2_SALT), make.number(2), make.number(8), make.number(1))
+    scrypt = make.sequence(make.identifier(SCRYPT), costs)
+    cipher = make.sequence(make.identifier(AES_256), make.octet_string(VECTOR))
+    scheme = make.sequence(make.identifier(read.PBES2), make.sequence(scrypt, cipher))
+    row("pbes2_scrypt", with_sha256(make.sequence(make.encrypted_data(scheme, bytes(32)))), "Unsupported", 1)
+
+
+def todays_ciphertexts():
+    ciphertext = under_pbes2(BAGS, pbes2())
+
+    def under(octets):
+        return with_sha256(make.sequence(make.encrypted_data(make.pbes2(pbes2()), octets)))
+
+    def blocks(octets):
+        return under(make.encrypt_pbes2(PASSWORD, pbes2(), octets))
+
+    # The key is derived first, whatever the length.
+    for size in (0, 8, len(ciphertext) - 1):
+        row(f"pbes2_ciphertext_of_{size}", under(ciphertext[:size]), "DecryptFailed", 3)
+    row("pbes2_ciphertext_one_more", under(ciphertext + b"\0"), "DecryptFailed", 3)
+    row("pbes2_ciphertext_a_block_less", under(ciphertext[:-16]), "DecryptFailed", 3)
+    row("pbes2_ciphertext_last_bit", under(flipped(ciphertext, len(ciphertext) - 1)), "DecryptFailed", 3)
+    row("pbes2_ciphertext_first_bit", under(flipped(ciphertext, 0)), "ContentMalformed", 3)
+    # Certificates of 1 to 16 octets take each padding once.
+    for size in range(1, 17):
+        certificate = bytes(range(1, size + 1))
+        bags = make.sequence(make.certificate_bag(certificate))
+        row(f"pbes2_padding_of_{16 - len(bags) % 16}", today(pbes2(), octets=bags), "Done", 3, [certificate])
+    fill = 16 - len(BAGS) % 16
+    row("pbes2_padding_of_0", blocks(BAGS + bytes(fill)), "DecryptFailed", 3)
+    row("pbes2_padding_of_17", blocks(BAGS + bytes([17]) * fill), "DecryptFailed", 3)
+    row("pbes2_padding_of_255", blocks(BAGS + b"\xff" * fill), "DecryptFailed", 3)
+    row("pbes2_padding_first_octet", blocks(BAGS + b"\0" + bytes([fill]) * (fill - 1)), "DecryptFailed", 3)
+    row("pbes2_plaintext_of_none", blocks(bytes([16]) * 16), "ContentMalformed", 3)
+
+
+def todays_keys():
+    def sealed(octets, parameters=pbes2()):
+        key = make.key_bag(make.pbes2(parameters), under_pbes2(octets, parameters))
+        return with_sha256(make.sequence(pbes2_content(pbes2()), make.data(make.sequence(key))))
+
+    def named(scheme, ciphertext=bytes(16)):
+        key = make.data(make.sequence(make.key_bag(scheme, ciphertext)))
+        return with_sha256(make.sequence(pbes2_content(pbes2()), key))
+
+    one = [document(ED25519_KEY)]
+    row("pbes2_key", sealed(ED25519_KEY), "Done", 5, [CERTIFICATE], one, drawn=DRAWN)
+    row("pbes2_key_limit_reached", sealed(ED25519_KEY), "Done", 5, [CERTIFICATE], one, limit=5, drawn=DRAWN)
+    row("pbes2_key_limit_passed", sealed(ED25519_KEY), "WorkLimit", 3, limit=4, drawn=DRAWN)
+    row("pbes2_key_sha1_aes192", sealed(ED25519_KEY, pbes2(function=HMAC_SHA1, cipher=AES_192)), "Done", 7, [CERTIFICATE], one, drawn=DRAWN)
+    row("pbes2_key_none_drawn", sealed(ED25519_KEY), "Rng", 5, drawn=b"")
+    row("pbes2_key_of_no_octets", sealed(b""), "KeyMalformed", 5, drawn=DRAWN)
+    row("pbes2_key_that_is_a_certificate", sealed(CERTIFICATE), "KeyMalformed", 5, drawn=DRAWN)
+    row("pbes2_key_length_24", named(make.pbes2(pbes2(length=24))), "Unsupported", 3, drawn=DRAWN)
+    row("pbes2_key_count_0", named(make.pbes2(pbes2(count=0))), "ZeroIterations", 3, drawn=DRAWN)
+    row("pbes2_key_triple_des", named(make.pbes2(pbes2(cipher=TRIPLE_DES_CBC))), "Unsupported", 3, drawn=DRAWN)
+    row("pbes2_key_empty", named(make.pbes2(pbes2()), b""), "DecryptFailed", 5, drawn=DRAWN)
+    # A key under Triple DES in a store of today.
+    mixed = with_sha256(make.sequence(pbes2_content(pbes2()), make.data(make.sequence(KEY_BAG))))
+    row("pbes2_key_under_triple_des_of_rfc_7292", mixed, "Done", 3 + 3 * COUNT, [CERTIFICATE], one, drawn=DRAWN)
+
+
 HEAD = """\
 # Variants of a small sealed store, and the answer that is due to each. Made by damaged_stores.py, which says how.
 # name password limit status steps certificates documents line store
-# Steps are the SHA-1 digests of the derivation; certificates, documents, the second line and the store are in hexadecimal, `-` where
+# Steps are the digests of the derivation and the answers of PBKDF2's function; certificates, documents, the second line and the store are in hexadecimal, `-` where
 # there is none. The documents are under the new password `new` with 3 rounds.
 # `old_mac` has the MAC of the sound store, `new_mac` one of the contents as they are; all other contents have one of their own."""
 
@@ -403,6 +589,11 @@ def main():
     other_bags()
     other_texts()
     keys()
+    todays_macs()
+    todays_contents()
+    todays_schemes()
+    todays_ciphertexts()
+    todays_keys()
     print(HEAD)
     print("\n".join(rows))
 

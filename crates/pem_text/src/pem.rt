@@ -30,7 +30,8 @@ fn add_boundary(before: &str, label: &str, text: &mut Octets) -> Result<(), Erro
 {
     text.extend(before.as_bytes())?;
     text.extend(label.as_bytes())?;
-    text.extend(b"-----\n")
+    text.extend(b"-----\n")?;
+    Ok(())
 }
 
 /// The text of these octets under this label. The only refusal is `Memory`.

@@ -6,13 +6,17 @@ use transfer::TransferError;
 const EXPORT_ANEW: &str = "\
 Write the store anew with algorithms that are opened (OpenSSL takes one private key a store):
     openssl pkcs12 -in STORE.p12 -out all.pem
-    openssl pkcs12 -export -in all.pem -out NEW.p12 -certpbe PBE-SHA1-3DES -keypbe PBE-SHA1-3DES -macalg sha1
+    openssl pkcs12 -export -in all.pem -out NEW.p12 -certpbe AES-256-CBC -keypbe AES-256-CBC -macalg sha256
     rm all.pem
 The first takes -legacy too where the store is under RC2, and the second -nokeys where it has no private key.";
 
 const LOOK: &str = "\
 Look whether it is the right file; PEM has to be decoded first. What it is:
-    openssl asn1parse -inform DER -in STORE.p12 | head";
+    openssl asn1parse -inform DER -in STORE.p12 | head
+OpenSSL writes a store in BER anew in DER:
+    openssl pkcs12 -in STORE.p12 -out all.pem
+    openssl pkcs12 -export -in all.pem -out NEW.p12
+    rm all.pem";
 
 const PASSWORD: &str = "\
 Give it by one of these, or run ./pkcs12 at a terminal, which asks for it:

@@ -27,7 +27,7 @@ Exit numbers:
   10  Malformed           the file is not a PKCS#12 store in DER
   11  Unsupported         something is encrypted by an algorithm that is not opened
   12  MacMissing          the store has no MAC, so changes to it cannot be told
-  13  MacUnsupported      the MAC is not made with SHA-1
+  13  MacUnsupported      the MAC is made neither with SHA-1 nor with SHA-256
   14  ZeroIterations      the store asks for zero iterations
   15  WorkLimit           opening takes more work than --limit allows
   16  MacMismatch         the password is wrong, or the store was changed
@@ -52,7 +52,9 @@ fn limit<'a>(alloc: Global) -> Arg<'a> {
         .value_name("STEPS")
         .allow_negative_numbers(true)
         .default_value("100000000")
-        .help("The most SHA-1 digests that opening may take: 0 to 18446744073709551615")
+        .help(
+            "The most steps, digests of derivations, that opening may take: 0 to 18446744073709551615",
+        )
 }
 
 fn out<'a>(alloc: Global) -> Arg<'a> {

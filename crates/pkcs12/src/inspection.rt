@@ -1,13 +1,20 @@
 //! What stands in a store beside what is transferred: bags that are passed over, and algorithms that are not opened.
-ghost use Rattle.std.specs.Prelude.{◌≡◌, ◌<◌, ◌^◌, length};
+ghost use Rattle.std.specs.Prelude.{◌≡◌, ◌<◌, ◌≤◌, ◌^◌, IsTrue, length};
+ghost use Rattle.p12.specs.AlgorithmIdentifier.{salt_of};
 
-use crate::ending::{Ending, Failure};
+use crate::algorithm_name::{algorithm_name, named};
+use crate::ending::Failure;
 use crate::password::Password;
 use asn1_core::{Items, ObjectIdentifier, Octets};
-use p12::{AlgorithmIdentifier, CertBag, ContentInfo, PFX, SafeBag, SafeBagKind, bmp_string};
+use p12::{
+    AlgorithmIdentifier, CertBag, ContentInfo, EncryptedContentInfo, Error, PFX, SafeBag,
+    SafeBagKind,
+};
 use std::alloc::{AllocError, Global};
 use std::fmt;
-use transfer::TransferError;
+use std::marker::Brand;
+use std::sync::ledger::{Blank, Ledger};
+use steps::Steps;
 
 /// The most octets of a store that is transferred, and so of each of its parts.
 const STORE_LIMIT: usize = 16_777_215;
@@ -81,23 +88,60 @@ fn contents_of(alloc: Global, store: &[u8]) -> Result<Items<ContentInfo>, Failur
     }
 }
 
-/// The plain octets of a content under the password; None where it does not open.
-fn plain_of(alloc: Global, content: &ContentInfo, units: &[u8]) -> Result<Option<Octets>, Failure>
-    requires { length units.now < 2 ^ 59 }
+/// Whether the salt is no longer than a store, as it is in every store that is transferred.
+fn has_short_salt(algorithm: &AlgorithmIdentifier) -> bool
+    ensures { IsTrue result → length (salt_of algorithm.now) ≤ 16777215 }
 {
+    match algorithm {
+        AlgorithmIdentifier::PbewithSHAAnd40BitRC2CBC(parameters)
+        | AlgorithmIdentifier::PbeWithSHAAnd3KeyTripleDESCBC(parameters) => {
+            parameters.salt.len() <= STORE_LIMIT
+        }
+        AlgorithmIdentifier::Sha1
+        | AlgorithmIdentifier::Sha256
+        | AlgorithmIdentifier::Pbes2(_)
+        | AlgorithmIdentifier::OtherAlg(_) => true,
+    }
+}
+
+/// The plain octets of what is encrypted, with a step counter of its own; None where it does not open.
+fn opened_from<L: Ledger>(
+    alloc: Global,
+    info: &EncryptedContentInfo,
+    password: &Password,
+    blank: Blank,
+) -> Result<Option<Octets>, Error>
+    requires name { blank.name ≡ L.name }
+    requires parts { blank.parts ≡ L.parts }
+    requires some { 0 < blank.parts }
+    requires content { length info.now.encrypted_content < 2 ^ 32 }
+    requires salt { length (salt_of info.now.content_encryption_algorithm) < 2 ^ 59 }
+{
+    let mut steps = Steps::<L>::open(blank);
+    info.content_encryption_algorithm.decrypt_text_counted(
+        alloc,
+        info.encrypted_content.as_slice(),
+        password.as_str(),
+        &mut steps,
+    )
+}
+
+/// The plain octets of a content under the password; None where it does not open.
+fn plain_of(
+    alloc: Global,
+    content: &ContentInfo,
+    password: &Password,
+) -> Result<Option<Octets>, Failure> {
     match content {
         ContentInfo::Data(plain) => Ok(Some(plain.try_clone(alloc)?)),
         ContentInfo::EncryptedData(data) => {
             let info = &data.encrypted_content_info;
-            let AlgorithmIdentifier::PbeWithSHAAnd3KeyTripleDESCBC(parameters) =
-                &info.content_encryption_algorithm
-            else {
-                return Ok(None);
-            };
-            if info.encrypted_content.len() > STORE_LIMIT || parameters.salt.len() > STORE_LIMIT {
+            if info.encrypted_content.len() > STORE_LIMIT
+                || !has_short_salt(&info.content_encryption_algorithm)
+            {
                 return Ok(None);
             }
-            Ok(info.data(alloc, units)?)
+            Ok(opened_from::<Brand>(alloc, info, password, Blank::new(1))?)
         }
         ContentInfo::OtherContext(_) => Ok(None),
     }
@@ -120,92 +164,48 @@ pub fn passed_over(
     password: &Password,
 ) -> Result<Items<PassedOver>, Failure> {
     let contents = contents_of(alloc, store)?;
-    let units = bmp_string(alloc, password.as_str())?;
     let mut found = Items::new(alloc);
-    if units.len() > STORE_LIMIT {
-        return Ok(found);
-    }
     for content in contents.as_slice() {
-        let bags = bags_of(alloc, content, units.as_slice())?;
+        let bags = bags_of(alloc, content, password)?;
         add_passed_over(bags.as_slice(), &mut found)?;
     }
     Ok(found)
 }
 
-/// How many digests opening a content takes, where it is under Triple DES.
-fn content_work(content: &ContentInfo) -> u64 {
-    let ContentInfo::EncryptedData(data) = content else {
-        return 0;
-    };
-    match &data.encrypted_content_info.content_encryption_algorithm {
-        AlgorithmIdentifier::PbeWithSHAAnd3KeyTripleDESCBC(parameters) => {
-            parameters.iterations.saturating_mul(3)
+/// The steps of opening a content, where it is opened.
+fn content_work(content: &ContentInfo) -> u128 {
+    match content {
+        ContentInfo::EncryptedData(data) => {
+            data.encrypted_content_info
+                .content_encryption_algorithm
+                .cost()
         }
-        _ => 0,
+        ContentInfo::Data(_) | ContentInfo::OtherContext(_) => 0,
     }
 }
 
-/// How many digests opening the contents takes.
-pub fn visible_work(alloc: Global, store: &[u8]) -> Result<u64, Failure> {
+/// The steps of opening the contents, which is seen before one of them is opened.
+pub fn visible_work(alloc: Global, store: &[u8]) -> Result<u128, Failure> {
     let contents = contents_of(alloc, store)?;
-    let mut work: u64 = 0;
+    let mut work: u128 = 0;
     for content in contents.as_slice() {
         work = work.saturating_add(content_work(content));
     }
     Ok(work)
 }
 
-/// The names of algorithms and of kinds of content that stores of other programs have, by identifier.
-fn name_of(identifier: &str) -> Option<&'static str> {
-    Some(match identifier {
-        "1.2.840.113549.1.5.3" => "pbeWithMD5AndDES-CBC",
-        "1.2.840.113549.1.5.10" => "pbeWithSHA1AndDES-CBC",
-        "1.2.840.113549.1.5.13" => "PBES2",
-        "1.2.840.113549.1.5.14" => "PBMAC1",
-        "1.2.840.113549.1.7.2" => "signedData",
-        "1.2.840.113549.1.7.3" => "envelopedData",
-        "1.2.840.113549.1.7.6" => "encryptedData",
-        "1.2.840.113549.1.12.1.1" => "pbeWithSHAAnd128BitRC4",
-        "1.2.840.113549.1.12.1.2" => "pbeWithSHAAnd40BitRC4",
-        "1.2.840.113549.1.12.1.4" => "pbeWithSHAAnd2-KeyTripleDES-CBC",
-        "1.2.840.113549.1.12.1.5" => "pbeWithSHAAnd128BitRC2-CBC",
-        "1.2.840.113549.1.12.1.6" => "pbeWithSHAAnd40BitRC2-CBC",
-        "1.2.840.113549.2.5" => "MD5",
-        "1.3.14.3.2.26" => "SHA-1",
-        "2.16.840.1.101.3.4.2.1" => "SHA-256",
-        "2.16.840.1.101.3.4.2.2" => "SHA-384",
-        "2.16.840.1.101.3.4.2.3" => "SHA-512",
-        "2.16.840.1.101.3.4.2.4" => "SHA-224",
-        _ => return None,
-    })
-}
-
-/// An identifier in decimal, and its name where it is known.
-fn named(alloc: Global, identifier: ObjectIdentifier) -> Result<String, AllocError> {
-    let text = format!(in alloc; "{identifier}")?;
-    match name_of(text.as_str()) {
-        Some(name) => format!(in alloc; "{name} ({text})"),
-        None => Ok(text),
-    }
-}
-
-/// An algorithm under which nothing is opened; None for Triple DES.
+/// An algorithm under which nothing is opened; None for one under which texts are opened.
 fn not_opened(
     alloc: Global,
     algorithm: &AlgorithmIdentifier,
 ) -> Result<Option<String>, AllocError> {
-    match algorithm {
-        AlgorithmIdentifier::PbeWithSHAAnd3KeyTripleDESCBC(_) => Ok(None),
-        AlgorithmIdentifier::PbewithSHAAnd40BitRC2CBC(_) => {
-            let text = format!(in alloc; "pbeWithSHAAnd40BitRC2-CBC (1.2.840.113549.1.12.1.6)")?;
-            Ok(Some(text))
-        }
-        AlgorithmIdentifier::Sha1 => Ok(Some(format!(in alloc; "SHA-1 (1.3.14.3.2.26)")?)),
-        AlgorithmIdentifier::OtherAlg(other) => Ok(Some(named(alloc, other.algorithm_type)?)),
+    if algorithm.is_openable() {
+        return Ok(None);
     }
+    Ok(Some(algorithm_name(alloc, algorithm)?))
 }
 
-/// The first private key among the bags that is under another algorithm than Triple DES.
+/// The first private key among the bags that is under an algorithm that is not opened.
 fn key_not_opened(alloc: Global, bags: &[SafeBag]) -> Result<Option<String>, Failure> {
     for bag in bags {
         if let SafeBagKind::Pkcs8ShroudedKeyBag(key) = &bag.bag {
@@ -246,10 +246,12 @@ fn contents_not_opened(alloc: Global, contents: &[ContentInfo]) -> Result<Option
 }
 
 /// The bags of a content under the password; none where it does not open.
-fn bags_of(alloc: Global, content: &ContentInfo, units: &[u8]) -> Result<Items<SafeBag>, Failure>
-    requires { length units.now < 2 ^ 59 }
-{
-    match plain_of(alloc, content, units)? {
+fn bags_of(
+    alloc: Global,
+    content: &ContentInfo,
+    password: &Password,
+) -> Result<Items<SafeBag>, Failure> {
+    match plain_of(alloc, content, password)? {
         Some(plain) => Ok(SafeBag::parse_all(alloc, plain.as_slice())?),
         None => Ok(Items::new(alloc)),
     }
@@ -259,12 +261,10 @@ fn bags_of(alloc: Global, content: &ContentInfo, units: &[u8]) -> Result<Items<S
 fn keys_not_opened(
     alloc: Global,
     contents: &[ContentInfo],
-    units: &[u8],
-) -> Result<Option<String>, Failure>
-    requires { length units.now < 2 ^ 59 }
-{
+    password: &Password,
+) -> Result<Option<String>, Failure> {
     for content in contents {
-        let bags = bags_of(alloc, content, units)?;
+        let bags = bags_of(alloc, content, password)?;
         if let Some(text) = key_not_opened(alloc, bags.as_slice())? {
             return Ok(Some(text));
         }
@@ -281,11 +281,7 @@ fn part_not_opened(
     if let Some(text) = contents_not_opened(alloc, contents)? {
         return Ok(Some(text));
     }
-    let units = bmp_string(alloc, password.as_str())?;
-    if units.len() > STORE_LIMIT {
-        return Ok(None);
-    }
-    keys_not_opened(alloc, contents, units.as_slice())
+    keys_not_opened(alloc, contents, password)
 }
 
 /// What of the store is unsupported, where `transfer` said so: the kind of the outer content, the first content that is not
@@ -314,11 +310,11 @@ fn outer_not_opened(alloc: Global, outer: &ContentInfo) -> Result<Option<String>
     }
 }
 
-/// The digest of the MAC, where it is not SHA-1.
+/// What the MAC is made with, where there is a MAC.
 pub fn mac_digest(alloc: Global, store: &[u8]) -> Result<Option<String>, Failure> {
     let store = PFX::parse(alloc, store)?;
     match &store.mac_data {
-        Some(mac) => Ok(not_opened(alloc, &mac.mac.digest_algorithm)?),
+        Some(mac) => Ok(Some(algorithm_name(alloc, &mac.mac.digest_algorithm)?)),
         None => Ok(None),
     }
 }

@@ -2,6 +2,7 @@
 #![tactic(auto)]
 
 mod advice;
+mod algorithm_name;
 mod command_line;
 mod ending;
 mod folder;

@@ -160,7 +160,8 @@ fn meaning_of(refusal: TransferError) -> &'static str {
             "something in the store is encrypted by an algorithm that is not opened",
         TransferError::MacMissing =>
             "the store has no MAC, so nobody can tell whether it was changed",
-        TransferError::MacUnsupported => "the MAC of the store is not made with SHA-1",
+        TransferError::MacUnsupported =>
+            "the MAC of the store is made neither with SHA-1 nor with SHA-256",
         TransferError::ZeroIterations =>
             "the store asks for zero iterations, which no honest program writes",
         TransferError::WorkLimit => "opening the store takes more work than --limit allows",

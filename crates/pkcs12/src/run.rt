@@ -20,8 +20,8 @@ use transfer::{TransferError, Transferred};
 /// keeps silent. Its value is the path under which the wrapper gives the store's password in each run.
 const ASKING: &str = "PKCS12_ASKING";
 
-/// More digests than a machine takes in about a second.
-const LONG_WORK: u64 = 2_000_000;
+/// More steps than a machine takes in about a second.
+const LONG_WORK: u128 = 2_000_000;
 
 /// More rounds of PBKDF2 than a machine takes in about a second.
 const LONG_ROUNDS: u32 = 500_000;
@@ -110,7 +110,7 @@ fn tell_long_work<R: Runtime + AllocGlobal>(
     if around.at_terminal && (work > LONG_WORK || rounds > LONG_ROUNDS) {
         // A terminal that cannot be written to is no failure of the work.
         match eprintln!(rt;
-            "pkcs12: working: {work} digests to open the store, {rounds} rounds for each key .."
+            "pkcs12: working: {work} steps to open the store, {rounds} rounds for each key .."
         ) {
             Ok(()) | Err(_) => {}
         }
