@@ -384,13 +384,14 @@ fn pbes2_is_read_where_it_is_one_of_its_schemes(rt: HostRuntime) {
     assert!(rt; !scheme.is_openable() && scheme.cost() == 0);
 }
 
+/// The password p in UTF-16 (RFC 7292 appendix B.1).
+const PASSWORD: [u8; 4] = [0, 0x70, 0, 0];
+
 #[test]
-fn a_mac_under_sha_256_is_made(rt: HostRuntime) {
+fn a_key_is_derived_over_sha_256(rt: HostRuntime) {
     let alloc = rt.alloc();
-    let password = bmp_string(alloc, "p").expect(&rt, "memory");
     let salt = [1, 2, 3, 4, 5, 6, 7, 8];
-    let key = pbepkcs12::<Sha256>(alloc, password.as_slice(), &salt, 3, 3, 32);
-    let key = key.expect(&rt, "memory");
+    let key = pbepkcs12::<Sha256>(alloc, &PASSWORD, &salt, 3, 3, 32).expect(&rt, "memory");
     assert!(rt;
         is(
             &key,
@@ -399,8 +400,13 @@ fn a_mac_under_sha_256_is_made(rt: HostRuntime) {
             "d04c492650aa7f7baef9a5d04ba461327147093827b5f7c92f70f7ae6299e8f4"
         )
     );
-    let mac = MacData::with_salt_sha256(alloc, b"abc", password.as_slice(), &salt, 3);
-    let mac = mac.expect(&rt, "memory");
+}
+
+#[test]
+fn a_mac_under_sha_256_is_made(rt: HostRuntime) {
+    let alloc = rt.alloc();
+    let salt = [1, 2, 3, 4, 5, 6, 7, 8];
+    let mac = MacData::with_salt_sha256(alloc, b"abc", &PASSWORD, &salt, 3).expect(&rt, "memory");
     assert!(rt;
         is(
             &mac.mac.digest,
@@ -409,5 +415,7 @@ fn a_mac_under_sha_256_is_made(rt: HostRuntime) {
             "18a725d34707ec5b4ed6cad4d8ddc60155b01f5871f85af4c16a683d09dc580b"
         )
     );
-    assert!(rt; mac.verify_mac(alloc, b"abc", password.as_slice()) == Ok(true));
+    let copy = mac.try_clone(alloc).expect(&rt, "memory");
+    assert!(rt; copy.salt.len() == 8);
+    assert!(rt; copy.verify_mac(alloc, b"abc", &PASSWORD) == Ok(true));
 }
