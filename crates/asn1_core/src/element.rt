@@ -61,7 +61,8 @@ fn length_at(octets: &[u8]) -> Result<(u32, &[u8]), Error>
 /// The header at the front: its tag octet, its length and what follows it.
 #[tactic(auto, unfolding(crate::specs::Reading::header_at))]
 pub(crate) fn header(octets: &[u8]) -> Result<(u8, u32, &[u8]), Error>
-    ensures exact { Gives (λ x. (record { tag = x.0; size = x.1 }, x.2.now)) result (header_at octets.now) }
+    ensures exact { Gives (λ x. (record { tag = x.0; size = x.1 }, x.2.now)) result
+        (header_at octets.now) }
     ensures tag { IfOk result (λ x. IsTrue (is_tag x.0)) }
     ensures short { IfOk result (λ x. IsHeader x.1) }
     ensures shorter { IfOk result (λ x. length x.2.now < length octets.now) }

@@ -14,7 +14,8 @@ pub(crate) fn inner_in_front<'a>(
     r: &mut SliceReader<'a>,
     tag: Tag,
 ) -> Result<SliceReader<'a>, Error>
-    ensures exact { ReadsAs (inside_at tag.first) (λ x. x.rest.now) r.old.rest.now r.new.rest.now result }
+    ensures exact { ReadsAs (inside_at tag.first)
+        (λ x. x.rest.now) r.old.rest.now r.new.rest.now result }
     ensures place { r.new.read + length r.new.rest.now ≡ r.old.read + length r.old.rest.now }
     ensures shorter { OnOk result (length r.new.rest.now < length r.old.rest.now) }
 {

@@ -150,7 +150,8 @@ impl FromStr for ObjectIdentifier {
 
     type Err = Error;
 
-    ghost from_str_gives = { λ t r. MatchResult r (λ o. IsText t (oid_octets o)) (λ e. (e ≡ Malformed) × NoneReads t) };
+    ghost from_str_gives = { λ t r. MatchResult r (λ o. IsText t (oid_octets o))
+        (λ e. (e ≡ Malformed) × NoneReads t) };
 
     fn from_str(text: &str) -> Result<ObjectIdentifier, Error> {
         ObjectIdentifier::new(text)
@@ -192,7 +193,8 @@ impl PartialOrd for ObjectIdentifier {
 
     ghost partial_cmp = { as_partial_cmp (on oid_octets (slice_cmp nat_cmp)) };
 
-    ghost laws = { partial_order_from_own_ties (Prim.search (comparing, rules)) (Prim.search (comparing, rules)) };
+    ghost laws = { partial_order_from_own_ties (Prim.search (comparing, rules))
+        (Prim.search (comparing, rules)) };
 
     fn partial_cmp(&self, other: &ObjectIdentifier) -> Option<Ordering> {
         Some(self.cmp(other))

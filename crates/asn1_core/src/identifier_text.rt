@@ -9,7 +9,8 @@ use std::fmt;
 
 /// The word in front of the first point, and what stands behind it.
 fn first_word(text: &str) -> Option<(&str, &str)>
-    ensures { MatchOption result (words text.now ≡ text.now ∷ []) (λ x. (words text.now ≡ x.0.now ∷ words x.1.now) × (length x.1.now < length text.now)) }
+    ensures { MatchOption result (words text.now ≡ text.now ∷ [])
+        (λ x. (words text.now ≡ x.0.now ∷ words x.1.now) × (length x.1.now < length text.now)) }
 {
     text.split_once('.')
 }
@@ -17,8 +18,10 @@ fn first_word(text: &str) -> Option<(&str, &str)>
 /// Writes the arcs of a text into the array, and says how many there are. None where a word is no arc, or there are more
 /// words than an identifier of 39 octets has arcs.
 pub(crate) fn read_arcs(text: &str, arcs: &mut [u32; 40]) -> Option<usize>
-    ensures some { IfSome result (λ n. (n ≤ 40) × AllUnder (2 ^ 32) (take n arcs.new) × (words text.now ≡ map decimal (take n arcs.new))) }
-    ensures none { IfNone result ((list : List ℕ) → length list ≤ 40 → AllUnder (2 ^ 32) list → words text.now ≡ map decimal list → ⊥) }
+    ensures some { IfSome result (λ n. (n ≤ 40) × AllUnder (2 ^ 32) (take n arcs.new)
+        × (words text.now ≡ map decimal (take n arcs.new))) }
+    ensures none { IfNone result ((list : List ℕ) → length list ≤ 40 → AllUnder (2 ^ 32) list
+        → words text.now ≡ map decimal list → ⊥) }
 {
     let mut rest = text;
     let mut n = 0;

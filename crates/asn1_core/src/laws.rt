@@ -8,7 +8,8 @@ ghost use Rattle.asn1_core.specs.Sets.{in_order};
 
 /// No element begins another, and an element has one tag and one value.
 pub fn elements_are_parted()
-    ensures { (t u : ℕ) (v w x y : List ℕ) → el t v ++ x ≡ el u w ++ y → (t ≡ u) × (v ≡ w) × (x ≡ y) }
+    ensures { (t u : ℕ) (v w x y : List ℕ) → el t v ++ x ≡ el u w ++ y → (t ≡ u) × (v ≡ w)
+        × (x ≡ y) }
 {}
 
 /// The test in one pass is the grammar of identifiers: subidentifiers in their fewest octets, each below 2^32, in at most 39 octets.

@@ -17,8 +17,10 @@ use std::alloc::Global;
 /// The value of one element of this tag, as a reader of its own. `Malformed` exactly where no such element stands next; the
 /// reader then stands where it stood.
 pub fn read_inner<'a>(r: &mut SliceReader<'a>, tag: Tag) -> Result<SliceReader<'a>, Error>
-    ensures stands { Reads (Inside tag.first) (λ x. x.rest.now) r.old.rest.now r.new.rest.now result }
-    ensures exact { ReadsAs (inside_at tag.first) (λ x. x.rest.now) r.old.rest.now r.new.rest.now result }
+    ensures stands { Reads (Inside tag.first)
+        (λ x. x.rest.now) r.old.rest.now r.new.rest.now result }
+    ensures exact { ReadsAs (inside_at tag.first)
+        (λ x. x.rest.now) r.old.rest.now r.new.rest.now result }
     ensures place { r.new.read + length r.new.rest.now ≡ r.old.read + length r.old.rest.now }
     ensures shorter { OnOk result (length r.new.rest.now < length r.old.rest.now) }
 {

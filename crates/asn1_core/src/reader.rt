@@ -29,13 +29,16 @@ pub trait Reader<S: AsSlice<u8>>: Copy {
 
     /// Takes the header that stands next. `Malformed` exactly where none does, or that of an element which is too long.
     fn header(&mut self) -> Result<Header, Error>
-        ensures read { ReadsAs header_at (λ h. record { tag = h.tag.first; size = h.length.value }) (left self.old) (left self.new) result }
-        ensures place { taken self.new + length (left self.new) ≡ taken self.old + length (left self.old) };
+        ensures read { ReadsAs header_at (λ h. record { tag = h.tag.first; size = h.length.value })
+            (left self.old) (left self.new) result }
+        ensures place { taken self.new + length (left self.new)
+            ≡ taken self.old + length (left self.old) };
 
     /// Takes the next `len` octets. `Malformed` exactly where fewer are left.
     fn read_slice(&mut self, len: Length) -> Result<S, Error>
         ensures read { ReadsAs (slice_at len.value) S.items (left self.old) (left self.new) result }
-        ensures place { taken self.new + length (left self.new) ≡ taken self.old + length (left self.old) };
+        ensures place { taken self.new + length (left self.new)
+            ≡ taken self.old + length (left self.old) };
 
     /// That no octet is left. `Malformed` exactly where one is.
     fn finish(&self) -> Result<(), Error>

@@ -32,7 +32,14 @@ impl<'b> SliceWriter<'b> {
 }
 
 impl<'b> Writer for SliceWriter<'b> {
-    ghost sink = { record { holds = λ w m. take w.used w.buffer.now ≡ m; room = λ w. Some (length w.buffer.now - w.used); faults = λ w. 0; memory = ⊥; Place = GName; place = λ w. w.buffer.ghost_name } };
+    ghost sink = { record {
+      holds = λ w m. take w.used w.buffer.now ≡ m;
+      room = λ w. Some (length w.buffer.now - w.used);
+      faults = λ w. 0;
+      memory = ⊥;
+      Place = GName;
+      place = λ w. w.buffer.ghost_name;
+    } };
 
     /// `NoRoom` exactly where the rest of the buffer is smaller than these octets, and nothing is written then.
     fn write(&mut self, octets: &[u8]) -> Result<(), Error> {

@@ -32,7 +32,14 @@ impl VecWriter {
 }
 
 impl Writer for VecWriter {
-    ghost sink = { record { holds = λ w m. w.octets ≡ m; room = λ w. None; faults = λ w. 0; memory = Unit {0}; Place = Unit {0}; place = λ w. tt } };
+    ghost sink = { record {
+      holds = λ w m. w.octets ≡ m;
+      room = λ w. None;
+      faults = λ w. 0;
+      memory = Unit {0};
+      Place = Unit {0};
+      place = λ w. tt;
+    } };
 
     /// The only refusal is `Memory`, and nothing is written then.
     fn write(&mut self, octets: &[u8]) -> Result<(), Error> {

@@ -28,8 +28,10 @@ fn header_len(n: u32) -> u32
 /// How many octets an element has whose value has `value_len`. `Overlength` exactly where it would be more than 2^32 - 1.
 pub fn element_len(value_len: Length) -> Result<Length, Error>
     ensures { MatchResult result
-        (λ r. (r.value ≡ 1 + length (len value_len.value) + value_len.value) × IsHeader value_len.value)
-        (λ e. (e ≡ Error.Overlength) × IsOverlong (1 + length (len value_len.value) + value_len.value)) }
+        (λ r. (r.value ≡ 1 + length (len value_len.value) + value_len.value)
+        × IsHeader value_len.value)
+        (λ e. (e ≡ Error.Overlength)
+        × IsOverlong (1 + length (len value_len.value) + value_len.value)) }
 {
     match header_len(value_len.value).checked_add(value_len.value) {
         Some(value) => Ok(Length { value }),
@@ -71,7 +73,8 @@ pub fn write_header<W: Writer>(w: &mut W, tag: Tag, length: Length) -> Result<()
 /// Writes one element of this tag and value (X.690 section 8.1). `Overlength` where it would have more than 2^32 - 1 octets, and
 /// nothing is written then; else the writer's refusals.
 pub fn write_element<W: Writer>(w: &mut W, tag: Tag, value: &[u8]) -> Result<(), Error>
-    ensures writes { Writes W.sink ⊥ (IsOverlong (length (el tag.first value.now))) (el tag.first value.now) w.old result w.new }
+    ensures writes { Writes W.sink ⊥ (IsOverlong (length (el tag.first value.now)))
+        (el tag.first value.now) w.old result w.new }
     ensures short { OnOk result (IsShort (el tag.first value.now)) }
 {
     if value.len() > 0xffff_ffff {

@@ -54,7 +54,9 @@ fn write_all<W: Writer>(w: &mut W, texts: &[&[u8]]) -> Result<(), Error>
 
 /// Writes a set of these texts, in the order given.
 fn write_set<W: Writer>(w: &mut W, texts: &[&[u8]]) -> Result<(), Error>
-    ensures writes { Writes W.sink ⊥ (IsOverlong (length (set (joined (map (λ t. t.now) texts.now))))) (set (joined (map (λ t. t.now) texts.now))) w.old result w.new }
+    ensures writes { Writes W.sink ⊥
+        (IsOverlong (length (set (joined (map (λ t. t.now) texts.now)))))
+        (set (joined (map (λ t. t.now) texts.now))) w.old result w.new }
     ensures short { OnOk result (IsShort (set (joined (map (λ t. t.now) texts.now)))) }
 {
     let length = joined_len(texts)?;
@@ -71,7 +73,9 @@ pub fn write_set_of<W: Writer>(
     w: &mut W,
     elements: &Items<Octets>,
 ) -> Result<(), Error>
-    ensures writes { Writes (in_memory W.sink) ⊥ (IsOverlong (length (set (joined (in_order elements.now))))) (set (joined (in_order elements.now))) w.old result w.new }
+    ensures writes { Writes (in_memory W.sink) ⊥
+        (IsOverlong (length (set (joined (in_order elements.now)))))
+        (set (joined (in_order elements.now))) w.old result w.new }
     ensures short { OnOk result (IsShort (set (joined (in_order elements.now)))) }
 {
     let texts = ascending(alloc, elements)?;

@@ -14,7 +14,8 @@ use crate::writer::Writer;
 /// Writes the text as an IA5String (X.690 section 8.23). `Malformed` exactly where a character is over 127, and nothing is written
 /// then; `Overlength` where the element would have more than 2^32 - 1 octets; else the writer's refusals.
 pub fn write_ia5<W: Writer>(w: &mut W, text: &str) -> Result<(), Error>
-    ensures writes { Writes W.sink (¬ (IsTrue (is_ascii_text text.now))) (IsOverlong (length (el 0x16 text.now))) (el 0x16 text.now) w.old result w.new }
+    ensures writes { Writes W.sink (¬ (IsTrue (is_ascii_text text.now)))
+        (IsOverlong (length (el 0x16 text.now))) (el 0x16 text.now) w.old result w.new }
     ensures text { OnOk result (Ia5 (el 0x16 text.now) text.now) }
     ensures short { OnOk result (IsShort (el 0x16 text.now)) }
 {
@@ -80,7 +81,8 @@ fn write_units<W: Writer>(w: &mut W, text: &str) -> Result<(), Error>
 /// element would have more than 2^32 - 1 octets, and nothing is written then; else the writer's refusals.
 #[tactic(auto, using(crate::proofs::TextLaws::bmp_written))]
 pub fn write_bmp<W: Writer>(w: &mut W, text: &str) -> Result<(), Error>
-    ensures writes { Writes W.sink ⊥ (IsOverlong (length (el 0x1e (text_units text.now)))) (el 0x1e (text_units text.now)) w.old result w.new }
+    ensures writes { Writes W.sink ⊥ (IsOverlong (length (el 0x1e (text_units text.now))))
+        (el 0x1e (text_units text.now)) w.old result w.new }
     ensures text { Bmp (el 0x1e (text_units text.now)) text.now }
     ensures short { OnOk result (IsShort (el 0x1e (text_units text.now))) }
 {

@@ -32,7 +32,8 @@ fn key_word(keys: &[u32], n: usize, c: usize) -> u32
 fn round(w: [u32; 4], keys: &[u32], n: usize) -> [u32; 4]
     requires { 4 * n + 4 ≤ length keys.now }
     ensures { octets_of result
-        ≡ add_round_key (octets_of_words keys.now) n (mix_columns (shift_rows (sub_bytes (octets_of w)))) }
+        ≡ add_round_key (octets_of_words keys.now) n
+        (mix_columns (shift_rows (sub_bytes (octets_of w)))) }
 {
     let a = w[0].to_be_bytes();
     let b = w[1].to_be_bytes();
@@ -179,7 +180,8 @@ pub(crate) fn unmix_keys(keys: &[u32], unmixed_keys: &mut [u32])
 fn inv_round(w: [u32; 4], unmixed_keys: &[u32], n: usize) -> [u32; 4]
     requires { 4 * n + 4 ≤ length unmixed_keys.now }
     ensures { octets_of result
-        ≡ add_round_key (octets_of_words unmixed_keys.now) n (inv_mix_columns (inv_sub_bytes (inv_shift_rows (octets_of w)))) }
+        ≡ add_round_key (octets_of_words unmixed_keys.now) n
+        (inv_mix_columns (inv_sub_bytes (inv_shift_rows (octets_of w)))) }
 {
     let a = w[0].to_be_bytes();
     let b = w[1].to_be_bytes();
@@ -211,7 +213,8 @@ fn inv_last_column(a: u8, b: u8, c: u8, d: u8) -> u32
 fn inv_last_round(w: [u32; 4], keys: &[u32], n: usize) -> [u32; 4]
     requires { 4 * n + 4 ≤ length keys.now }
     ensures { octets_of result
-        ≡ add_round_key (octets_of_words keys.now) n (inv_sub_bytes (inv_shift_rows (octets_of w))) }
+        ≡ add_round_key (octets_of_words keys.now) n
+        (inv_sub_bytes (inv_shift_rows (octets_of w))) }
 {
     let a = w[0].to_be_bytes();
     let b = w[1].to_be_bytes();

@@ -29,13 +29,16 @@ impl BlockCipher for TdesEde3 {
 
     ghost inverse = { inv_tdes };
 
-    ghost encryption = { λ s. under_three (keys_of_words 16 s.first.keys) (keys_of_words 16 s.second.keys)
+    ghost encryption = { λ s. under_three (keys_of_words 16 s.first.keys)
+        (keys_of_words 16 s.second.keys)
         (keys_of_words 16 s.third.keys) };
 
-    ghost decryption = { λ s. back_under_three (keys_of_words 16 s.first.keys) (keys_of_words 16 s.second.keys)
+    ghost decryption = { λ s. back_under_three (keys_of_words 16 s.first.keys)
+        (keys_of_words 16 s.second.keys)
         (keys_of_words 16 s.third.keys) };
 
-    ghost laws = { tdes_laws Self (λ s. keys_of_words 16 s.first.keys) (λ s. keys_of_words 16 s.second.keys)
+    ghost laws = { tdes_laws Self (λ s. keys_of_words 16 s.first.keys)
+        (λ s. keys_of_words 16 s.second.keys)
         (λ s. keys_of_words 16 s.third.keys) };
 
     fn new(key: &[u8]) -> TdesEde3 {

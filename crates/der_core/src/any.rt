@@ -31,7 +31,8 @@ impl Any {
     /// `Memory` alone.
     pub fn new(alloc: Global, tag: Tag, value: &[u8]) -> Result<Any, Error>
         ensures { MatchResult result (λ a. (a.tag ≡ tag) × (a.value ≡ value.now))
-            (λ e. ((e ≡ Memory) × IsHeader (length value.now)) ⊎ ((e ≡ Overlength) × (¬ (IsHeader (length value.now))))) }
+            (λ e. ((e ≡ Memory) × IsHeader (length value.now))
+            ⊎ ((e ≡ Overlength) × (¬ (IsHeader (length value.now))))) }
     {
         checked_len(value.len())?;
         let value = Octets::from_slice(alloc, value)?;
@@ -41,9 +42,12 @@ impl Any {
     /// The element that is the text of `v`. `Malformed` exactly where `v` has none, `Overlength` only where that text would have
     /// more than 2^32 - 1 octets, and `Memory`.
     pub fn encode_from<T: Tagged + EncodeValue>(alloc: Global, v: &T) -> Result<Any, Error>
-        ensures ok { IfOk result (λ a. (a.tag.first ≡ T.tag_of v.now) × (a.value ≡ T.content v.now)) }
+        ensures ok { IfOk result (λ a. (a.tag.first ≡ T.tag_of v.now)
+            × (a.value ≡ T.content v.now)) }
         ensures lawful { OnOk result (T.writable v.now) }
-        ensures err { IfErr result (λ e. Cause (¬ (T.writable v.now)) (IsOverlong (length (el (T.tag_of v.now) (T.content v.now)))) (Unit {0}) None 0 0 0 e) }
+        ensures err { IfErr result
+            (λ e. Cause (¬ (T.writable v.now))
+            (IsOverlong (length (el (T.tag_of v.now) (T.content v.now)))) (Unit {0}) None 0 0 0 e) }
     {
         let length = v.value_len()?;
         checked_len(length.value as usize)?;

@@ -31,7 +31,8 @@ pub struct AnyRef<'a> {
 impl<'a> AnyRef<'a> {
     /// The element of this tag and these value octets. `Overlength` exactly where it would have more than 2^32 - 1 octets.
     pub fn new(tag: Tag, value: &'a [u8]) -> Result<AnyRef<'a>, Error>
-        ensures { MatchResult result (λ a. (a.tag ≡ tag) × (a.value.now ≡ value.now)) (λ e. (e ≡ Overlength) × (¬ (IsHeader (length value.now)))) }
+        ensures { MatchResult result (λ a. (a.tag ≡ tag) × (a.value.now ≡ value.now))
+            (λ e. (e ≡ Overlength) × (¬ (IsHeader (length value.now)))) }
     {
         match checked_len(value.len()) {
             Ok(_) => Ok(AnyRef { tag, value }),
@@ -70,7 +71,8 @@ impl<'a> AnyRef<'a> {
 
     /// What decoding the whole element answers.
     pub fn decode_as<T: WholeElement<&'a [u8]>>(&self) -> Result<T, Error>
-        ensures { Gives T.Decode.seen result (whole T.at (el self.now.tag.first self.now.value.now)) }
+        ensures { Gives T.Decode.seen result
+            (whole T.at (el self.now.tag.first self.now.value.now)) }
     {
         let mut r = SliceReader::new(self.value);
         let header = Header {

@@ -42,8 +42,11 @@ impl<'a> BitStringRef<'a> {
     /// The string of these octets, of whose last one this many bits are unused. `Malformed` exactly where `unused_bits` is over
     /// 7, or not 0 where there is no octet; else `Overlength` exactly where the text would have more than 2^32 - 1 octets.
     pub fn new(unused_bits: u8, octets: &'a [u8]) -> Result<BitStringRef<'a>, Error>
-        ensures { MatchResult result (λ s. (s.unused_bits ≡ unused_bits) × (s.octets.now ≡ octets.now))
-            (λ e. ((e ≡ Malformed) × (¬ (IsTrue (is_bits unused_bits octets.now)))) ⊎ ((e ≡ Overlength) × IsTrue (is_bits unused_bits octets.now) × (¬ (IsHeader (1 + length octets.now))))) }
+        ensures { MatchResult result (λ s. (s.unused_bits ≡ unused_bits)
+            × (s.octets.now ≡ octets.now))
+            (λ e. ((e ≡ Malformed) × (¬ (IsTrue (is_bits unused_bits octets.now))))
+            ⊎ ((e ≡ Overlength) × IsTrue (is_bits unused_bits octets.now)
+            × (¬ (IsHeader (1 + length octets.now))))) }
     {
         if unused_bits > 7 || (unused_bits != 0 && octets.is_empty()) {
             return Err(Error::Malformed);
@@ -73,7 +76,8 @@ impl<'a> BitStringRef<'a> {
 
     /// The same in memory of its own. The only refusal is `Memory`.
     pub fn ref_to_owned(&self, alloc: Global) -> Result<BitString, Error>
-        ensures ok { IfOk result (λ s. (s.unused_bits ≡ self.now.unused_bits) × (s.octets ≡ self.now.octets.now)) }
+        ensures ok { IfOk result (λ s. (s.unused_bits ≡ self.now.unused_bits)
+            × (s.octets ≡ self.now.octets.now)) }
         ensures err { IfErr result (λ e. e ≡ Memory) }
     {
         let octets = Octets::from_slice(alloc, self.octets)?;
@@ -91,8 +95,10 @@ impl BitString {
     pub fn new(alloc: Global, unused_bits: u8, octets: &[u8]) -> Result<BitString, Error>
         ensures { MatchResult result (λ s. (s.unused_bits ≡ unused_bits) × (s.octets ≡ octets.now))
             (λ e. ((e ≡ Malformed) × (¬ (IsTrue (is_bits unused_bits octets.now))))
-            ⊎ ((e ≡ Overlength) × IsTrue (is_bits unused_bits octets.now) × (¬ (IsHeader (1 + length octets.now))))
-            ⊎ ((e ≡ Memory) × IsTrue (is_bits unused_bits octets.now) × IsHeader (1 + length octets.now))) }
+            ⊎ ((e ≡ Overlength) × IsTrue (is_bits unused_bits octets.now)
+            × (¬ (IsHeader (1 + length octets.now))))
+            ⊎ ((e ≡ Memory) × IsTrue (is_bits unused_bits octets.now)
+            × IsHeader (1 + length octets.now))) }
     {
         match BitStringRef::new(unused_bits, octets) {
             Ok(borrowed) => borrowed.ref_to_owned(alloc),
@@ -102,7 +108,8 @@ impl BitString {
 
     /// The string whose text these octets are. `Malformed` exactly where they are none, and `Memory`.
     pub fn from_der(alloc: Global, bytes: &[u8]) -> Result<BitString, Error>
-        ensures { GivesIn (λ s. seen_bits s.unused_bits s.octets) result (whole (within 3 bits_of) bytes.now) }
+        ensures { GivesIn (λ s. seen_bits s.unused_bits s.octets) result
+            (whole (within 3 bits_of) bytes.now) }
     {
         BitStringRef::from_der(bytes)?.ref_to_owned(alloc)
     }
@@ -123,7 +130,8 @@ impl BitString {
 
     /// The same, borrowed.
     pub fn owned_to_ref(&self) -> BitStringRef<'_>
-        ensures { (result.unused_bits ≡ self.now.unused_bits) × (result.octets.now ≡ self.now.octets) }
+        ensures { (result.unused_bits ≡ self.now.unused_bits)
+            × (result.octets.now ≡ self.now.octets) }
     {
         BitStringOf {
             unused_bits: self.unused_bits,
@@ -133,7 +141,8 @@ impl BitString {
 
     /// An equal value in memory of its own. The only refusal is `Memory`.
     pub fn try_clone(&self, alloc: Global) -> Result<BitString, Error>
-        ensures ok { IfOk result (λ s. (s.unused_bits ≡ self.now.unused_bits) × (s.octets ≡ self.now.octets)) }
+        ensures ok { IfOk result (λ s. (s.unused_bits ≡ self.now.unused_bits)
+            × (s.octets ≡ self.now.octets)) }
         ensures err { IfErr result (λ e. e ≡ Memory) }
     {
         let octets = self.octets.try_clone(alloc)?;
@@ -255,9 +264,11 @@ impl<S: AsSlice<u8>> PartialOrd for BitStringOf<S> {
     ghost use Rattle.std.specs.Cmp.Rules.{comparing};
     ghost use Rattle.std.proofs.Common.{rules};
 
-    ghost partial_cmp = { as_partial_cmp (on (λ s. s.unused_bits ∷ S.items s.octets) (slice_cmp nat_cmp)) };
+    ghost partial_cmp = { as_partial_cmp
+        (on (λ s. s.unused_bits ∷ S.items s.octets) (slice_cmp nat_cmp)) };
 
-    ghost laws = { partial_order_from_own_ties (Prim.search (comparing, rules)) (Prim.search (comparing, rules)) };
+    ghost laws = { partial_order_from_own_ties (Prim.search (comparing, rules))
+        (Prim.search (comparing, rules)) };
 
     fn partial_cmp(&self, other: &BitStringOf<S>) -> Option<Ordering> {
         Some(self.cmp(other))
@@ -316,7 +327,8 @@ impl<'a> Compared<&'a [u8]> for BitStringRef<'a> {
 }
 
 impl<S: AsSlice<u8>> ValueOrd for BitStringOf<S> {
-    ghost value_order = { λ a b. octet_cmp (a.unused_bits ∷ S.items a.octets) (b.unused_bits ∷ S.items b.octets) };
+    ghost value_order = { λ a b. octet_cmp (a.unused_bits ∷ S.items a.octets)
+        (b.unused_bits ∷ S.items b.octets) };
 
     fn value_cmp(&self, other: &BitStringOf<S>) -> Result<Ordering, Error> {
         Ok(self.cmp(other))

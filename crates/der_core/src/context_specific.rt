@@ -33,7 +33,8 @@ pub struct ContextSpecific<T> {
 
 /// That an element may have this number in one tag octet. `Malformed` exactly where it is over 30.
 fn check_number(tag_number: u8) -> Result<(), Error>
-    ensures { MatchResult result (λ _. tag_number < 31) (λ e. (e ≡ Malformed) × (¬ (tag_number < 31))) }
+    ensures { MatchResult result (λ _. tag_number < 31)
+        (λ e. (e ≡ Malformed) × (¬ (tag_number < 31))) }
 {
     if tag_number > 30 {
         return Err(Error::Malformed);
@@ -119,7 +120,8 @@ impl<'a, T: Choice<&'a [u8]>> Choice<&'a [u8]> for ContextSpecific<T> {
 }
 
 impl<T: EncodeValue + Tagged> EncodeValue for ContextSpecific<T> {
-    ghost content = { λ v. context_content v.tag_mode (⟦<T as Encode>⟧.canon v.value) (T.content v.value) };
+    ghost content = { λ v. context_content v.tag_mode (⟦<T as Encode>⟧.canon v.value)
+        (T.content v.value) };
 
     ghost writable = { λ v. (v.tag_number < 31) × T.writable v.value };
 
@@ -141,5 +143,7 @@ impl<T: EncodeValue + Tagged> EncodeValue for ContextSpecific<T> {
 }
 
 impl<'a, T: Choice<&'a [u8]> + Compared<&'a [u8]>> Compared<&'a [u8]> for ContextSpecific<T> {
-    ghost compared = { λ v w. context_same ⟦<TagMode as PartialEq>⟧.eq refl refl refl refl T.Decode.seen T.eq T.compared v.tag_number w.tag_number v.tag_mode w.tag_mode v.value w.value };
+    ghost compared = { λ v w. context_same ⟦<TagMode as PartialEq>⟧.eq refl refl refl refl
+        T.Decode.seen T.eq T.compared v.tag_number w.tag_number v.tag_mode w.tag_mode v.value
+        w.value };
 }

@@ -25,8 +25,10 @@ pub trait DecodeValue<S: AsSlice<u8>>: Sized + Drop {
     /// Takes the value octets behind this header. `Malformed` exactly where they stand for no value, `OidUnknown` where an
     /// identifier is met first that its place does not know; the reader then stands where it stood.
     fn decode_value<R: Reader<S>>(r: &mut R, header: Header) -> Result<Self, Error>
-        ensures read { ReadsAs (valued (value header.tag.first) header.length.value) seen (R.left r.old) (R.left r.new) result }
-        ensures place { R.taken r.new + length (R.left r.new) ≡ R.taken r.old + length (R.left r.old) };
+        ensures read { ReadsAs (valued (value header.tag.first) header.length.value) seen
+            (R.left r.old) (R.left r.new) result }
+        ensures place { R.taken r.new + length (R.left r.new)
+            ≡ R.taken r.old + length (R.left r.old) };
 
     ghost exact: { (t : ℕ) → ExactAll (text t) (value t) };
 }
@@ -47,7 +49,8 @@ pub trait Decode<S: AsSlice<u8>>: Sized + Drop {
     /// its place does not know; the reader then stands where it stood.
     fn decode<R: Reader<S>>(r: &mut R) -> Result<Self, Error>
         ensures read { ReadsAs at seen (R.left r.old) (R.left r.new) result }
-        ensures place { R.taken r.new + length (R.left r.new) ≡ R.taken r.old + length (R.left r.old) };
+        ensures place { R.taken r.new + length (R.left r.new)
+            ≡ R.taken r.old + length (R.left r.old) };
 
     /// The value of these octets, all of them. Refusals as in `decode`, and `Malformed` where octets are left over.
     fn from_der(bytes: S) -> Result<Self, Error>
@@ -105,7 +108,8 @@ impl<'a, T: DecodeValue<&'a [u8]> + FixedTag> Choice<&'a [u8]> for T {
         tag.first == T::TAG.first
     }
 
-    ghost exact = { within-exact T.TAG.first (T.text T.TAG.first) (T.value T.TAG.first) T.TAG.is_tag (T.exact T.TAG.first) };
+    ghost exact = { within-exact T.TAG.first (T.text T.TAG.first) (T.value T.TAG.first) T.TAG.is_tag
+        (T.exact T.TAG.first) };
 
     ghost whole = { within-whole T.TAG.first (T.text T.TAG.first) T.TAG.is_tag };
 }

@@ -60,7 +60,8 @@ impl Document {
     #[tactic(auto, using(crate::specs::DocumentLaws::sequence_found))]
     pub fn from_der(alloc: Global, bytes: &[u8]) -> Result<Document, Error>
         ensures { MatchResult result (λ d. d.octets ≡ bytes.now)
-            (λ e. ((e ≡ Memory) × IsSequence bytes.now) ⊎ ((e ≡ Malformed) × (¬ (IsSequence bytes.now)))) }
+            (λ e. ((e ≡ Memory) × IsSequence bytes.now)
+            ⊎ ((e ≡ Malformed) × (¬ (IsSequence bytes.now)))) }
     {
         check_sequence(bytes)?;
         let octets = Octets::from_slice(alloc, bytes)?;
@@ -72,7 +73,10 @@ impl Document {
     pub fn encode_msg<T: Encode>(alloc: Global, v: &T) -> Result<Document, Error>
         ensures ok { IfOk result (λ d. d.octets ≡ T.canon v.now) }
         ensures lawful { OnOk result (T.writable v.now) }
-        ensures err { IfErr result (λ e. Cause ((¬ (T.writable v.now)) ⊎ (IsShort (T.canon v.now) × (¬ (IsSequence (T.canon v.now))))) (IsOverlong (length (T.canon v.now))) (Unit {0}) None 0 0 0 e) }
+        ensures err { IfErr result
+            (λ e. Cause ((¬ (T.writable v.now))
+            ⊎ (IsShort (T.canon v.now) × (¬ (IsSequence (T.canon v.now)))))
+            (IsOverlong (length (T.canon v.now))) (Unit {0}) None 0 0 0 e) }
     {
         let octets = v.to_der(alloc)?;
         check_sequence(octets.as_slice())?;
@@ -98,7 +102,8 @@ impl Document {
     /// The document in this file. `File` where a call on the file failed, `Overlength` where it has more than 2^32 - 1 octets,
     /// else `Malformed` where it is not one whole SEQUENCE; and `Memory`.
     pub fn read_der_file<R: Files>(rt: &R, alloc: Global, path: &str) -> Result<Document, Error>
-        ensures { IfErr result (λ e. (e ≡ File) ⊎ (e ≡ Overlength) ⊎ (e ≡ Malformed) ⊎ (e ≡ Memory)) }
+        ensures { IfErr result (λ e. (e ≡ File) ⊎ (e ≡ Overlength) ⊎ (e ≡ Malformed)
+            ⊎ (e ≡ Memory)) }
     {
         match fs::read(&(rt, alloc), path) {
             Ok(octets) => {

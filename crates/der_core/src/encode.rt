@@ -23,7 +23,8 @@ pub trait EncodeValue {
 
     /// Writes the value octets. Refusals as in `value_len`, and those of the writer; a front of the octets was written then.
     fn encode_value<W: Writer>(&self, w: &mut W) -> Result<(), Error>
-        ensures written { Writes W.sink (¬ (writable self.now)) (IsOverlong (length (content self.now))) (content self.now) w.old result w.new }
+        ensures written { Writes W.sink (¬ (writable self.now))
+            (IsOverlong (length (content self.now))) (content self.now) w.old result w.new }
         ensures lawful { OnOk result (writable self.now) };
 }
 
@@ -43,7 +44,8 @@ pub trait Encode {
 
     /// Writes the text. Refusals as in `encoded_len`, and those of the writer; a front of the text was written then.
     fn encode<W: Writer>(&self, w: &mut W) -> Result<(), Error>
-        ensures written { Writes W.sink (¬ (writable self.now)) (IsOverlong (length (canon self.now))) (canon self.now) w.old result w.new }
+        ensures written { Writes W.sink (¬ (writable self.now))
+            (IsOverlong (length (canon self.now))) (canon self.now) w.old result w.new }
         ensures short { OnOk result (IsShort (canon self.now)) }
         ensures lawful { OnOk result (writable self.now) };
 
@@ -52,7 +54,9 @@ pub trait Encode {
         ensures ok { IfOk result (λ o. o ≡ canon self.now) }
         ensures short { OnOk result (IsShort (canon self.now)) }
         ensures lawful { OnOk result (writable self.now) }
-        ensures err { IfErr result (λ e. Cause (¬ (writable self.now)) (IsOverlong (length (canon self.now))) (Unit {0}) None 0 0 0 e) }
+        ensures err { IfErr result
+            (λ e. Cause (¬ (writable self.now)) (IsOverlong (length (canon self.now)))
+            (Unit {0}) None 0 0 0 e) }
     {
         let mut w = VecWriter::new(alloc);
         match self.encode(&mut w) {

@@ -29,12 +29,14 @@ pub trait Canonical<S: AsSlice<u8>>: Choice<S> + Encode {
 pub trait Spelled<S: AsSlice<u8>>: Canonical<S> {
     ghost spell: { List ℕ → Self → Type 0 };
 
-    ghost spelled: { (b : List ℕ) (v : Self) → Self.text b (Self.seen v) ↔ (Self.writable v × spell b v) };
+    ghost spelled: { (b : List ℕ) (v : Self) → Self.text b (Self.seen v)
+        ↔ (Self.writable v × spell b v) };
 }
 
 /// A type whose values are equal exactly where the same is seen of them.
 pub trait Compared<S: AsSlice<u8>>: Decode<S> + PartialEq {
-    ghost compared: { (v w : Self) → (Self.seen v ≡ Self.seen w → Self.eq v w ≡ true) × (Self.eq v w ≡ true → Self.seen v ≡ Self.seen w) };
+    ghost compared: { (v w : Self) → (Self.seen v ≡ Self.seen w → Self.eq v w ≡ true)
+        × (Self.eq v w ≡ true → Self.seen v ≡ Self.seen w) };
 }
 
 impl<'a, T: DecodeValue<&'a [u8]> + FixedTag> WholeElement<&'a [u8]> for T {
@@ -57,7 +59,8 @@ pub fn read_as<S: AsSlice<u8>, R: Reader<S>, T: WholeElement<S>>(
 
 /// A law: a text is read exactly where the words of its type have it, and it has at most one value.
 pub fn texts_are_read<S: AsSlice<u8>, T: Choice<S>>(bytes: &[u8])
-    ensures { (v : T.Seen) → (whole T.at bytes.now ≡ Ok v) ↔ (T.text bytes.now v × IsShort bytes.now) }
+    ensures { (v : T.Seen) → (whole T.at bytes.now ≡ Ok v)
+        ↔ (T.text bytes.now v × IsShort bytes.now) }
 {
     let _ = bytes;
 }
@@ -66,7 +69,8 @@ pub fn texts_are_read<S: AsSlice<u8>, T: Choice<S>>(bytes: &[u8])
 pub fn exact_spellings<S: AsSlice<u8>, T: Spelled<S>>(bytes: &[u8], v: &T)
     ensures written { whole T.at bytes.now ≡ Ok (T.seen v.now) → T.writable v.now }
     ensures exact { T.writable v.now → (whole T.at bytes.now ≡ Ok (T.seen v.now))
-        ↔ (IsShort bytes.now × ((bytes.now ≡ T.canon v.now) ⊎ Other T.spell T.canon bytes.now v.now)) }
+        ↔ (IsShort bytes.now
+        × ((bytes.now ≡ T.canon v.now) ⊎ Other T.spell T.canon bytes.now v.now)) }
 {
     let _ = bytes;
     let _ = v;
@@ -74,12 +78,14 @@ pub fn exact_spellings<S: AsSlice<u8>, T: Spelled<S>>(bytes: &[u8], v: &T)
 
 /// A law: no text begins another one, and a text has one value.
 pub fn texts_are_parted<S: AsSlice<u8>, T: Choice<S>>()
-    ensures { (b c x y : List ℕ) (v w : T.Seen) → T.text b v → T.text c w → IsShort b → IsShort c → b ++ x ≡ c ++ y → (b ≡ c) × (v ≡ w) × (x ≡ y) }
+    ensures { (b c x y : List ℕ) (v w : T.Seen) → T.text b v → T.text c w → IsShort b → IsShort c
+        → b ++ x ≡ c ++ y → (b ≡ c) × (v ≡ w) × (x ≡ y) }
 {}
 
 /// A law: what is written of a value is read as that value.
 pub fn canon_is_read<S: AsSlice<u8>, T: Canonical<S>>(v: &T)
-    ensures { T.writable v.now → IsShort (T.canon v.now) → whole T.at (T.canon v.now) ≡ Ok (T.seen v.now) }
+    ensures { T.writable v.now → IsShort (T.canon v.now) → whole T.at (T.canon v.now)
+        ≡ Ok (T.seen v.now) }
 {
     let _ = v;
 }

@@ -22,7 +22,8 @@ use std::cmp::Ordering;
 
 /// The value of a number of at most `max`.
 fn number_value<'a, R: Reader<&'a [u8]>>(r: &mut R, header: Header, max: u64) -> Result<u64, Error>
-    ensures read { ReadsAs (valued (uint_of max) header.length.value) (λ n. n) (R.left r.old) (R.left r.new) result }
+    ensures read { ReadsAs (valued (uint_of max) header.length.value) (λ n. n) (R.left r.old)
+        (R.left r.new) result }
     ensures place { R.taken r.new + length (R.left r.new) ≡ R.taken r.old + length (R.left r.old) }
     ensures small { IfOk result (λ n. n ≤ max) }
 {
@@ -61,7 +62,8 @@ pub trait Number: Copy + Drop + PartialEq {
         requires { n ≤ Self.MAX }
         ensures { number result ≡ n };
 
-    ghost told: { (v w : Self) → (Self.number v ≡ Self.number w → Self.eq v w ≡ true) × (Self.eq v w ≡ true → Self.number v ≡ Self.number w) };
+    ghost told: { (v w : Self) → (Self.number v ≡ Self.number w → Self.eq v w ≡ true)
+        × (Self.eq v w ≡ true → Self.number v ≡ Self.number w) };
 }
 
 impl Number for u8 {

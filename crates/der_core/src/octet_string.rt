@@ -40,7 +40,8 @@ pub type OctetString = OctetStringOf<Octets>;
 impl<'a> OctetStringRef<'a> {
     /// The string of these octets. `Overlength` exactly where its text would have more than 2^32 - 1 octets.
     pub fn new(octets: &'a [u8]) -> Result<OctetStringRef<'a>, Error>
-        ensures { MatchResult result (λ s. s.octets.now ≡ octets.now) (λ e. (e ≡ Overlength) × (¬ (IsHeader (length octets.now)))) }
+        ensures { MatchResult result (λ s. s.octets.now ≡ octets.now) (λ e. (e ≡ Overlength)
+            × (¬ (IsHeader (length octets.now)))) }
     {
         match checked_len(octets.len()) {
             Ok(_) => Ok(OctetStringOf { octets }),
@@ -70,7 +71,8 @@ impl OctetString {
     /// alone.
     pub fn new(alloc: Global, octets: &[u8]) -> Result<OctetString, Error>
         ensures { MatchResult result (λ s. s.octets ≡ octets.now)
-            (λ e. ((e ≡ Memory) × IsHeader (length octets.now)) ⊎ ((e ≡ Overlength) × (¬ (IsHeader (length octets.now))))) }
+            (λ e. ((e ≡ Memory) × IsHeader (length octets.now))
+            ⊎ ((e ≡ Overlength) × (¬ (IsHeader (length octets.now))))) }
     {
         checked_len(octets.len())?;
         let octets = Octets::from_slice(alloc, octets)?;
@@ -208,7 +210,8 @@ impl<S: AsSlice<u8>> PartialOrd for OctetStringOf<S> {
 
     ghost partial_cmp = { as_partial_cmp (on (λ s. S.items s.octets) (slice_cmp nat_cmp)) };
 
-    ghost laws = { partial_order_from_own_ties (Prim.search (comparing, rules)) (Prim.search (comparing, rules)) };
+    ghost laws = { partial_order_from_own_ties (Prim.search (comparing, rules))
+        (Prim.search (comparing, rules)) };
 
     fn partial_cmp(&self, other: &OctetStringOf<S>) -> Option<Ordering> {
         Some(self.cmp(other))

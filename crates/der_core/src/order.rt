@@ -17,13 +17,16 @@ pub trait ValueOrd: EncodeValue {
     /// value octets.
     fn value_cmp(&self, other: &Self) -> Result<Ordering, Error>
         ensures ok { IfOk result (λ o. o ≡ value_order self.now other.now) }
-        ensures err { IfErr result (λ e. Unordered ((¬ (Self.writable self.now)) ⊎ (¬ (Self.writable other.now)))
-            (IsOverlong (length (Self.content self.now)) ⊎ IsOverlong (length (Self.content other.now))) e) };
+        ensures err { IfErr result
+            (λ e. Unordered ((¬ (Self.writable self.now)) ⊎ (¬ (Self.writable other.now)))
+            (IsOverlong (length (Self.content self.now))
+            ⊎ IsOverlong (length (Self.content other.now))) e) };
 }
 
 /// A type whose `value_cmp` is the order of the value octets.
 pub trait ContentOrd: ValueOrd {
-    ghost ordered: { (v w : Self) → Self.value_order v w ≡ octet_cmp (Self.content v) (Self.content w) };
+    ghost ordered: { (v w : Self) → Self.value_order v w
+        ≡ octet_cmp (Self.content v) (Self.content w) };
 }
 
 /// A value that is compared by its text. It takes no memory.
@@ -32,8 +35,10 @@ pub trait DerOrd: Encode {
     /// has more than 2^32 - 1 octets.
     fn der_cmp(&self, other: &Self) -> Result<Ordering, Error>
         ensures ok { IfOk result (λ o. o ≡ octet_cmp (Self.canon self.now) (Self.canon other.now)) }
-        ensures err { IfErr result (λ e. Unordered ((¬ (Self.writable self.now)) ⊎ (¬ (Self.writable other.now)))
-            (IsOverlong (length (Self.canon self.now)) ⊎ IsOverlong (length (Self.canon other.now))) e) };
+        ensures err { IfErr result
+            (λ e. Unordered ((¬ (Self.writable self.now)) ⊎ (¬ (Self.writable other.now)))
+            (IsOverlong (length (Self.canon self.now))
+            ⊎ IsOverlong (length (Self.canon other.now))) e) };
 }
 
 /// A type whose texts are single elements.
@@ -84,9 +89,13 @@ pub fn pair_cmp<A: DerOrd + ElementText, B: DerOrd>(
     other_first: &A,
     other_second: &B,
 ) -> Result<Ordering, Error>
-    ensures ok { IfOk result (λ o. o ≡ octet_cmp (A.canon first.now ++ B.canon second.now) (A.canon other_first.now ++ B.canon other_second.now)) }
-    ensures err { IfErr result (λ e. Unordered ((¬ (A.writable first.now × B.writable second.now)) ⊎ (¬ (A.writable other_first.now × B.writable other_second.now)))
-        (IsOverlong (length (A.canon first.now ++ B.canon second.now)) ⊎ IsOverlong (length (A.canon other_first.now ++ B.canon other_second.now))) e) }
+    ensures ok { IfOk result (λ o. o ≡ octet_cmp (A.canon first.now ++ B.canon second.now)
+        (A.canon other_first.now ++ B.canon other_second.now)) }
+    ensures err { IfErr result
+        (λ e. Unordered ((¬ (A.writable first.now × B.writable second.now))
+        ⊎ (¬ (A.writable other_first.now × B.writable other_second.now)))
+        (IsOverlong (length (A.canon first.now ++ B.canon second.now))
+        ⊎ IsOverlong (length (A.canon other_first.now ++ B.canon other_second.now))) e) }
 {
     match first.der_cmp(other_first)? {
         Ordering::Equal => second.der_cmp(other_second),

@@ -9,7 +9,8 @@ use asn1_core::{Error, Length, Writer};
 /// How many octets the texts of both values have. `Malformed` exactly where one has none, `Overlength` only where there are more
 /// than 2^32 - 1.
 pub fn pair_len<A: Encode, B: Encode>(first: &A, second: &B) -> Result<Length, Error>
-    ensures measured { Measures ((¬ (A.writable first.now)) ⊎ (¬ (B.writable second.now))) (A.canon first.now ++ B.canon second.now) result }
+    ensures measured { Measures ((¬ (A.writable first.now)) ⊎ (¬ (B.writable second.now)))
+        (A.canon first.now ++ B.canon second.now) result }
     ensures lawful { OnOk result (A.writable first.now × B.writable second.now) }
 {
     let one = first.encoded_len()?;
@@ -27,7 +28,8 @@ pub fn write_pair<A: Encode, B: Encode, W: Writer>(
     first: &A,
     second: &B,
 ) -> Result<(), Error>
-    ensures written { Writes W.sink ((¬ (A.writable first.now)) ⊎ (¬ (B.writable second.now))) (IsOverlong (length (A.canon first.now ++ B.canon second.now)))
+    ensures written { Writes W.sink ((¬ (A.writable first.now)) ⊎ (¬ (B.writable second.now)))
+        (IsOverlong (length (A.canon first.now ++ B.canon second.now)))
         (A.canon first.now ++ B.canon second.now) w.old result w.new }
     ensures short { OnOk result (IsShort (A.canon first.now ++ B.canon second.now)) }
     ensures lawful { OnOk result (A.writable first.now × B.writable second.now) }

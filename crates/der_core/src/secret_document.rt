@@ -25,7 +25,8 @@ impl SecretDocument {
     /// The document of these octets. `Malformed` exactly where they are not one whole SEQUENCE; else `Memory` alone.
     pub fn from_der(alloc: Global, bytes: &[u8]) -> Result<SecretDocument, Error>
         ensures { MatchResult result (λ d. d.document.octets ≡ bytes.now)
-            (λ e. ((e ≡ Memory) × IsSequence bytes.now) ⊎ ((e ≡ Malformed) × (¬ (IsSequence bytes.now)))) }
+            (λ e. ((e ≡ Memory) × IsSequence bytes.now)
+            ⊎ ((e ≡ Malformed) × (¬ (IsSequence bytes.now)))) }
     {
         match Document::from_der(alloc, bytes) {
             Ok(document) => Ok(SecretDocument { document }),
@@ -38,7 +39,10 @@ impl SecretDocument {
     pub fn encode_msg<T: Encode>(alloc: Global, v: &T) -> Result<SecretDocument, Error>
         ensures ok { IfOk result (λ d. d.document.octets ≡ T.canon v.now) }
         ensures lawful { OnOk result (T.writable v.now) }
-        ensures err { IfErr result (λ e. Cause ((¬ (T.writable v.now)) ⊎ (IsShort (T.canon v.now) × (¬ (IsSequence (T.canon v.now))))) (IsOverlong (length (T.canon v.now))) (Unit {0}) None 0 0 0 e) }
+        ensures err { IfErr result
+            (λ e. Cause ((¬ (T.writable v.now))
+            ⊎ (IsShort (T.canon v.now) × (¬ (IsSequence (T.canon v.now)))))
+            (IsOverlong (length (T.canon v.now))) (Unit {0}) None 0 0 0 e) }
     {
         match Document::encode_msg(alloc, v) {
             Ok(document) => Ok(SecretDocument { document }),
@@ -68,7 +72,8 @@ impl SecretDocument {
         alloc: Global,
         path: &str,
     ) -> Result<SecretDocument, Error>
-        ensures { IfErr result (λ e. (e ≡ File) ⊎ (e ≡ Overlength) ⊎ (e ≡ Malformed) ⊎ (e ≡ Memory)) }
+        ensures { IfErr result (λ e. (e ≡ File) ⊎ (e ≡ Overlength) ⊎ (e ≡ Malformed)
+            ⊎ (e ≡ Memory)) }
     {
         match Document::read_der_file(rt, alloc, path) {
             Ok(document) => Ok(SecretDocument { document }),

@@ -7,7 +7,8 @@ use asn1_core::{Error, Length, element_len};
 
 /// The length of a value of `n` octets. `Overlength` exactly where its element would have more than 2^32 - 1 octets.
 pub(crate) fn checked_len(n: usize) -> Result<Length, Error>
-    ensures { MatchResult result (λ k. (k.value ≡ n) × IsHeader n) (λ e. (e ≡ Overlength) × (¬ (IsHeader n))) }
+    ensures { MatchResult result (λ k. (k.value ≡ n) × IsHeader n) (λ e. (e ≡ Overlength)
+        × (¬ (IsHeader n))) }
 {
     if n > 0xffff_ffff {
         return Err(Error::Overlength);

@@ -79,11 +79,14 @@ pub fn cbc_encrypt_padded<C: BlockCipher>(
     pos: usize,
 ) -> Result<usize, ModeError>
     requires { length iv.now ≡ C.BLOCK }
-    ensures length { IfOk result (λ len. (len ≤ length buffer.old) × (len ≡ length (padded (take pos buffer.old) C.BLOCK))) }
+    ensures length { IfOk result (λ len. (len ≤ length buffer.old)
+        × (len ≡ length (padded (take pos buffer.old) C.BLOCK))) }
     ensures sealed { IfOk result (λ len.
-        uncbc (C.decryption cipher.now) C.BLOCK iv.now (take len buffer.new) ≡ padded (take pos buffer.old) C.BLOCK) }
+        uncbc (C.decryption cipher.now) C.BLOCK iv.now (take len buffer.new)
+        ≡ padded (take pos buffer.old) C.BLOCK) }
     ensures behind { IfOk result (λ len. drop len buffer.new ≡ drop len buffer.old) }
-    ensures no_room { (result ≡ Err ModeError.NoRoom) ↔ (length buffer.old < pos + pad_count C.BLOCK pos) }
+    ensures no_room { (result ≡ Err ModeError.NoRoom)
+        ↔ (length buffer.old < pos + pad_count C.BLOCK pos) }
     ensures refused { IfErr result (λ e. (e ≡ ModeError.NoRoom) × (buffer.new ≡ buffer.old)) }
 {
     if pos > buffer.len() {
@@ -112,13 +115,16 @@ pub fn cbc_decrypt_padded<C: BlockCipher>(
 ) -> Result<usize, ModeError>
     requires { length iv.now ≡ C.BLOCK }
     ensures text { IfOk result (λ len. (len ≤ length buffer.new)
-        × (padded (take len buffer.new) C.BLOCK ≡ uncbc (C.decryption cipher.now) C.BLOCK iv.now buffer.old)) }
-    ensures opened { OnOk result (buffer.new ≡ uncbc (C.decryption cipher.now) C.BLOCK iv.now buffer.old) }
+        × (padded (take len buffer.new) C.BLOCK
+        ≡ uncbc (C.decryption cipher.now) C.BLOCK iv.now buffer.old)) }
+    ensures opened { OnOk result
+        (buffer.new ≡ uncbc (C.decryption cipher.now) C.BLOCK iv.now buffer.old) }
     ensures bad_length { (result ≡ Err ModeError.BadLength)
         ↔ ((length buffer.old ≡ 0) ⊎ (length buffer.old % C.BLOCK ≢ 0)) }
     ensures unchanged { result ≡ Err ModeError.BadLength → buffer.new ≡ buffer.old }
     ensures bad_padding { result ≡ Err ModeError.BadPadding →
-        (m : List ℕ) → padded m C.BLOCK ≢ uncbc (C.decryption cipher.now) C.BLOCK iv.now buffer.old }
+        (m : List ℕ) → padded m C.BLOCK ≢ uncbc
+        (C.decryption cipher.now) C.BLOCK iv.now buffer.old }
     ensures opened_then { result ≡ Err ModeError.BadPadding →
         buffer.new ≡ uncbc (C.decryption cipher.now) C.BLOCK iv.now buffer.old }
     ensures refused { IfErr result (λ e. (e ≡ ModeError.BadLength) ⊎ (e ≡ ModeError.BadPadding)) }

@@ -36,7 +36,8 @@ fn product(block: u128, table: &[u128; 16]) -> u128
 fn absorb(y: u128, piece: &[u8], table: &[u128; 16]) -> u128
     requires { length piece.now ≤ 16 }
     ensures { (h : ℕ) → AreProducts h table.now
-        → result ≡ times (bit_xor y (from_be_bytes w128 (piece.now ++ replicate (16 - length piece.now) 0))) h }
+        → result ≡ times (bit_xor y
+        (from_be_bytes w128 (piece.now ++ replicate (16 - length piece.now) 0))) h }
 {
     product(y ^ u128::from_be_bytes(filled_block(piece)), table)
 }
@@ -46,7 +47,8 @@ fn absorb_rest(y: u128, rest: &[u8], table: &[u128; 16]) -> u128
     requires { length rest.now < 16 }
     ensures none { length rest.now ≡ 0 → result ≡ y }
     ensures some { 0 < length rest.now → (h : ℕ) → AreProducts h table.now
-        → result ≡ times (bit_xor y (from_be_bytes w128 (rest.now ++ replicate (16 - length rest.now) 0))) h }
+        → result ≡ times (bit_xor y
+        (from_be_bytes w128 (rest.now ++ replicate (16 - length rest.now) 0))) h }
 {
     if rest.is_empty() {
         y

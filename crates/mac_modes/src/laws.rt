@@ -24,6 +24,7 @@ pub fn padded_text_is_unique()
 /// Two texts that GCM seals to the same are the same: so what `gcm_decrypt` answers is the only text of its ciphertext
 /// and tag.
 pub fn sealed_text_is_unique<C: BlockCipher>()
-    ensures { C.BLOCK ≡ 16 → (s : C) (nonce m k : List ℕ) → length nonce ≡ 12 → All (λ octet. octet < 256) nonce
+    ensures { C.BLOCK ≡ 16 → (s : C) (nonce m k : List ℕ) → length nonce ≡ 12
+        → All (λ octet. octet < 256) nonce
         → gcm (C.encryption s) nonce m ≡ gcm (C.encryption s) nonce k → m ≡ k }
 {}

@@ -40,7 +40,8 @@ pub trait Prf: Sized + Drop {
     /// refuses the key.
     fn new_from_slice(key: &[u8]) -> Result<Self, InvalidLength>
         ensures { MatchResult result
-            (λ f. (takes_key key.now ≡ true) × holds f key.now []) (λ _. takes_key key.now ≡ false) };
+            (λ f. (takes_key key.now ≡ true) × holds f key.now []) (λ _. takes_key key.now
+            ≡ false) };
 
     /// The function under the same key, before its first piece. It says so only of a function that was fed no piece
     /// yet, so no state of a hash has to be copied.
@@ -63,7 +64,8 @@ pub trait Prf: Sized + Drop {
 /// Writes the answer at `message` into the first `P::OUTPUT` octets of `out`, under the key of a function that was
 /// fed no piece yet. Those behind stay as they were, and `keyed` can be used again.
 pub fn answer_at<P: Prf>(keyed: &P, message: &[u8], out: &mut [u8; 64])
-    ensures { (k : List ℕ) → P.holds keyed.now k [] → out.new ≡ P.prf k message.now ++ drop P.OUTPUT out.old }
+    ensures { (k : List ℕ) → P.holds keyed.now k [] → out.new
+        ≡ P.prf k message.now ++ drop P.OUTPUT out.old }
 {
     let mut function = keyed.copy();
     function.update(message);

@@ -28,7 +28,10 @@ impl<const MAX: usize> Model for ShortOctets<MAX> {
 
     ghost inverse = { λ d. record { octets = padded MAX d; size = length d } };
 
-    ghost inverse_ok = { λ a h i. record { octets = padded_take MAX a.size a.octets h i; size = length-take_padded MAX a.size a.octets h i } };
+    ghost inverse_ok = { λ a h i. record {
+      octets = padded_take MAX a.size a.octets h i;
+      size = length-take_padded MAX a.size a.octets h i;
+    } };
 }
 
 impl<const MAX: usize> ShortOctets<MAX> {

@@ -50,7 +50,9 @@ impl Draw for DrawnBytes {
         ensures short { FailsShort (Some self.old.left) result out.old }
         ensures cause { HasCause self.old.faults self.new.faults result }
         ensures no_fault { OnOk result (self.new.faults ≡ self.old.faults) }
-        ensures failed { OnErr result ((self.new ≡ record self.old { faults = one_more self.old.faults }) × (out.new ≡ out.old)) }
+        ensures failed { OnErr result
+            ((self.new ≡ record self.old { faults = one_more self.old.faults })
+            × (out.new ≡ out.old)) }
     {
         let rest = &self.octets.as_slice()[self.at..];
         if rest.len() < out.len() {

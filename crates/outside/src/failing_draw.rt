@@ -21,7 +21,12 @@ pub struct FailingDraw<D> {
 impl<D> Model for FailingDraw<D> {
     ghost Value = { FailingState D };
 
-    ghost view = { λ d. record { inner = d.inner; failing = d.failing; call = d.call; faults = d.faults } };
+    ghost view = { λ d. record {
+      inner = d.inner;
+      failing = d.failing;
+      call = d.call;
+      faults = d.faults;
+    } };
 }
 
 impl<D: Draw> FailingDraw<D> {
@@ -50,13 +55,18 @@ impl<D: Draw> Draw for FailingDraw<D> {
         ensures drawn { Fills None None result out.new }
         ensures short { FailsShort None result out.old }
         ensures cause { HasCause self.old.faults self.new.faults result }
-        ensures listed { IsListed self.old → IsErr result × (self.new.inner ≡ self.old.inner) × (out.new ≡ out.old) }
-        ensures inner_drawn { ¬ IsListed self.old → Fills (D.left self.old.inner) (D.left self.new.inner) result out.new }
-        ensures inner_short { ¬ IsListed self.old → FailsShort (D.left self.old.inner) result out.old }
-        ensures inner_cause { ¬ IsListed self.old → HasCause (D.faults self.old.inner) (D.faults self.new.inner) result }
+        ensures listed { IsListed self.old → IsErr result × (self.new.inner ≡ self.old.inner)
+            × (out.new ≡ out.old) }
+        ensures inner_drawn { ¬ IsListed self.old
+            → Fills (D.left self.old.inner) (D.left self.new.inner) result out.new }
+        ensures inner_short { ¬ IsListed self.old
+            → FailsShort (D.left self.old.inner) result out.old }
+        ensures inner_cause { ¬ IsListed self.old → HasCause (D.faults self.old.inner)
+            (D.faults self.new.inner) result }
         ensures no_fault { OnOk result (self.new.faults ≡ self.old.faults) }
         ensures fault { OnErr result (self.new.faults ≡ one_more self.old.faults) }
-        ensures next { (self.new.call ≡ one_more self.old.call) × (self.new.failing ≡ self.old.failing) }
+        ensures next { (self.new.call ≡ one_more self.old.call)
+            × (self.new.failing ≡ self.old.failing) }
     {
         let listed = self.failing.as_slice().contains(&self.call);
         self.call = self.call.saturating_add(1);

@@ -27,7 +27,13 @@ impl Model for MemorySink {
 
     ghost Value = { SinkState };
 
-    ghost view = { λ s. record { written = s.bytes.items; room = s.room; failing = s.failing; call = s.call; faults = s.faults } };
+    ghost view = { λ s. record {
+      written = s.bytes.items;
+      room = s.room;
+      failing = s.failing;
+      call = s.call;
+      faults = s.faults;
+    } };
 
     ghost invariant = { λ s. vec_len s.bytes + s.room ≤ vec_capacity s.bytes };
 }
@@ -37,7 +43,14 @@ impl MemorySink {
 
     /// A sink with room for `room` octets. The writes that `failing` lists fail. `AllocError` where there is no memory.
     pub fn new(alloc: Global, room: usize, failing: Items<u64>) -> Result<MemorySink, AllocError>
-        ensures { IfOk result (λ s. s ≡ record { written = []; room = room; failing = failing; call = 0; faults = 0 }) }
+        ensures { IfOk result
+            (λ s. s ≡ record {
+              written = [];
+              room = room;
+              failing = failing;
+              call = 0;
+              faults = 0;
+            }) }
     {
         let bytes = Vec::with_capacity(alloc, room)?;
         Ok(MemorySink {

@@ -26,7 +26,13 @@ impl Model for MemorySource {
 
     ghost Value = { SourceState };
 
-    ghost view = { λ s. record { rest = drop s.at s.octets; piece = s.piece; failing = s.failing; call = s.call; faults = s.faults } };
+    ghost view = { λ s. record {
+      rest = drop s.at s.octets;
+      piece = s.piece;
+      failing = s.failing;
+      call = s.call;
+      faults = s.faults;
+    } };
 
     ghost invariant = { λ s. (s.at ≤ length s.octets) × (0 < s.piece) };
 }
@@ -38,7 +44,13 @@ impl MemorySource {
     /// Caller: `piece` is at least 1.
     pub fn new(octets: Octets, piece: usize, failing: Items<u64>) -> MemorySource
         requires { 0 < piece }
-        ensures { result ≡ record { rest = octets; piece = piece; failing = failing; call = 0; faults = 0 } }
+        ensures { result ≡ record {
+          rest = octets;
+          piece = piece;
+          failing = failing;
+          call = 0;
+          faults = 0;
+        } }
     {
         MemorySource {
             octets,

@@ -42,7 +42,8 @@ impl<R: Read + Drop> Draw for ReadDraw<R> {
         ensures drawn { Fills None None result out.new }
         ensures short { FailsShort None result out.old }
         ensures cause { HasCause self.old.faults self.new.faults result }
-        ensures read { OnOk result (Consumes (R.remaining self.old.inner) (R.remaining self.new.inner) out.new) }
+        ensures read { OnOk result
+            (Consumes (R.remaining self.old.inner) (R.remaining self.new.inner) out.new) }
         ensures no_fault { OnOk result (self.new.faults ≡ self.old.faults) }
         ensures fault { OnErr result (self.new.faults ≡ one_more self.old.faults) }
     {

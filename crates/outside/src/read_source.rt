@@ -43,7 +43,8 @@ impl<R: Read + Drop> Source for ReadSource<R> {
         ensures bound { ReadsAtMost result buf.new }
         ensures octets { Reads None None result buf.new }
         ensures cause { HasCause self.old.faults self.new.faults result }
-        ensures taken { ReadConsumes (R.remaining self.old.inner) (R.remaining self.new.inner) result buf.new }
+        ensures taken { ReadConsumes (R.remaining self.old.inner)
+            (R.remaining self.new.inner) result buf.new }
         ensures no_fault { OnOk result (self.new.faults ≡ self.old.faults) }
         ensures fault { OnErr result (self.new.faults ≡ one_more self.old.faults) }
     {

@@ -43,7 +43,8 @@ impl<W: Write + Drop> Sink for WriteSink<W> {
         ensures bound { WritesAtMost result piece.now }
         ensures octets { Writes None None result piece.now }
         ensures cause { HasCause self.old.faults self.new.faults result }
-        ensures taken { WriteAppends (W.contents self.old.inner) (W.contents self.new.inner) result piece.now }
+        ensures taken { WriteAppends (W.contents self.old.inner)
+            (W.contents self.new.inner) result piece.now }
         ensures no_fault { OnOk result (self.new.faults ≡ self.old.faults) }
         ensures fault { OnErr result (self.new.faults ≡ one_more self.old.faults) }
     {

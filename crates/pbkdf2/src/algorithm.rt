@@ -84,7 +84,8 @@ impl FromStr for Algorithm {
 
     type Err = Error;
 
-    ghost from_str_gives = { λ t r. MatchResult r (λ a. t ≡ identifier_of a) (λ e. (e ≡ cause.Algorithm) × NamesNone t) };
+    ghost from_str_gives = { λ t r. MatchResult r (λ a. t ≡ identifier_of a)
+        (λ e. (e ≡ cause.Algorithm) × NamesNone t) };
 
     fn from_str(id: &str) -> Result<Self, Error> {
         Algorithm::new(id)
@@ -97,7 +98,8 @@ impl<'a> TryFrom<&'a str> for Algorithm {
 
     type Error = Error;
 
-    ghost try_from_gives = { λ t r. MatchResult r (λ a. t.now ≡ identifier_of a) (λ e. (e ≡ cause.Algorithm) × NamesNone t.now) };
+    ghost try_from_gives = { λ t r. MatchResult r (λ a. t.now ≡ identifier_of a)
+        (λ e. (e ≡ cause.Algorithm) × NamesNone t.now) };
 
     fn try_from(id: &'a str) -> Result<Self, Error> {
         Algorithm::new(id)

@@ -16,7 +16,8 @@ pub(crate) fn derive_block<P: Prf, L: Ledger>(
     number: u32,
     steps: &mut Steps<L>,
 ) -> [u8; 64]
-    ensures value { (k : List ℕ) → P.holds keyed.now k [] → take P.OUTPUT result ≡ block (P.prf k) salt.now rounds number }
+    ensures value { (k : List ℕ) → P.holds keyed.now k [] → take P.OUTPUT result
+        ≡ block (P.prf k) salt.now rounds number }
     ensures steps { steps.new ≡ steps.old + max rounds 1 }
 {
     let mut last = [0u8; 64];

@@ -20,8 +20,10 @@ pub fn pbkdf2_counted<P: Prf, L: Ledger>(
 ) -> Result<(), InvalidLength>
     requires { block_count (length res.old) P.OUTPUT < 2 ^ 32 }
     ensures key { OnOk result (P.takes_key password.now ≡ true) }
-    ensures value { OnOk result (res.new ≡ pbkdf2 (P.prf password.now) P.OUTPUT salt.now rounds (length res.old)) }
-    ensures steps { OnOk result (steps.new ≡ steps.old + max rounds 1 * block_count (length res.old) P.OUTPUT) }
+    ensures value { OnOk result (res.new ≡ pbkdf2 (P.prf password.now) P.OUTPUT salt.now rounds
+        (length res.old)) }
+    ensures steps { OnOk result
+        (steps.new ≡ steps.old + max rounds 1 * block_count (length res.old) P.OUTPUT) }
     ensures at_most { steps.new ≤ steps.old + max rounds 1 * block_count (length res.old) P.OUTPUT }
     ensures refused_key { OnErr result (P.takes_key password.now ≡ false) }
     ensures refused_res { OnErr result (res.new ≡ res.old) }
@@ -51,7 +53,8 @@ fn pbkdf2_from<P: Prf, L: Ledger>(
     requires some { 0 < blank.parts }
     requires few { block_count (length res.old) P.OUTPUT < 2 ^ 32 }
     ensures key { OnOk result (P.takes_key password.now ≡ true) }
-    ensures value { OnOk result (res.new ≡ pbkdf2 (P.prf password.now) P.OUTPUT salt.now rounds (length res.old)) }
+    ensures value { OnOk result (res.new ≡ pbkdf2 (P.prf password.now) P.OUTPUT salt.now rounds
+        (length res.old)) }
     ensures refused_key { OnErr result (P.takes_key password.now ≡ false) }
     ensures refused_res { OnErr result (res.new ≡ res.old) }
 {
@@ -70,7 +73,8 @@ pub fn pbkdf2<P: Prf>(
 ) -> Result<(), InvalidLength>
     requires { block_count (length res.old) P.OUTPUT < 2 ^ 32 }
     ensures key { OnOk result (P.takes_key password.now ≡ true) }
-    ensures value { OnOk result (res.new ≡ pbkdf2 (P.prf password.now) P.OUTPUT salt.now rounds (length res.old)) }
+    ensures value { OnOk result (res.new ≡ pbkdf2 (P.prf password.now) P.OUTPUT salt.now rounds
+        (length res.old)) }
     ensures refused_key { OnErr result (P.takes_key password.now ≡ false) }
     ensures refused_res { OnErr result (res.new ≡ res.old) }
 {
@@ -85,7 +89,8 @@ pub fn pbkdf2_array<P: Prf, const N: usize>(
 ) -> Result<[u8; N], InvalidLength>
     requires { block_count N P.OUTPUT < 2 ^ 32 }
     ensures key { OnOk result (P.takes_key password.now ≡ true) }
-    ensures value { IfOk result (λ res. res ≡ pbkdf2 (P.prf password.now) P.OUTPUT salt.now rounds N) }
+    ensures value { IfOk result
+        (λ res. res ≡ pbkdf2 (P.prf password.now) P.OUTPUT salt.now rounds N) }
     ensures refused_key { OnErr result (P.takes_key password.now ≡ false) }
 {
     let mut res = [0u8; N];

@@ -39,7 +39,8 @@ impl Pbkdf2 {
     /// algorithm.
     pub fn hash_password_into(&self, password: &[u8], salt: &[u8], out: &mut [u8])
         requires { block_count (length out.old) (output_of self.now.algorithm) < 2 ^ 32 }
-        ensures { out.new ≡ derived self.now.algorithm password.now salt.now self.now.params.rounds (length out.old) }
+        ensures { out.new ≡ derived self.now.algorithm password.now salt.now self.now.params.rounds
+            (length out.old) }
     {
         pbkdf2_hmac_with_params(password, salt, self.algorithm, self.params, out);
     }
@@ -76,7 +77,8 @@ impl From<Params> for Pbkdf2 {
 impl Kdf for Pbkdf2 {
     ghost use Rattle.std.specs.Prelude.{Ok};
 
-    ghost derives = { λ h q salt old new r. (new ≡ derived h.algorithm q salt h.params.rounds (length old)) × (r ≡ Ok tt) };
+    ghost derives = { λ h q salt old new r.
+        (new ≡ derived h.algorithm q salt h.params.rounds (length old)) × (r ≡ Ok tt) };
 
     /// `hash_password_into`, which never refuses.
     fn derive_key(&self, password: &[u8], salt: &[u8], out: &mut [u8]) -> Result<(), Error> {

@@ -65,7 +65,8 @@ impl Params {
 
     /// This number of rounds, and 32 octets of output. `ParamsInvalid` exactly where there are fewer than 1,000 rounds.
     pub const fn new(rounds: u32) -> Result<Self, Error>
-        ensures ok { IfOk result (λ p. (p ≡ record { rounds = rounds; output_len = 32 }) × (1000 ≤ rounds)) }
+        ensures ok { IfOk result (λ p. (p ≡ record { rounds = rounds; output_len = 32 })
+            × (1000 ≤ rounds)) }
         ensures err { IfErr result (λ e. (e ≡ Error.ParamsInvalid) × (rounds < 1000)) }
     {
         Self::new_with_output_len(rounds, Self::RECOMMENDED_OUTPUT_LENGTH)
@@ -74,8 +75,10 @@ impl Params {
     /// This number of rounds and this length of the output in octets. `ParamsInvalid` exactly where there are fewer than
     /// 1,000 rounds, or the length is less than 10 or more than 64.
     pub const fn new_with_output_len(rounds: u32, output_len: usize) -> Result<Self, Error>
-        ensures ok { IfOk result (λ p. (p ≡ record { rounds = rounds; output_len = output_len }) × InBounds p) }
-        ensures err { IfErr result (λ e. (e ≡ Error.ParamsInvalid) × ((rounds < 1000) ⊎ (output_len < 10) ⊎ (64 < output_len))) }
+        ensures ok { IfOk result (λ p. (p ≡ record { rounds = rounds; output_len = output_len })
+            × InBounds p) }
+        ensures err { IfErr result (λ e. (e ≡ Error.ParamsInvalid)
+            × ((rounds < 1000) ⊎ (output_len < 10) ⊎ (64 < output_len))) }
     {
         if rounds < Self::MIN_ROUNDS
             || output_len < Self::MIN_OUTPUT_LENGTH
@@ -147,7 +150,8 @@ impl FromStr for Params {
 
     ghost from_str_gives = { λ t r. MatchResult r
         (λ p. IsNumber t p.rounds × (p.output_len ≡ 32))
-        (λ e. ((e ≡ EncodingInvalid) × ((n : ℕ) → IsNumber t n → ⊥)) ⊎ ((e ≡ ParamsInvalid) × ((n : ℕ) × (IsNumber t n × (n < 1000))))) };
+        (λ e. ((e ≡ EncodingInvalid) × ((n : ℕ) → IsNumber t n → ⊥))
+        ⊎ ((e ≡ ParamsInvalid) × ((n : ℕ) × (IsNumber t n × (n < 1000))))) };
 
     /// Reads a number of rounds as `u32` reads it, and calls `new`: `EncodingInvalid` exactly where the text is no number
     /// below 2^32.

@@ -97,7 +97,9 @@ impl Pbkdf2 {
         password: &[u8],
     ) -> Result<PasswordHash, Error>
         ensures drawn { MatchResult result
-            (λ h. (salt : List ℕ) × ((length salt ≡ 16) × Consumes (D.left draw.old) (D.left draw.new) salt × (h ≡ hash_of self.now.algorithm self.now.params password.now salt)))
+            (λ h. (salt : List ℕ)
+            × ((length salt ≡ 16) × Consumes (D.left draw.old) (D.left draw.new) salt
+            × (h ≡ hash_of self.now.algorithm self.now.params password.now salt)))
             (λ e. (e ≡ Error.Rng) × Keeps (D.left draw.old) (D.left draw.new)) }
         ensures short { IfSome (D.left draw.old) (λ left. IsErr result ↔ (length left < 16)) }
         ensures cause { HasCause (D.faults draw.old) (D.faults draw.new) result }

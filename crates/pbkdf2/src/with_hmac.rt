@@ -15,7 +15,8 @@ use steps::Steps;
 /// rounds; 0 rounds run like 1. Caller: `res` has fewer than 2^32 blocks of `H::OUTPUT` octets.
 pub fn pbkdf2_hmac<H: HashFn>(password: &[u8], salt: &[u8], rounds: u32, res: &mut [u8])
     requires { block_count (length res.old) H.OUTPUT < 2 ^ 32 }
-    ensures { res.new ≡ pbkdf2 (hmac H.digest H.BLOCK password.now) H.OUTPUT salt.now rounds (length res.old) }
+    ensures { res.new ≡ pbkdf2 (hmac H.digest H.BLOCK password.now) H.OUTPUT salt.now rounds
+        (length res.old) }
 {
     let _ = pbkdf2::<Hmac<H>>(password, salt, rounds, res);
 }
@@ -29,7 +30,8 @@ pub fn pbkdf2_hmac_counted<H: HashFn, L: Ledger>(
     steps: &mut Steps<L>,
 )
     requires { block_count (length res.old) H.OUTPUT < 2 ^ 32 }
-    ensures value { res.new ≡ pbkdf2 (hmac H.digest H.BLOCK password.now) H.OUTPUT salt.now rounds (length res.old) }
+    ensures value { res.new ≡ pbkdf2 (hmac H.digest H.BLOCK password.now) H.OUTPUT salt.now rounds
+        (length res.old) }
     ensures steps { steps.new ≡ steps.old + max rounds 1 * block_count (length res.old) H.OUTPUT }
 {
     let _ = pbkdf2_counted::<Hmac<H>, L>(password, salt, rounds, res, steps);

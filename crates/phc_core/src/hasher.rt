@@ -21,7 +21,8 @@ pub trait CustomizedPasswordHasher<H> {
     type Params;
 
     // what the call answers at a password, a salt, an identifier, a version and parameters
-    ghost customizes: { Self → List ℕ → List ℕ → Option (List ℕ) → Option ℕ → Self.Params → Result H Error → Type 0 };
+    ghost customizes: { Self → List ℕ → List ℕ → Option (List ℕ) → Option ℕ → Self.Params
+        → Result H Error → Type 0 };
 
     /// The hash of a password under a salt, by the algorithm of this identifier and version, with these parameters.
     /// Without an identifier it is the algorithm of the implementation's choice. The refusals are those of the
@@ -34,7 +35,8 @@ pub trait CustomizedPasswordHasher<H> {
         version: Option<Decimal>,
         params: Self::Params,
     ) -> Result<H, Error>
-        ensures { customizes self.now password.now salt.now (seen alg_id.entry) version params result };
+        ensures { customizes self.now password.now salt.now
+            (seen alg_id.entry) version params result };
 }
 
 /// Tests passwords against password hashes of type `H`.

@@ -33,7 +33,8 @@ impl Line {
     fn push(&mut self, text: &str) -> Result<(), Error>
         ensures ok { OnOk result (self.new ≡ self.old ++ text.now) }
         ensures fits { OnOk result (length self.old + length text.now ≤ 127) }
-        ensures err { IfErr result (λ e. (e ≡ Error.ParamsInvalid) × (127 < length self.old + length text.now)) }
+        ensures err { IfErr result (λ e. (e ≡ Error.ParamsInvalid)
+            × (127 < length self.old + length text.now)) }
     {
         if text.len() > 127 - self.octets.len() {
             return Err(Error::ParamsInvalid);
@@ -54,7 +55,8 @@ impl Line {
 pub(crate) fn line_with_pair(text: &str, name: &str, value: &str) -> Result<Line, Error>
     ensures ok { IfOk result (λ l. l ≡ with_pair text.now (name.now ++ 61 ∷ value.now)) }
     ensures fits { OnOk result (length (with_pair text.now (name.now ++ 61 ∷ value.now)) ≤ 127) }
-    ensures err { IfErr result (λ e. (e ≡ Error.ParamsInvalid) × (127 < length (with_pair text.now (name.now ++ 61 ∷ value.now)))) }
+    ensures err { IfErr result (λ e. (e ≡ Error.ParamsInvalid)
+        × (127 < length (with_pair text.now (name.now ++ 61 ∷ value.now)))) }
 {
     let mut line = Line::new();
     if !text.is_empty() {

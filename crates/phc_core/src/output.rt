@@ -33,7 +33,8 @@ impl Output {
     /// The output of these octets. `OutputSize` exactly where they are fewer than 10 or more than 64.
     pub fn new(octets: &[u8]) -> Result<Output, Error>
         ensures ok { IfOk result (λ v. (v ≡ octets.now) × IsOutput octets.now) }
-        ensures err { IfErr result (λ e. (e ≡ Error.OutputSize) × ((length octets.now < 10) ⊎ (64 < length octets.now))) }
+        ensures err { IfErr result (λ e. (e ≡ Error.OutputSize)
+            × ((length octets.now < 10) ⊎ (64 < length octets.now))) }
     {
         if octets.len() < 10 || octets.len() > 64 {
             return Err(Error::OutputSize);
@@ -62,7 +63,8 @@ impl Output {
     /// The output that this field writes in Base64. `EncodingInvalid` exactly where it writes none.
     pub(crate) fn read(field: &str) -> Result<Output, Error>
         ensures ok { IfOk result (λ v. IsOutput v × (field.now ≡ base64 v)) }
-        ensures err { IfErr result (λ e. (e ≡ Error.EncodingInvalid) × ((v : List ℕ) → IsOutput v → field.now ≡ base64 v → ⊥)) }
+        ensures err { IfErr result (λ e. (e ≡ Error.EncodingInvalid)
+            × ((v : List ℕ) → IsOutput v → field.now ≡ base64 v → ⊥)) }
     {
         if field.len() > 86 {
             return Err(Error::EncodingInvalid);

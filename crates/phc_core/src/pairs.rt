@@ -8,7 +8,8 @@ use crate::value::{Value, is_value};
 
 /// The first piece of a parameter text, and what stands behind its comma.
 fn first_piece(text: &str) -> Option<(&str, &str)>
-    ensures { MatchOption result (pieces text.now ≡ text.now ∷ []) (λ x. (pieces text.now ≡ x.0.now ∷ pieces x.1.now) × (length x.1.now < length text.now)) }
+    ensures { MatchOption result (pieces text.now ≡ text.now ∷ [])
+        (λ x. (pieces text.now ≡ x.0.now ∷ pieces x.1.now) × (length x.1.now < length text.now)) }
 {
     text.split_once(',')
 }
@@ -80,7 +81,8 @@ pub(crate) fn count_pieces(text: &str) -> usize
 
 /// The piece at place `i`, counted from 0.
 pub(crate) fn piece_at(text: &str, i: usize) -> Option<&str>
-    ensures { MatchOption result (length (pieces text.now) ≤ i) (λ p. (i < length (pieces text.now)) × (p.now ≡ get_or (pieces text.now) i [])) }
+    ensures { MatchOption result (length (pieces text.now) ≤ i) (λ p. (i < length (pieces text.now))
+        × (p.now ≡ get_or (pieces text.now) i [])) }
 {
     let mut rest = text;
     for k in 0..i {
@@ -97,7 +99,8 @@ pub(crate) fn piece_at(text: &str, i: usize) -> Option<&str>
 
 /// The name and the value in a piece, where it is a parameter.
 pub(crate) fn pair_of(piece: &str) -> Option<(Ident, Value)>
-    ensures { MatchOption result (IsPair piece.now → ⊥) (λ p. (p.0 ≡ name_in piece.now) × (p.1 ≡ value_in piece.now)) }
+    ensures { MatchOption result (IsPair piece.now → ⊥) (λ p. (p.0 ≡ name_in piece.now)
+        × (p.1 ≡ value_in piece.now)) }
 {
     let Some((name, value)) = piece.split_once('=') else {
         return None;

@@ -60,7 +60,9 @@ impl ParamsString {
     /// The parameter at place `i`, counted from 0. None exactly where `i` is not below `len`.
     pub fn get(&self, i: usize) -> Option<(Ident, Value)>
         ensures { MatchOption result (length (pairs_of self.now) ≤ i)
-            (λ p. (i < length (pairs_of self.now)) × (p.0 ≡ name_in (get_or (pairs_of self.now) i [])) × (p.1 ≡ value_in (get_or (pairs_of self.now) i []))) }
+            (λ p. (i < length (pairs_of self.now))
+            × (p.0 ≡ name_in (get_or (pairs_of self.now) i []))
+            × (p.1 ≡ value_in (get_or (pairs_of self.now) i []))) }
     {
         let text = self.as_text();
         if text.is_empty() {
@@ -77,8 +79,10 @@ impl ParamsString {
     pub fn add_decimal(&mut self, name: &str, n: Decimal) -> Result<(), Error>
         ensures taken { OnOk result (TakesDecimal self.old name.now n) }
         ensures text { OnOk result (self.new ≡ with_pair self.old (decimal_pair name.now n)) }
-        ensures pairs { OnOk result (pairs_of self.new ≡ pairs_of self.old ++ decimal_pair name.now n ∷ []) }
-        ensures refused { IfErr result (λ e. (e ≡ Error.ParamsInvalid) × (TakesDecimal self.old name.now n → ⊥)) }
+        ensures pairs { OnOk result
+            (pairs_of self.new ≡ pairs_of self.old ++ decimal_pair name.now n ∷ []) }
+        ensures refused { IfErr result (λ e. (e ≡ Error.ParamsInvalid)
+            × (TakesDecimal self.old name.now n → ⊥)) }
         ensures unchanged { OnErr result (self.new ≡ self.old) }
     {
         if !is_ident(name) || name == "v" || !self.lacks(name) {
@@ -95,7 +99,8 @@ impl ParamsString {
     /// The list that a text writes. `EncodingInvalid` exactly where the text is empty or writes none.
     pub(crate) fn read(text: &str) -> Result<ParamsString, Error>
         ensures ok { IfOk result (λ p. (p ≡ text.now) × IsParams text.now × (0 < length text.now)) }
-        ensures err { IfErr result (λ e. (e ≡ Error.EncodingInvalid) × (IsParams text.now → 0 < length text.now → ⊥)) }
+        ensures err { IfErr result (λ e. (e ≡ Error.EncodingInvalid)
+            × (IsParams text.now → 0 < length text.now → ⊥)) }
     {
         if text.len() > 127 {
             return Err(Error::EncodingInvalid);

@@ -32,7 +32,8 @@ impl PasswordHash {
     /// The value of a text. `EncodingInvalid` exactly where the text is no PHC string.
     pub fn new(text: &str) -> Result<PasswordHash, Error>
         ensures ok { IfOk result (λ h. Phc text.now h) }
-        ensures err { IfErr result (λ e. (e ≡ Error.EncodingInvalid) × ((h : PasswordHash) → Phc text.now h → ⊥)) }
+        ensures err { IfErr result (λ e. (e ≡ Error.EncodingInvalid)
+            × ((h : PasswordHash) → Phc text.now h → ⊥)) }
     {
         let Some(inner) = text.strip_prefix('$') else {
             return Err(Error::EncodingInvalid);
@@ -81,7 +82,8 @@ impl FromStr for PasswordHash {
 
     type Err = Error;
 
-    ghost from_str_gives = { λ t r. MatchResult r (λ h. Phc t h) (λ e. (e ≡ EncodingInvalid) × ((h : PasswordHash) → Phc t h → ⊥)) };
+    ghost from_str_gives = { λ t r. MatchResult r (λ h. Phc t h) (λ e. (e ≡ EncodingInvalid)
+        × ((h : PasswordHash) → Phc t h → ⊥)) };
 
     fn from_str(text: &str) -> Result<PasswordHash, Error> {
         PasswordHash::new(text)

@@ -23,7 +23,8 @@ pub(crate) fn cut(text: &str) -> (&str, Option<&str>)
 
 /// What stands behind `v=` in a field that begins so.
 fn version_digits(field: &str) -> Option<&str>
-    ensures { MatchOption result ((r : List ℕ) → field.now ≡ 118 ∷ 61 ∷ r → ⊥) (λ x. field.now ≡ 118 ∷ 61 ∷ x.now) }
+    ensures { MatchOption result ((r : List ℕ) → field.now ≡ 118 ∷ 61 ∷ r → ⊥)
+        (λ x. field.now ≡ 118 ∷ 61 ∷ x.now) }
 {
     match field.strip_prefix('v') {
         Some(rest) => rest.strip_prefix('='),
@@ -100,7 +101,8 @@ pub(crate) fn read_version(
     rest: Option<&str>,
 ) -> Result<(Option<Decimal>, ParamsString, Option<Salt>, Option<Output>), Error>
     ensures ok { IfOk result (λ v. VersionRest (seen rest.entry) v) }
-    ensures err { IfErr result (λ e. (e ≡ Error.EncodingInvalid) × NoVersionRest (seen rest.entry)) }
+    ensures err { IfErr result (λ e. (e ≡ Error.EncodingInvalid)
+        × NoVersionRest (seen rest.entry)) }
 {
     let Some(text) = rest else {
         return Ok((None, ParamsString::new(), None, None));

@@ -33,7 +33,8 @@ impl Salt {
     /// The salt of these octets. `SaltInvalid` exactly where they are fewer than 8 or more than 48.
     pub fn new(octets: &[u8]) -> Result<Salt, Error>
         ensures ok { IfOk result (λ v. (v ≡ octets.now) × IsSalt octets.now) }
-        ensures err { IfErr result (λ e. (e ≡ Error.SaltInvalid) × ((length octets.now < 8) ⊎ (48 < length octets.now))) }
+        ensures err { IfErr result (λ e. (e ≡ Error.SaltInvalid)
+            × ((length octets.now < 8) ⊎ (48 < length octets.now))) }
     {
         if octets.len() < 8 || octets.len() > 48 {
             return Err(Error::SaltInvalid);
@@ -55,7 +56,8 @@ impl Salt {
     /// The salt that this field writes in Base64. `EncodingInvalid` exactly where it writes none.
     pub(crate) fn read(field: &str) -> Result<Salt, Error>
         ensures ok { IfOk result (λ v. IsSalt v × (field.now ≡ base64 v)) }
-        ensures err { IfErr result (λ e. (e ≡ Error.EncodingInvalid) × ((v : List ℕ) → IsSalt v → field.now ≡ base64 v → ⊥)) }
+        ensures err { IfErr result (λ e. (e ≡ Error.EncodingInvalid)
+            × ((v : List ℕ) → IsSalt v → field.now ≡ base64 v → ⊥)) }
     {
         if field.len() > 64 {
             return Err(Error::EncodingInvalid);

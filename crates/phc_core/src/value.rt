@@ -59,7 +59,8 @@ impl Value {
     /// as with a sign, a leading zero or a letter.
     pub fn decimal(&self) -> Result<Decimal, Error>
         ensures ok { IfOk result (λ n. (n < 2 ^ 32) × (self.now ≡ decimal n)) }
-        ensures err { IfErr result (λ e. (e ≡ Error.EncodingInvalid) × ((n : ℕ) → n < 2 ^ 32 → self.now ≡ decimal n → ⊥)) }
+        ensures err { IfErr result (λ e. (e ≡ Error.EncodingInvalid)
+            × ((n : ℕ) → n < 2 ^ 32 → self.now ≡ decimal n → ⊥)) }
     {
         match decimal_of(self.as_str()) {
             Some(n) => Ok(n),

@@ -28,7 +28,8 @@ fn write_salt<W: fmt::Write>(
     hash: Option<Output>,
     f: &mut fmt::Formatter<W>,
 ) -> fmt::Result
-    ensures { DisplaysOnOk W.write_str_gives f.old result (Some (tail (salt_rest salt hash))) f.new }
+    ensures { DisplaysOnOk W.write_str_gives f.old result
+        (Some (tail (salt_rest salt hash))) f.new }
 {
     let Some(octets) = salt else {
         return Ok(());
@@ -45,7 +46,8 @@ fn write_params<W: fmt::Write>(
     hash: Option<Output>,
     f: &mut fmt::Formatter<W>,
 ) -> fmt::Result
-    ensures { DisplaysOnOk W.write_str_gives f.old result (Some (tail (params_rest params.now salt hash))) f.new }
+    ensures { DisplaysOnOk W.write_str_gives f.old result
+        (Some (tail (params_rest params.now salt hash))) f.new }
 {
     let field = params.as_text();
     if !field.is_empty() {
@@ -59,7 +61,9 @@ pub(crate) fn write_version<W: fmt::Write>(
     hash: &PasswordHash,
     f: &mut fmt::Formatter<W>,
 ) -> fmt::Result
-    ensures { DisplaysOnOk W.write_str_gives f.old result (Some (tail (version_rest hash.now.version hash.now.params hash.now.salt hash.now.hash))) f.new }
+    ensures { DisplaysOnOk W.write_str_gives f.old result
+        (Some
+        (tail (version_rest hash.now.version hash.now.params hash.now.salt hash.now.hash))) f.new }
 {
     if let Some(n) = hash.version {
         write!(f, "$v={n}")?;

@@ -36,7 +36,8 @@ pub fn scrypt(
     out: &mut [u8],
 ) -> Result<(), ScryptError>
     ensures key { OnOk result (out.new
-        ≡ scrypt password.now salt.now (2 ^ params.now.log_n) params.now.r params.now.p (length out.old)) }
+        ≡ scrypt password.now salt.now (2 ^ params.now.log_n) params.now.r params.now.p
+        (length out.old)) }
     ensures length { (result ≡ Err ScryptError.InvalidOutputLen)
         ↔ ((length out.old ≡ 0) ⊎ (32 * (2 ^ 32 - 1) < length out.old)) }
     ensures refused { OnErr result (out.new ≡ out.old) }

@@ -34,7 +34,8 @@ impl Params {
     /// These costs. `InvalidParams` exactly where they do not all hold: `log_n` is 1 to 63 and below 16 * `r`; `r` and
     /// `p` are at least 1; `r` * `p` is below 2^30; 128 * `r` * 2^`log_n` and 128 * `r` * `p` are below 2^63.
     pub fn new(log_n: u8, r: u32, p: u32) -> Result<Params, InvalidParams>
-        ensures value { IfOk result (λ params. (params.log_n ≡ log_n) × (params.r ≡ r) × (params.p ≡ p)) }
+        ensures value { IfOk result (λ params. (params.log_n ≡ log_n) × (params.r ≡ r)
+            × (params.p ≡ p)) }
         ensures lawful { OnOk result (Lawful log_n r p) }
         ensures refused { OnErr result (Lawful log_n r p → ⊥) }
     {

@@ -32,7 +32,9 @@ fn keys_are_those_of_the_standard(rt: HostRuntime) {
 
 // A caller of the crate, as `CALLING.md` shows it: a key of 32 octets.
 fn key(alloc: Global, password: &[u8], salt: &[u8], costs: &Params) -> Result<[u8; 32], ScryptError>
-    ensures { IfOk result (λ key. key ≡ scrypt password.now salt.now (2 ^ costs.now.log_n) costs.now.r costs.now.p 32) }
+    ensures { IfOk result
+        (λ key. key
+        ≡ scrypt password.now salt.now (2 ^ costs.now.log_n) costs.now.r costs.now.p 32) }
 {
     let mut key = [0u8; 32];
     scrypt(alloc, password, salt, costs, &mut key)?;

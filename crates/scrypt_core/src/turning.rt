@@ -87,7 +87,8 @@ pub(crate) fn mix_pieces(
     requires room { length v.old ≡ 128 * r * 2 ^ log_n }
     requires even { length even.old ≡ 64 * r }
     requires odd { length odd.old ≡ 64 * r }
-    ensures { b.new ≡ joined (λ i. rom_mix r (2 ^ log_n) (take (128 * r) (drop (128 * r * i) b.old))) p }
+    ensures { b.new ≡ joined
+        (λ i. rom_mix r (2 ^ log_n) (take (128 * r) (drop (128 * r * i) b.old))) p }
 {
     let w = 128 * r;
     for i in 0..p {

@@ -66,7 +66,8 @@ impl<'a, Params: Choice<&'a [u8]>> DecodeValue<&'a [u8]> for AlgorithmIdentifier
         Ok(AlgorithmIdentifier { oid, parameters })
     }
 
-    ghost exact = { λ t. algorithm_of-exact Params.can Params.text Params.at Params.exact Params.whole };
+    ghost exact = { λ t. algorithm_of-exact Params.can Params.text Params.at Params.exact
+        Params.whole };
 }
 
 impl<Params: Encode> EncodeValue for AlgorithmIdentifier<Params> {
@@ -88,16 +89,19 @@ impl<'a, Params: Choice<&'a [u8]> + Encode> Sequence<&'a [u8]> for AlgorithmIden
 }
 
 impl<'a, Params: Canonical<&'a [u8]>> Canonical<&'a [u8]> for AlgorithmIdentifier<Params> {
-    ghost canonical = { λ a h. algorithm_canonical Params.seen Params.text Params.canon Params.writable Params.canonical a.oid a.parameters h };
+    ghost canonical = { λ a h. algorithm_canonical Params.seen Params.text Params.canon
+        Params.writable Params.canonical a.oid a.parameters h };
 }
 
 impl<'a, Params: Spelled<&'a [u8]>> Spelled<&'a [u8]> for AlgorithmIdentifier<Params> {
     ghost spell = { λ b a. SpellsAlgorithm Params.spell b a.oid a.parameters };
 
-    ghost spelled = { λ b a. algorithm_spelled Params.seen Params.text Params.writable Params.spell Params.spelled b a.oid a.parameters };
+    ghost spelled = { λ b a. algorithm_spelled Params.seen Params.text Params.writable Params.spell
+        Params.spelled b a.oid a.parameters };
 }
 
 impl<'a, Params: Choice<&'a [u8]> + Compared<&'a [u8]>> Compared<&'a [u8]>
     for AlgorithmIdentifier<Params> {
-    ghost compared = { λ v w. algorithm_same Params.Decode.seen Params.eq Params.compared v.oid w.oid v.parameters w.parameters };
+    ghost compared = { λ v w. algorithm_same Params.Decode.seen Params.eq Params.compared v.oid
+        w.oid v.parameters w.parameters };
 }

@@ -24,7 +24,9 @@ fn read_whole<'a>(
 impl<'a, Params: Choice<&'a [u8]>> TryFrom<&'a [u8]> for AlgorithmIdentifier<Params> {
     type Error = Error;
 
-    ghost try_from_gives = { λ b r. GivesAs raised ⊥ ⟦<AlgorithmIdentifier<Params> as Decode<&'a [u8]>>⟧.seen r (whole (⟦<AlgorithmIdentifier<Params> as Decode<&'a [u8]>>⟧.at) b.now) };
+    ghost try_from_gives = { λ b r.
+        GivesAs raised ⊥ ⟦<AlgorithmIdentifier<Params> as Decode<&'a [u8]>>⟧.seen r
+        (whole (⟦<AlgorithmIdentifier<Params> as Decode<&'a [u8]>>⟧.at) b.now) };
 
     /// The algorithm whose text these octets are. `Asn1(Malformed)` exactly where they are none, `OidUnknown` where an identifier
     /// is met first that the parameters do not know.
@@ -59,7 +61,8 @@ impl AlgorithmIdentifierRef<'_> {
 impl AlgorithmIdentifierOwned {
     /// The algorithm whose text these octets are. `Asn1(Malformed)` exactly where they are none, and `Memory`.
     pub fn from_der(alloc: Global, bytes: &[u8]) -> Result<AlgorithmIdentifierOwned>
-        ensures { ParsesIn errors.Memory (errors.Asn1 below.Malformed) IsAlgorithm owned_algorithm bytes.now result }
+        ensures { ParsesIn errors.Memory (errors.Asn1 below.Malformed) IsAlgorithm owned_algorithm
+            bytes.now result }
     {
         let borrowed = read_whole(bytes)?;
         Ok(borrowed.ref_to_owned(alloc)?)

@@ -16,7 +16,8 @@ use der_core::AnyRef;
 /// That an identifier is this one; `OidUnknown` with the identifier exactly where it is another.
 #[tactic(auto, using(asn1_core::specs::Oid::oid_decides))]
 fn expect_oid(oid: ObjectIdentifier, expected_oid: ObjectIdentifier) -> Result<ObjectIdentifier>
-    ensures { MatchResult result (λ o. (o ≡ expected_oid) × (oid ≡ expected_oid)) (λ e. (e ≡ OidUnknown oid) × (oid ≢ expected_oid)) }
+    ensures { MatchResult result (λ o. (o ≡ expected_oid) × (oid ≡ expected_oid))
+        (λ e. (e ≡ OidUnknown oid) × (oid ≢ expected_oid)) }
 {
     if oid == expected_oid {
         Ok(expected_oid)
@@ -28,7 +29,8 @@ fn expect_oid(oid: ObjectIdentifier, expected_oid: ObjectIdentifier) -> Result<O
 impl<Params> AlgorithmIdentifier<Params> {
     /// That the algorithm is this one. `OidUnknown` with the algorithm's identifier exactly where it is another.
     pub fn assert_algorithm_oid(&self, expected_oid: ObjectIdentifier) -> Result<ObjectIdentifier>
-        ensures { MatchResult result (λ o. (o ≡ expected_oid) × (self.now.oid ≡ expected_oid)) (λ e. (e ≡ OidUnknown self.now.oid) × (self.now.oid ≢ expected_oid)) }
+        ensures { MatchResult result (λ o. (o ≡ expected_oid) × (self.now.oid ≡ expected_oid))
+            (λ e. (e ≡ OidUnknown self.now.oid) × (self.now.oid ≢ expected_oid)) }
     {
         expect_oid(self.oid, expected_oid)
     }
@@ -36,7 +38,8 @@ impl<Params> AlgorithmIdentifier<Params> {
 
 /// The identifier that an element is. `Malformed` exactly where it is none.
 fn element_oid(element: &AnyRef<'_>) -> std::result::Result<ObjectIdentifier, asn1_core::Error>
-    ensures { Parses below.Malformed Oid (λ o. o) (el element.now.tag.first element.now.value.now) result }
+    ensures { Parses below.Malformed Oid (λ o. o)
+        (el element.now.tag.first element.now.value.now) result }
 {
     element.decode_as::<ObjectIdentifier>()
 }
@@ -45,7 +48,8 @@ impl<'a> AlgorithmIdentifierRef<'a> {
     /// The parameters. `AlgorithmParametersMissing` exactly where there are none.
     pub fn parameters_any(&self) -> Result<AnyRef<'a>>
         ensures { MatchResult result
-            (λ p. seen_option (λ a. seen_any a.tag.first a.value.now) self.now.parameters ≡ Some (seen_any p.tag.first p.value.now))
+            (λ p. seen_option (λ a. seen_any a.tag.first a.value.now) self.now.parameters
+            ≡ Some (seen_any p.tag.first p.value.now))
             (λ e. (e ≡ AlgorithmParametersMissing) × (self.now.parameters ≡ None)) }
     {
         match self.parameters {
@@ -57,7 +61,8 @@ impl<'a> AlgorithmIdentifierRef<'a> {
     /// The identifier that the parameters are. `AlgorithmParametersMissing` exactly where there are none, `Asn1(Malformed)`
     /// exactly where they are there and no identifier.
     pub fn parameters_oid(&self) -> Result<ObjectIdentifier>
-        ensures { ParametersOid (seen_option (λ a. seen_any a.tag.first a.value.now) self.now.parameters) result }
+        ensures { ParametersOid
+            (seen_option (λ a. seen_any a.tag.first a.value.now) self.now.parameters) result }
     {
         match &self.parameters {
             Some(parameters) => match element_oid(parameters) {
@@ -71,7 +76,8 @@ impl<'a> AlgorithmIdentifierRef<'a> {
     /// That the parameters are this identifier. Refusals as in `parameters_oid`, and `OidUnknown` with the identifier that the
     /// parameters are exactly where it is another.
     pub fn assert_parameters_oid(&self, expected_oid: ObjectIdentifier) -> Result<ObjectIdentifier>
-        ensures { AssertsParameters expected_oid (seen_option (λ a. seen_any a.tag.first a.value.now) self.now.parameters) result }
+        ensures { AssertsParameters expected_oid
+            (seen_option (λ a. seen_any a.tag.first a.value.now) self.now.parameters) result }
     {
         let actual = self.parameters_oid()?;
         expect_oid(actual, expected_oid)
@@ -84,7 +90,9 @@ impl<'a> AlgorithmIdentifierRef<'a> {
         algorithm: ObjectIdentifier,
         parameters: ObjectIdentifier,
     ) -> Result<()>
-        ensures { AssertsOids self.now.oid (seen_option (λ a. seen_any a.tag.first a.value.now) self.now.parameters) algorithm parameters result }
+        ensures { AssertsOids self.now.oid
+            (seen_option (λ a. seen_any a.tag.first a.value.now) self.now.parameters) algorithm
+            parameters result }
     {
         self.assert_algorithm_oid(algorithm)?;
         self.assert_parameters_oid(parameters)?;
@@ -96,7 +104,8 @@ impl<'a> AlgorithmIdentifierRef<'a> {
     pub fn oids(
         &self,
     ) -> std::result::Result<(ObjectIdentifier, Option<ObjectIdentifier>), asn1_core::Error>
-        ensures { Oids self.now.oid (seen_option (λ a. seen_any a.tag.first a.value.now) self.now.parameters) result }
+        ensures { Oids self.now.oid
+            (seen_option (λ a. seen_any a.tag.first a.value.now) self.now.parameters) result }
     {
         match &self.parameters {
             None => Ok((self.oid, None)),

@@ -18,8 +18,10 @@ fn with_any<Params: Tagged + EncodeValue>(
     alloc: Global,
     source: &AlgorithmIdentifier<Params>,
 ) -> Result<AlgorithmIdentifierOwned>
-    ensures ok { IfOk result (λ a. owned_algorithm a ≡ as_any Params.tag_of Params.content source.now) }
-    ensures err { IfErr result (λ e. IsUnwritten Params.tag_of Params.content Params.writable source.now e) }
+    ensures ok { IfOk result (λ a. owned_algorithm a
+        ≡ as_any Params.tag_of Params.content source.now) }
+    ensures err { IfErr result
+        (λ e. IsUnwritten Params.tag_of Params.content Params.writable source.now e) }
 {
     let parameters = match &source.parameters {
         Some(parameters) => match Any::encode_from(alloc, parameters) {
@@ -62,7 +64,8 @@ pub trait DynAssociatedAlgorithmIdentifier {
 impl<T: AssociatedAlgorithmIdentifier> DynAssociatedAlgorithmIdentifier for T {
     ghost algorithm = { λ _. as_any T.Params.tag_of T.Params.content T.ALGORITHM_IDENTIFIER };
 
-    ghost refuses = { λ _ e. IsUnwritten T.Params.tag_of T.Params.content T.Params.writable T.ALGORITHM_IDENTIFIER e };
+    ghost refuses = { λ _ e. IsUnwritten T.Params.tag_of T.Params.content T.Params.writable
+        T.ALGORITHM_IDENTIFIER e };
 
     fn algorithm_identifier(&self, alloc: Global) -> Result<AlgorithmIdentifierOwned> {
         with_any(alloc, &T::ALGORITHM_IDENTIFIER)
@@ -95,9 +98,12 @@ pub trait DynSignatureAlgorithmIdentifier {
 }
 
 impl<T: SignatureAlgorithmIdentifier> DynSignatureAlgorithmIdentifier for T {
-    ghost signature_algorithm = { λ _. as_any T.Params.tag_of T.Params.content T.SIGNATURE_ALGORITHM_IDENTIFIER };
+    ghost signature_algorithm = { λ _.
+        as_any T.Params.tag_of T.Params.content T.SIGNATURE_ALGORITHM_IDENTIFIER };
 
-    ghost signature_refuses = { λ _ e. IsUnwritten T.Params.tag_of T.Params.content T.Params.writable T.SIGNATURE_ALGORITHM_IDENTIFIER e };
+    ghost signature_refuses = { λ _ e.
+        IsUnwritten T.Params.tag_of T.Params.content T.Params.writable
+        T.SIGNATURE_ALGORITHM_IDENTIFIER e };
 
     fn signature_algorithm_identifier(&self, alloc: Global) -> Result<AlgorithmIdentifierOwned> {
         with_any(alloc, &T::SIGNATURE_ALGORITHM_IDENTIFIER)

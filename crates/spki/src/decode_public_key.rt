@@ -25,14 +25,21 @@ pub trait DecodePublicKey: Sized {
 
     /// The key of a public key that was read. The refusals are the key type's own.
     fn from_spki(alloc: Global, spki: SubjectPublicKeyInfoRef<'_>) -> Result<Self>
-        ensures ok { IfOk result (λ k. holds (seen_public_key borrowed_any (λ s. seen_bits s.unused_bits s.octets.now) spki.entry) k) }
-        ensures err { IfErr result (λ e. refuses (seen_public_key borrowed_any (λ s. seen_bits s.unused_bits s.octets.now) spki.entry) e) };
+        ensures ok { IfOk result
+            (λ k. holds
+            (seen_public_key borrowed_any
+            (λ s. seen_bits s.unused_bits s.octets.now) spki.entry) k) }
+        ensures err { IfErr result
+            (λ e. refuses
+            (seen_public_key borrowed_any
+            (λ s. seen_bits s.unused_bits s.octets.now) spki.entry) e) };
 
     /// The key whose SubjectPublicKeyInfo these octets are. `Asn1(Malformed)` exactly where they are none; else the refusals of
     /// `from_spki`.
     fn from_public_key_der(alloc: Global, bytes: &[u8]) -> Result<Self>
         ensures ok { IfOk result (λ k. (i : AnyPublicKey) × IsPublicKey bytes.now i × holds i k) }
-        ensures err { IfErr result (λ e. ((e ≡ Asn1 below.Malformed) × IsNone IsPublicKey bytes.now) ⊎ ((i : AnyPublicKey) × IsPublicKey bytes.now i × refuses i e)) }
+        ensures err { IfErr result (λ e. ((e ≡ Asn1 below.Malformed) × IsNone IsPublicKey bytes.now)
+            ⊎ ((i : AnyPublicKey) × IsPublicKey bytes.now i × refuses i e)) }
     {
         match read_whole(bytes) {
             Ok(spki) => Self::from_spki(alloc, spki),
@@ -43,7 +50,8 @@ pub trait DecodePublicKey: Sized {
     /// The key in this file, which holds a SubjectPublicKeyInfo in DER. `Asn1(File)` where a call on the file failed,
     /// `Asn1(Overlength)` where it has more than 2^32 - 1 octets; else as `from_public_key_der` of its octets, and `Memory`.
     fn read_public_key_der_file<R: Files>(rt: &R, alloc: Global, path: &str) -> Result<Self>
-        ensures ok { IfOk result (λ k. (b : List ℕ) × (i : AnyPublicKey) × IsPublicKey b i × holds i k) }
+        ensures ok { IfOk result (λ k. (b : List ℕ) × (i : AnyPublicKey) × IsPublicKey b i
+            × holds i k) }
         ensures err { IfErr result (λ e. IsUnread refuses e) }
     {
         match Document::read_der_file(rt, alloc, path) {
@@ -54,7 +62,8 @@ pub trait DecodePublicKey: Sized {
 }
 
 impl DecodePublicKey for SubjectPublicKeyInfoOwned {
-    ghost holds = { λ i k. seen_public_key owned_any (λ s. seen_bits s.unused_bits s.octets) k ≡ i };
+    ghost holds = { λ i k. seen_public_key owned_any
+        (λ s. seen_bits s.unused_bits s.octets) k ≡ i };
 
     ghost refuses = { λ i e. e ≡ Memory };
 

@@ -11,7 +11,14 @@ use std::fmt;
 pub struct DigestWriter<'d, D>(pub &'d mut D);
 
 impl<'d, D: Digest> Writer for DigestWriter<'d, D> {
-    ghost sink = { record { holds = λ w m. D.holds w.0.now m; room = λ w. None; faults = λ w. 0; memory = ⊥; Place = GName; place = λ w. w.0.ghost_name } };
+    ghost sink = { record {
+      holds = λ w m. D.holds w.0.now m;
+      room = λ w. None;
+      faults = λ w. 0;
+      memory = ⊥;
+      Place = GName;
+      place = λ w. w.0.ghost_name;
+    } };
 
     fn write(&mut self, octets: &[u8]) -> Result<(), Error> {
         self.0.update(octets);

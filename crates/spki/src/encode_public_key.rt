@@ -49,8 +49,11 @@ impl SubjectPublicKeyInfoOwned {
         alloc: Global,
         source: &T,
     ) -> Result<SubjectPublicKeyInfoOwned>
-        ensures ok { IfOk result (λ k. (b : List ℕ) × T.text source.now b × IsPublicKey b (seen_public_key owned_any (λ s. seen_bits s.unused_bits s.octets) k)) }
-        ensures err { IfErr result (λ e. T.refuses source.now e ⊎ (e ≡ Memory) ⊎ ((b : List ℕ) × T.text source.now b × (e ≡ Asn1 below.Malformed) × IsNone IsPublicKey b)) }
+        ensures ok { IfOk result (λ k. (b : List ℕ) × T.text source.now b
+            × IsPublicKey b (seen_public_key owned_any (λ s. seen_bits s.unused_bits s.octets) k)) }
+        ensures err { IfErr result (λ e. T.refuses source.now e ⊎ (e ≡ Memory)
+            ⊎ ((b : List ℕ) × T.text source.now b × (e ≡ Asn1 below.Malformed)
+            × IsNone IsPublicKey b)) }
     {
         match source.to_public_key_der(alloc) {
             Ok(document) => SubjectPublicKeyInfoOwned::from_der(alloc, document.as_bytes()),

@@ -24,9 +24,12 @@ fn feed<T: Encode, D: Digest>(
     value: &T,
     hasher: &mut D,
 ) -> std::result::Result<(), asn1_core::Error>
-    ensures ok { OnOk result ((m : List ℕ) → D.holds hasher.old m → D.holds hasher.new (m ++ T.canon value.now)) }
+    ensures ok { OnOk result ((m : List ℕ) → D.holds hasher.old m
+        → D.holds hasher.new (m ++ T.canon value.now)) }
     ensures lawful { OnOk result (T.writable value.now) }
-    ensures err { IfErr result (λ e. Cause (¬ (T.writable value.now)) (IsOverlong (length (T.canon value.now))) ⊥ None 0 0 0 e) }
+    ensures err { IfErr result
+        (λ e. Cause (¬ (T.writable value.now))
+        (IsOverlong (length (T.canon value.now))) ⊥ None 0 0 0 e) }
 {
     let mut writer = DigestWriter(hasher);
     value.encode(&mut writer)
@@ -36,7 +39,9 @@ fn feed<T: Encode, D: Digest>(
 fn digest_of<T: Encode>(value: &T) -> std::result::Result<FingerprintBytes, asn1_core::Error>
     ensures ok { IfOk result (λ h. h ≡ sha256 (T.canon value.now)) }
     ensures lawful { OnOk result (T.writable value.now) }
-    ensures err { IfErr result (λ e. Cause (¬ (T.writable value.now)) (IsOverlong (length (T.canon value.now))) ⊥ None 0 0 0 e) }
+    ensures err { IfErr result
+        (λ e. Cause (¬ (T.writable value.now))
+        (IsOverlong (length (T.canon value.now))) ⊥ None 0 0 0 e) }
 {
     let mut hasher = Sha256::new();
     match feed(value, &mut hasher) {
@@ -49,10 +54,15 @@ impl<Params: Encode, Key: Encode> SubjectPublicKeyInfo<Params, Key> {
     /// The SHA-256 digest of the text. It takes no memory. `Asn1(Malformed)` exactly where the value has no text, and
     /// `Asn1(Overlength)` only where that has more than 2^32 - 1 octets.
     pub fn fingerprint_bytes(&self) -> Result<FingerprintBytes>
-        ensures ok { IfOk result (λ h. h ≡ sha256 (⟦<SubjectPublicKeyInfo<Params, Key> as Encode>⟧.canon self.now)) }
-        ensures lawful { OnOk result (⟦<SubjectPublicKeyInfo<Params, Key> as Encode>⟧.writable self.now) }
+        ensures ok { IfOk result
+            (λ h. h ≡ sha256 (⟦<SubjectPublicKeyInfo<Params, Key> as Encode>⟧.canon self.now)) }
+        ensures lawful { OnOk result
+            (⟦<SubjectPublicKeyInfo<Params, Key> as Encode>⟧.writable self.now) }
         ensures err { IfErr result (λ e. (f : Below) × (e ≡ raised f)
-            × Cause (¬ (⟦<SubjectPublicKeyInfo<Params, Key> as Encode>⟧.writable self.now)) (IsOverlong (length (⟦<SubjectPublicKeyInfo<Params, Key> as Encode>⟧.canon self.now))) ⊥ None 0 0 0 f) }
+            × Cause (¬ (⟦<SubjectPublicKeyInfo<Params, Key> as Encode>⟧.writable self.now))
+            (IsOverlong
+            (length (⟦<SubjectPublicKeyInfo<Params, Key> as Encode>⟧.canon self.now))) ⊥ None
+            0 0 0 f) }
     {
         match digest_of(self) {
             Ok(digest) => Ok(digest),
@@ -62,10 +72,17 @@ impl<Params: Encode, Key: Encode> SubjectPublicKeyInfo<Params, Key> {
 
     /// The fingerprint in standard Base64 with padding (RFC 4648 section 4). Refusals as in `fingerprint_bytes`, and `Memory`.
     pub fn fingerprint_base64(&self, alloc: Global) -> Result<Text>
-        ensures ok { IfOk result (λ t. t ≡ encode_of standard (sha256 (⟦<SubjectPublicKeyInfo<Params, Key> as Encode>⟧.canon self.now))) }
-        ensures lawful { OnOk result (⟦<SubjectPublicKeyInfo<Params, Key> as Encode>⟧.writable self.now) }
+        ensures ok { IfOk result
+            (λ t. t
+            ≡ encode_of standard
+            (sha256 (⟦<SubjectPublicKeyInfo<Params, Key> as Encode>⟧.canon self.now))) }
+        ensures lawful { OnOk result
+            (⟦<SubjectPublicKeyInfo<Params, Key> as Encode>⟧.writable self.now) }
         ensures err { IfErr result (λ e. (f : Below) × (e ≡ raised f)
-            × Cause (¬ (⟦<SubjectPublicKeyInfo<Params, Key> as Encode>⟧.writable self.now)) (IsOverlong (length (⟦<SubjectPublicKeyInfo<Params, Key> as Encode>⟧.canon self.now))) (Unit {0}) None 0 0 0 f) }
+            × Cause (¬ (⟦<SubjectPublicKeyInfo<Params, Key> as Encode>⟧.writable self.now))
+            (IsOverlong
+            (length (⟦<SubjectPublicKeyInfo<Params, Key> as Encode>⟧.canon self.now)))
+            (Unit {0}) None 0 0 0 f) }
     {
         let digest = self.fingerprint_bytes()?;
         match STANDARD.encode(alloc, &digest) {

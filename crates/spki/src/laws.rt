@@ -11,13 +11,16 @@ use der_core::Encode;
 
 /// An algorithm with any parameters has one text, and nothing else is a text of it.
 pub fn algorithms_have_one_text()
-    ensures { (b : List ℕ) (a : AnyAlgorithm) → IsAlgorithm b a ↔ (AreParameters a.parameters × (b ≡ algorithm_text a) × IsShort b) }
+    ensures { (b : List ℕ) (a : AnyAlgorithm) → IsAlgorithm b a
+        ↔ (AreParameters a.parameters × (b ≡ algorithm_text a) × IsShort b) }
 {}
 
 /// A public key of any algorithm has one text, and nothing else is a text of it.
 pub fn public_keys_have_one_text()
     ensures { (b : List ℕ) (k : AnyPublicKey) → IsPublicKey b k
-        ↔ (AreParameters k.algorithm.parameters × IsTrue (is_bits k.subject_public_key.0 k.subject_public_key.1) × (b ≡ public_key_text k) × IsShort b) }
+        ↔ (AreParameters k.algorithm.parameters
+        × IsTrue (is_bits k.subject_public_key.0 k.subject_public_key.1)
+        × (b ≡ public_key_text k) × IsShort b) }
 {}
 
 /// A text is that of one algorithm at most.
@@ -35,8 +38,10 @@ pub fn algorithms_are_written<'a>(
     borrowed: &AlgorithmIdentifierRef<'a>,
     owned: &AlgorithmIdentifierOwned,
 )
-    ensures of_borrowed { ⟦<AlgorithmIdentifierRef<'a> as Encode>⟧.canon borrowed.now ≡ algorithm_text (borrowed_algorithm borrowed.now) }
-    ensures of_owned { ⟦<AlgorithmIdentifierOwned as Encode>⟧.canon owned.now ≡ algorithm_text (owned_algorithm owned.now) }
+    ensures of_borrowed { ⟦<AlgorithmIdentifierRef<'a> as Encode>⟧.canon borrowed.now
+        ≡ algorithm_text (borrowed_algorithm borrowed.now) }
+    ensures of_owned { ⟦<AlgorithmIdentifierOwned as Encode>⟧.canon owned.now
+        ≡ algorithm_text (owned_algorithm owned.now) }
 {
     let _ = borrowed;
     let _ = owned;
@@ -48,9 +53,11 @@ pub fn public_keys_are_written<'a>(
     owned: &SubjectPublicKeyInfoOwned,
 )
     ensures of_borrowed { ⟦<SubjectPublicKeyInfoRef<'a> as Encode>⟧.canon borrowed.now
-        ≡ public_key_text (seen_public_key borrowed_any (λ s. seen_bits s.unused_bits s.octets.now) borrowed.now) }
+        ≡ public_key_text (seen_public_key borrowed_any
+        (λ s. seen_bits s.unused_bits s.octets.now) borrowed.now) }
     ensures of_owned { ⟦<SubjectPublicKeyInfoOwned as Encode>⟧.canon owned.now
-        ≡ public_key_text (seen_public_key owned_any (λ s. seen_bits s.unused_bits s.octets) owned.now) }
+        ≡ public_key_text (seen_public_key owned_any
+        (λ s. seen_bits s.unused_bits s.octets) owned.now) }
 {
     let _ = borrowed;
     let _ = owned;

@@ -11,7 +11,8 @@ use der_core::{ContentOrd, DerOrd, ElementText, Encode, EncodeValue, Tagged, Val
 use std::cmp::Ordering;
 
 impl<Params: DerOrd + ElementText> ValueOrd for AlgorithmIdentifier<Params> {
-    ghost value_order = { λ a b. octet_cmp (algorithm_content Params.canon a.oid a.parameters) (algorithm_content Params.canon b.oid b.parameters) };
+    ghost value_order = { λ a b. octet_cmp (algorithm_content Params.canon a.oid a.parameters)
+        (algorithm_content Params.canon b.oid b.parameters) };
 
     fn value_cmp(&self, other: &AlgorithmIdentifier<Params>) -> Result<Ordering, Error> {
         pair_cmp(&self.oid, &self.parameters, &other.oid, &other.parameters)
@@ -66,7 +67,9 @@ impl<'s, Params: Encode, Key: Encode> EncodeValue for ByContent<'s, Params, Key>
 }
 
 impl<'s, Params: DerOrd + ElementText, Key: DerOrd> ValueOrd for ByContent<'s, Params, Key> {
-    ghost value_order = { λ a b. octet_cmp (⟦<SubjectPublicKeyInfo<Params, Key> as EncodeValue>⟧.content a.0.now) (⟦<SubjectPublicKeyInfo<Params, Key> as EncodeValue>⟧.content b.0.now) };
+    ghost value_order = { λ a b. octet_cmp
+        (⟦<SubjectPublicKeyInfo<Params, Key> as EncodeValue>⟧.content a.0.now)
+        (⟦<SubjectPublicKeyInfo<Params, Key> as EncodeValue>⟧.content b.0.now) };
 
     fn value_cmp(&self, other: &ByContent<'s, Params, Key>) -> Result<Ordering, Error> {
         pair_cmp(

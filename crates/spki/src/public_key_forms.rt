@@ -19,7 +19,9 @@ use std::alloc::Global;
 pub(crate) fn read_whole<'a>(
     bytes: &'a [u8],
 ) -> std::result::Result<SubjectPublicKeyInfoRef<'a>, asn1_core::Error>
-    ensures { Parses below.Malformed IsPublicKey (λ k. seen_public_key borrowed_any (λ s. seen_bits s.unused_bits s.octets.now) k) bytes.now result }
+    ensures { Parses below.Malformed IsPublicKey
+        (λ k. seen_public_key borrowed_any (λ s. seen_bits s.unused_bits s.octets.now) k)
+        bytes.now result }
 {
     SubjectPublicKeyInfoRef::from_der(bytes)
 }
@@ -28,7 +30,9 @@ impl<'a, Params: Choice<&'a [u8]>, Key: Choice<&'a [u8]>> TryFrom<&'a [u8]>
     for SubjectPublicKeyInfo<Params, Key> {
     type Error = Error;
 
-    ghost try_from_gives = { λ b r. GivesAs raised ⊥ ⟦<SubjectPublicKeyInfo<Params, Key> as Decode<&'a [u8]>>⟧.seen r (whole (⟦<SubjectPublicKeyInfo<Params, Key> as Decode<&'a [u8]>>⟧.at) b.now) };
+    ghost try_from_gives = { λ b r.
+        GivesAs raised ⊥ ⟦<SubjectPublicKeyInfo<Params, Key> as Decode<&'a [u8]>>⟧.seen r
+        (whole (⟦<SubjectPublicKeyInfo<Params, Key> as Decode<&'a [u8]>>⟧.at) b.now) };
 
     /// The public key whose text these octets are. `Asn1(Malformed)` exactly where they are none, `OidUnknown` where an identifier
     /// is met first that the parameters or the key do not know.
@@ -46,7 +50,8 @@ impl SubjectPublicKeyInfoRef<'_> {
         &self,
         alloc: Global,
     ) -> std::result::Result<SubjectPublicKeyInfoOwned, asn1_core::Error>
-        ensures ok { IfOk result (λ k. seen_public_key owned_any (λ s. seen_bits s.unused_bits s.octets) k
+        ensures ok { IfOk result
+            (λ k. seen_public_key owned_any (λ s. seen_bits s.unused_bits s.octets) k
             ≡ seen_public_key borrowed_any (λ s. seen_bits s.unused_bits s.octets.now) self.now) }
         ensures err { IfErr result (λ e. e ≡ below.Memory) }
     {
@@ -62,7 +67,9 @@ impl SubjectPublicKeyInfoRef<'_> {
 impl SubjectPublicKeyInfoOwned {
     /// The public key whose text these octets are. `Asn1(Malformed)` exactly where they are none, and `Memory`.
     pub fn from_der(alloc: Global, bytes: &[u8]) -> Result<SubjectPublicKeyInfoOwned>
-        ensures { ParsesIn errors.Memory (errors.Asn1 below.Malformed) IsPublicKey (λ k. seen_public_key owned_any (λ s. seen_bits s.unused_bits s.octets) k) bytes.now result }
+        ensures { ParsesIn errors.Memory (errors.Asn1 below.Malformed) IsPublicKey
+            (λ k. seen_public_key owned_any (λ s. seen_bits s.unused_bits s.octets) k)
+            bytes.now result }
     {
         let borrowed = read_whole(bytes)?;
         Ok(borrowed.ref_to_owned(alloc)?)
@@ -81,7 +88,8 @@ impl SubjectPublicKeyInfoOwned {
 
     /// An equal value in memory of its own. The only refusal is `Memory`.
     pub fn try_clone(&self, alloc: Global) -> Result<SubjectPublicKeyInfoOwned>
-        ensures ok { IfOk result (λ k. seen_public_key owned_any (λ s. seen_bits s.unused_bits s.octets) k
+        ensures ok { IfOk result
+            (λ k. seen_public_key owned_any (λ s. seen_bits s.unused_bits s.octets) k
             ≡ seen_public_key owned_any (λ s. seen_bits s.unused_bits s.octets) self.now) }
         ensures err { IfErr result (λ e. e ≡ errors.Memory) }
     {

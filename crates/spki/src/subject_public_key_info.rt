@@ -43,7 +43,9 @@ impl<'a, Params: Choice<&'a [u8]>, Key: Choice<&'a [u8]>> DecodeValue<&'a [u8]>
     for SubjectPublicKeyInfo<Params, Key> {
     ghost Seen = { SubjectPublicKeyInfo Params.Seen Key.Seen };
 
-    ghost seen = { λ a. public_key (⟦<AlgorithmIdentifier<Params> as Decode<&'a [u8]>>⟧.seen a.algorithm) (Key.seen a.subject_public_key) };
+    ghost seen = { λ a. public_key
+        (⟦<AlgorithmIdentifier<Params> as Decode<&'a [u8]>>⟧.seen a.algorithm)
+        (Key.seen a.subject_public_key) };
 
     ghost value = { λ t. public_key_of Params.can Params.at Key.at };
 
@@ -66,13 +68,16 @@ impl<'a, Params: Choice<&'a [u8]>, Key: Choice<&'a [u8]>> DecodeValue<&'a [u8]>
         })
     }
 
-    ghost exact = { λ t. public_key_of-exact Params.can Params.text Params.at Params.exact Params.whole Key.text Key.at Key.exact };
+    ghost exact = { λ t. public_key_of-exact Params.can Params.text Params.at Params.exact
+        Params.whole Key.text Key.at Key.exact };
 }
 
 impl<Params: Encode, Key: Encode> EncodeValue for SubjectPublicKeyInfo<Params, Key> {
-    ghost content = { λ a. public_key_content Params.canon Key.canon a.algorithm.oid a.algorithm.parameters a.subject_public_key };
+    ghost content = { λ a. public_key_content Params.canon Key.canon a.algorithm.oid
+        a.algorithm.parameters a.subject_public_key };
 
-    ghost writable = { λ a. ⟦<AlgorithmIdentifier<Params> as Encode>⟧.writable a.algorithm × Key.writable a.subject_public_key };
+    ghost writable = { λ a. ⟦<AlgorithmIdentifier<Params> as Encode>⟧.writable a.algorithm
+        × Key.writable a.subject_public_key };
 
     fn value_len(&self) -> Result<Length, Error> {
         pair_len(&self.algorithm, &self.subject_public_key)
@@ -90,14 +95,19 @@ impl<'a, Params: Choice<&'a [u8]> + Encode, Key: Choice<&'a [u8]> + Encode> Sequ
 
 impl<'a, Params: Canonical<&'a [u8]>, Key: Canonical<&'a [u8]>> Canonical<&'a [u8]>
     for SubjectPublicKeyInfo<Params, Key> {
-    ghost canonical = { λ a h. public_key_canonical Params.seen Params.text Params.canon Key.seen Key.text Key.canon Params.writable Params.canonical a.algorithm.oid a.algorithm.parameters a.subject_public_key h.0 (Key.canonical a.subject_public_key h.1) };
+    ghost canonical = { λ a h. public_key_canonical Params.seen Params.text Params.canon Key.seen
+        Key.text Key.canon Params.writable Params.canonical a.algorithm.oid a.algorithm.parameters
+        a.subject_public_key h.0 (Key.canonical a.subject_public_key h.1) };
 }
 
 impl<'a, Params: Spelled<&'a [u8]>, Key: Spelled<&'a [u8]>> Spelled<&'a [u8]>
     for SubjectPublicKeyInfo<Params, Key> {
-    ghost spell = { λ b a. SpellsPublicKey Params.spell Key.spell b a.algorithm.oid a.algorithm.parameters a.subject_public_key };
+    ghost spell = { λ b a. SpellsPublicKey Params.spell Key.spell b a.algorithm.oid
+        a.algorithm.parameters a.subject_public_key };
 
-    ghost spelled = { λ b a. public_key_spelled Params.seen Params.text Params.writable Params.spell Params.spelled Key.seen Key.text Key.writable Key.spell Key.spelled b a.algorithm.oid a.algorithm.parameters a.subject_public_key };
+    ghost spelled = { λ b a. public_key_spelled Params.seen Params.text Params.writable Params.spell
+        Params.spelled Key.seen Key.text Key.writable Key.spell Key.spelled b a.algorithm.oid
+        a.algorithm.parameters a.subject_public_key };
 }
 
 impl<
@@ -105,5 +115,8 @@ impl<
     Params: Choice<&'a [u8]> + Compared<&'a [u8]>,
     Key: Choice<&'a [u8]> + Compared<&'a [u8]>,
 > Compared<&'a [u8]> for SubjectPublicKeyInfo<Params, Key> {
-    ghost compared = { λ v w. public_key_same _ _ _ (algorithm_same Params.Decode.seen Params.eq Params.compared v.algorithm.oid w.algorithm.oid v.algorithm.parameters w.algorithm.parameters) Key.Decode.seen Key.eq Key.compared v.subject_public_key w.subject_public_key };
+    ghost compared = { λ v w. public_key_same _ _ _
+        (algorithm_same Params.Decode.seen Params.eq Params.compared v.algorithm.oid w.algorithm.oid
+        v.algorithm.parameters w.algorithm.parameters) Key.Decode.seen Key.eq Key.compared
+        v.subject_public_key w.subject_public_key };
 }

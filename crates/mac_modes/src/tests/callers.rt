@@ -9,7 +9,8 @@ use block_core::{Aes256, BlockCipher};
 
 /// Opens a text in place.
 fn open(key: &[u8; 32], nonce: &[u8; 12], buffer: &mut [u8]) -> Result<usize, ModeError>
-    ensures { IfOk result (λ len. gcm (aes_256 key.now) nonce.now (take len buffer.new) ≡ buffer.old) }
+    ensures { IfOk result (λ len. gcm (aes_256 key.now) nonce.now (take len buffer.new)
+        ≡ buffer.old) }
 {
     gcm_decrypt(&Aes256::new(key), nonce, buffer)
 }

@@ -9,7 +9,8 @@ use asn1_core::ObjectIdentifier;
 
 /// The named curve of a public key whose algorithm is this one (RFC 5480 section 2.1.1).
 fn named_curve(ec_public_key: ObjectIdentifier, text: &[u8]) -> Result<ObjectIdentifier>
-    ensures { IfOk result (λ c. (k : AnyPublicKey) × IsPublicKey text.now k × (k.algorithm.oid ≡ ec_public_key) × ParametersOid k.algorithm.parameters (Ok c)) }
+    ensures { IfOk result (λ c. (k : AnyPublicKey) × IsPublicKey text.now k
+        × (k.algorithm.oid ≡ ec_public_key) × ParametersOid k.algorithm.parameters (Ok c)) }
 {
     let key = SubjectPublicKeyInfoRef::try_from(text)?;
     key.algorithm.assert_algorithm_oid(ec_public_key)?;

@@ -86,7 +86,15 @@ impl AssociatedAlgorithmIdentifier for KeptKey {
 
     type Params = ObjectIdentifier;
 
-    ghost ALGORITHM_IDENTIFIER = { record { oid = built (padded 39 (0x2a ∷ 0x86 ∷ 0x48 ∷ 0xce ∷ 0x3d ∷ 2 ∷ 1 ∷ [])) 7 (is_padded 39 (0x2a ∷ 0x86 ∷ 0x48 ∷ 0xce ∷ 0x3d ∷ 2 ∷ 1 ∷ []) (leb-true 7 39 refl), refl); parameters = Some (built (padded 39 (0x2a ∷ 0x86 ∷ 0x48 ∷ 0xce ∷ 0x3d ∷ 3 ∷ 1 ∷ 7 ∷ [])) 8 (is_padded 39 (0x2a ∷ 0x86 ∷ 0x48 ∷ 0xce ∷ 0x3d ∷ 3 ∷ 1 ∷ 7 ∷ []) (leb-true 8 39 refl), refl)) } };
+    ghost ALGORITHM_IDENTIFIER = { record {
+      oid = built (padded 39 (0x2a ∷ 0x86 ∷ 0x48 ∷ 0xce ∷ 0x3d ∷ 2 ∷ 1 ∷ [])) 7
+          (is_padded 39 (0x2a ∷ 0x86 ∷ 0x48 ∷ 0xce ∷ 0x3d ∷ 2 ∷ 1 ∷ []) (leb-true 7 39 refl), refl);
+      parameters = Some (built (padded 39 (0x2a ∷ 0x86 ∷ 0x48 ∷ 0xce ∷ 0x3d ∷ 3 ∷ 1 ∷ 7 ∷ [])) 8 (
+        is_padded 39 (0x2a ∷ 0x86 ∷ 0x48 ∷ 0xce ∷ 0x3d ∷ 3 ∷ 1 ∷ 7 ∷ [])
+            (leb-true 8 39 refl),
+        refl,
+      ));
+    } };
 
     const ALGORITHM_IDENTIFIER: AlgorithmIdentifier<ObjectIdentifier> = AlgorithmIdentifier {
         oid: EC_PUBLIC_KEY,
@@ -115,7 +123,14 @@ impl SignatureAlgorithmIdentifier for KeptKey {
 
     type Params = Null;
 
-    ghost SIGNATURE_ALGORITHM_IDENTIFIER = { record { oid = built (padded 39 (0x2a ∷ 0x86 ∷ 0x48 ∷ 0xce ∷ 0x3d ∷ 4 ∷ 3 ∷ 2 ∷ [])) 8 (is_padded 39 (0x2a ∷ 0x86 ∷ 0x48 ∷ 0xce ∷ 0x3d ∷ 4 ∷ 3 ∷ 2 ∷ []) (leb-true 8 39 refl), refl); parameters = None } };
+    ghost SIGNATURE_ALGORITHM_IDENTIFIER = { record {
+      oid = built (padded 39 (0x2a ∷ 0x86 ∷ 0x48 ∷ 0xce ∷ 0x3d ∷ 4 ∷ 3 ∷ 2 ∷ [])) 8 (
+        is_padded 39 (0x2a ∷ 0x86 ∷ 0x48 ∷ 0xce ∷ 0x3d ∷ 4 ∷ 3 ∷ 2 ∷ [])
+            (leb-true 8 39 refl),
+        refl,
+      );
+      parameters = None;
+    } };
 
     const SIGNATURE_ALGORITHM_IDENTIFIER: AlgorithmIdentifier<Null> = AlgorithmIdentifier {
         oid: ECDSA_WITH_SHA256,
