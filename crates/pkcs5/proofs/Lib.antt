@@ -1,4 +1,8 @@
+pub mod Drawn
+pub mod Numbers
 pub mod Octets
 pub mod Openings
+pub mod Refused
+pub mod Spelled
 pub mod Uniqueness
 pub mod Writings

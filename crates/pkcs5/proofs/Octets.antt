@@ -13,9 +13,11 @@ use Rattle.block_core.specs.FieldLaws.{times_x_code}
 use Rattle.block_core.specs.Sbox.{affine_bit, from_bits, sub_byte}
 use Rattle.mac_modes.specs.Hmac.{hmac}
 use Rattle.pbkdf2.specs.Pbkdf2.{block, block_count, blocks, chained, pbkdf2, xor_through}
+use Rattle.scrypt_core.specs.Scrypt.{scrypt}
+use Rattle.sha2.specs.Sha256.{sha256}
 use Rattle.pkcs5.specs.Opening.{derived, prf_of}
 use Rattle.pkcs5.specs.declared.pbes2.kdf.Kdf.{Kdf}
-use Rattle.pkcs5.specs.declared.pbes2.kdf.Kdf.TheVariants.{Pbkdf2}
+use Rattle.pkcs5.specs.declared.pbes2.kdf.Kdf.TheVariants.{Pbkdf2, Scrypt}
 use Rattle.pkcs5.specs.declared.pbes2.pbkdf2_prf.Pbkdf2Prf.{Pbkdf2Prf}
 use Rattle.pkcs5.specs.declared.pbes2.pbkdf2_prf.Pbkdf2Prf.TheVariants.{HmacWithSha1, HmacWithSha224, HmacWithSha256, HmacWithSha384, HmacWithSha512}
 
@@ -122,9 +124,14 @@ module _ (f : List ℕ → List ℕ) (answers : (t : List ℕ) → Bytes (f t)) 
   unfolding pbkdf2
   bytes_pbkdf2 u salt r n = bytes_take n _ (bytes_blocks salt r (block_count n u))
 
+bytes_hmac_sha256 : (q t : List ℕ) → Bytes (hmac sha256 64 q t)
+unfolding hmac
+bytes_hmac_sha256 q t = bytes_sha256 _
+
 pub bytes_derived : (kdf : Kdf) (q : List ℕ) (n : ℕ) → Bytes (derived kdf q n)
-unfolding derived
+unfolding derived scrypt
 bytes_derived (Pbkdf2 p) q n = bytes_pbkdf2 (prf_of p.prf q) (bytes_prf p.prf q) _ p.salt p.iteration_count n
+bytes_derived (Scrypt p) q n = bytes_pbkdf2 (hmac sha256 64 q) (λ t. bytes_hmac_sha256 q t) 32 _ 1 n
 
 -- ---- expanded keys
 

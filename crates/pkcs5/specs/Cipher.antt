@@ -1,4 +1,5 @@
--- The cipher of PBES2 (RFC 8018 appendices A.4 and B.2.5): an algorithm whose parameters are its initialization vector.
+-- The cipher of PBES2 (RFC 8018 appendices A.4 and B.2, RFC 5084 section 3.2): an algorithm whose parameters are its
+-- initialization vector or nonce.
 use Rattle.std.specs.Prelude.{if◌then◌else◌, ◌≡◌, ℕ, List, ◌++◌, length, Option, Some, None, Result, Err, ◌==◌}
 use Rattle.std.specs.Str.{bytes_eq}
 use Rattle.asn1_core.specs.Der.{oid, octets, el}
@@ -9,14 +10,14 @@ use Rattle.asn1_core.specs.declared.identifier.ObjectIdentifier.{ObjectIdentifie
 use Rattle.der_core.specs.Any.{any_at}
 use Rattle.spki.specs.Algorithm.{algorithm}
 use Rattle.spki.specs.Seen.{AnyAlgorithm}
-use Rattle.pkcs5.specs.Identifiers.{aes_128_cbc_oid, aes_192_cbc_oid, aes_256_cbc_oid}
-use Rattle.pkcs5.specs.Kinds.{cipher_oid, iv_of}
+use Rattle.pkcs5.specs.Identifiers.{aes_128_cbc_oid, aes_192_cbc_oid, aes_256_cbc_oid, aes_128_gcm_oid, aes_256_gcm_oid, des_ede3_cbc_oid, des_cbc_oid}
+use Rattle.pkcs5.specs.Kinds.{cipher_oid, iv_of, iv_size}
 use Rattle.pkcs5.specs.declared.pbes2.encryption_scheme.EncryptionScheme.{EncryptionScheme}
-use Rattle.pkcs5.specs.declared.pbes2.encryption_scheme.EncryptionScheme.TheVariants.{Aes128Cbc, Aes192Cbc, Aes256Cbc}
+use Rattle.pkcs5.specs.declared.pbes2.encryption_scheme.EncryptionScheme.TheVariants.{Aes128Cbc, Aes192Cbc, Aes256Cbc, Aes128Gcm, Aes256Gcm, DesEde3Cbc, DesCbc}
 
--- the initialization vector has the length of a block
+-- the initialization vector or nonce has its length
 abbrev pub IsCipher : EncryptionScheme → Type 0
-IsCipher c = length (iv_of c) ≡ 16
+IsCipher c = length (iv_of c) ≡ iv_size c
 
 -- the value octets that are written
 abbrev pub cipher_content : EncryptionScheme → List ℕ
@@ -31,16 +32,20 @@ CipherText = Within 0x30 CipherOf
 
 -- ---- reading
 
--- the cipher of an identifier, with this initialization vector
+-- the cipher of an identifier, with this initialization vector or nonce
 abbrev pub cipher_named : ObjectIdentifier → List ℕ → Option EncryptionScheme
 cipher_named o iv =
     if bytes_eq (oid_octets o) aes_128_cbc_oid then Some (Aes128Cbc iv)
     else (if bytes_eq (oid_octets o) aes_192_cbc_oid then Some (Aes192Cbc iv)
-    else (if bytes_eq (oid_octets o) aes_256_cbc_oid then Some (Aes256Cbc iv) else None))
+    else (if bytes_eq (oid_octets o) aes_256_cbc_oid then Some (Aes256Cbc iv)
+    else (if bytes_eq (oid_octets o) aes_128_gcm_oid then Some (Aes128Gcm iv)
+    else (if bytes_eq (oid_octets o) aes_256_gcm_oid then Some (Aes256Gcm iv)
+    else (if bytes_eq (oid_octets o) des_ede3_cbc_oid then Some (DesEde3Cbc iv)
+    else (if bytes_eq (oid_octets o) des_cbc_oid then Some (DesCbc iv) else None))))))
 
 -- the identifier is looked up before the length of the initialization vector is judged
 abbrev pub cipher_with : ObjectIdentifier → List ℕ → Result EncryptionScheme Fault
-cipher_with o iv = known_in (UnknownOid o) (cipher_named o iv) >>= λ c. where_ok (length iv == 16) c
+cipher_with o iv = known_in (UnknownOid o) (cipher_named o iv) >>= λ c. where_ok (length iv == iv_size c) c
 
 -- the cipher that an algorithm is: its parameters have to be an OCTET STRING
 unfoldable pub cipher_in : AnyAlgorithm → Result EncryptionScheme Fault

@@ -15,11 +15,11 @@ use Rattle.asn1_core.specs.ElementLaws.{within-exact, inside-exact}
 use Rattle.asn1_core.specs.StandLaws.{whole_found}
 use Rattle.der_core.specs.Any.{AnyText}
 use Rattle.spki.specs.Algorithm.{algorithm, AlgorithmOf}
-use Rattle.pkcs5.specs.Kinds.{cipher_oid, iv_of}
+use Rattle.pkcs5.specs.Kinds.{cipher_oid, iv_of, iv_size}
 use Rattle.pkcs5.specs.Cipher.{IsCipher, cipher_content, CipherOf, CipherText, cipher_named, cipher_with, cipher_in, cipher_of, cipher_at}
 use Rattle.pkcs5.specs.JudgedLaws.{Judges, late-exact, if_test, any_is}
 use Rattle.pkcs5.specs.declared.pbes2.encryption_scheme.EncryptionScheme.{EncryptionScheme}
-use Rattle.pkcs5.specs.declared.pbes2.encryption_scheme.EncryptionScheme.TheVariants.{Aes128Cbc, Aes192Cbc, Aes256Cbc}
+use Rattle.pkcs5.specs.declared.pbes2.encryption_scheme.EncryptionScheme.TheVariants.{Aes128Cbc, Aes192Cbc, Aes256Cbc, Aes128Gcm, Aes256Gcm, DesEde3Cbc, DesCbc}
 
 -- the identifier and the initialization vector of a cipher
 abbrev Named : List ℕ → List ℕ → EncryptionScheme → Type 0
@@ -35,17 +35,29 @@ named_found : (o : ObjectIdentifier) (iv : List ℕ) (c : EncryptionScheme) → 
 named_found o iv =
     is_named (oid_octets o) _ iv (Aes128Cbc iv) _ refl refl
     (is_named (oid_octets o) _ iv (Aes192Cbc iv) _ refl refl
-    (is_named (oid_octets o) _ iv (Aes256Cbc iv) _ refl refl (λ d e. absurd cc)))
+    (is_named (oid_octets o) _ iv (Aes256Cbc iv) _ refl refl
+    (is_named (oid_octets o) _ iv (Aes128Gcm iv) _ refl refl
+    (is_named (oid_octets o) _ iv (Aes256Gcm iv) _ refl refl
+    (is_named (oid_octets o) _ iv (DesEde3Cbc iv) _ refl refl
+    (is_named (oid_octets o) _ iv (DesCbc iv) _ refl refl (λ d e. absurd cc)))))))
 
 named_again : (o : ObjectIdentifier) (c : EncryptionScheme) → oid_octets o ≡ cipher_oid c → cipher_named o (iv_of c) ≡ Some c
 named_again o (Aes128Cbc iv) e = rw e refl
 named_again o (Aes192Cbc iv) e = rw e refl
 named_again o (Aes256Cbc iv) e = rw e refl
+named_again o (Aes128Gcm iv) e = rw e refl
+named_again o (Aes256Gcm iv) e = rw e refl
+named_again o (DesEde3Cbc iv) e = rw e refl
+named_again o (DesCbc iv) e = rw e refl
 
 pub cipher_is_identifier : (c : EncryptionScheme) → IsTrue (is_identifier (cipher_oid c))
 cipher_is_identifier (Aes128Cbc iv) = refl
 cipher_is_identifier (Aes192Cbc iv) = refl
 cipher_is_identifier (Aes256Cbc iv) = refl
+cipher_is_identifier (Aes128Gcm iv) = refl
+cipher_is_identifier (Aes256Gcm iv) = refl
+cipher_is_identifier (DesEde3Cbc iv) = refl
+cipher_is_identifier (DesCbc iv) = refl
 
 known_ok : (x : Option EncryptionScheme) (u : Fault) (c : EncryptionScheme) → known_in u x ≡ Ok c → x ≡ Some c
 known_ok None u c e = absurd cc
@@ -56,10 +68,10 @@ octets-exact = inside-exact 4 refl
 
 with_found : (o : ObjectIdentifier) (iv : List ℕ) (c : EncryptionScheme) → cipher_with o iv ≡ Ok c → Named (oid_octets o) iv c × IsCipher c
 with_found o iv c e =
-    let x = bind_ok (known_in (UnknownOid o) (cipher_named o iv)) (λ c. where_ok (nat_eq (length iv) 16) c) c e in
-    let w = where_holds (nat_eq (length iv) 16) x.0 c x.2 in
+    let x = bind_ok (known_in (UnknownOid o) (cipher_named o iv)) (λ c. where_ok (nat_eq (length iv) (iv_size c)) c) c e in
+    let w = where_holds (nat_eq (length iv) (iv_size x.0)) x.0 c x.2 in
     let named : Named (oid_octets o) iv c = subst (Named (oid_octets o) iv) w.1 (named_found o iv x.0 (known_ok (cipher_named o iv) (UnknownOid o) x.0 x.1)) in
-    (named, ap length (sym named.1) ∙ eqb-true (length iv) 16 w.0)
+    (named, ap length (sym named.1) ∙ eqb-true (length iv) (iv_size x.0) w.0 ∙ ap (λ (c : EncryptionScheme). iv_size c) w.1)
 
 cipher_found : (o : ObjectIdentifier) (x : Option (ℕ × List ℕ)) (p : List ℕ) (c : EncryptionScheme) → Perhaps AnyText p x → cipher_in (algorithm o x) ≡ Ok c → CipherOf (oid (oid_octets o) ++ p) c
 unfolding cipher_in
@@ -81,8 +93,8 @@ cipher-judges = record {
       let same : oid_octets o ≡ cipher_oid c = octets-oid_of (cipher_oid c) (cipher_is_identifier c) in
       let read : whole (within 4 left) (el 4 iv) ≡ Ok iv = (whole-exact (Within 4 Left) (within 4 left) octets-exact).again (el 4 iv) iv (iv, refl, refl) (IsShort-right (oid (cipher_oid c)) (el 4 iv) (subst IsShort r.1 short)) in
       let named : known_in (UnknownOid o) (cipher_named o iv) ≡ Ok c = ap (known_in (UnknownOid o)) (named_again o c same) in
-      let long : where_ok (nat_eq (length iv) 16) c ≡ Ok c = where_true (nat_eq (length iv) 16) c (eq-eqb (length iv) 16 r.0) in
-      let is : cipher_with o iv ≡ Ok c = ap (λ q. q >>= λ c. where_ok (nat_eq (length iv) 16) c) named ∙ long in
+      let long : where_ok (nat_eq (length iv) (iv_size c)) c ≡ Ok c = where_true (nat_eq (length iv) (iv_size c)) c (eq-eqb (length iv) (iv_size c) r.0) in
+      let is : cipher_with o iv ≡ Ok c = ap (λ q. q >>= λ c. where_ok (nat_eq (length iv) (iv_size c)) c) named ∙ long in
       (algorithm o (Some (4, iv)), (el 4 iv, (4, iv, refl, refl, refl, refl), r.1 ∙ ap (λ (k : List ℕ). oid k ++ el 4 iv) (sym same)), ap (λ q. q >>= cipher_with o) read ∙ is);
 }
 

@@ -117,7 +117,7 @@ module _ {A B C D V : Type 0} (P : List ℕ → A → Type 0) (Q : List ℕ → 
         rw one (rw two (rw (x.2, y.2, r.7) refl));
   }
 
--- ---- an algorithm of one identifier
+-- ---- an algorithm that is judged by its identifier and its parameters
 
 -- by the outcome of a test of octets
 pub if_test : {V : Type 0} (R : V → Type 0) (k m : List ℕ) (x y : V) → (k ≡ m → R x) → R y → R (if bytes_eq k m then x else y)
@@ -133,39 +133,45 @@ if_same k m x y e = rw ((bytes_eq-Decides k m).1 e) refl
 pub any_is : (p : List ℕ) (x : ℕ × List ℕ) → AnyText p x → p ≡ el x.0 x.1
 any_is p x r = r.5 ∙ ap (λ (z : ℕ × List ℕ). el z.0 z.1) (sym r.4)
 
-abbrev with_one : {V W : Type 0} → List ℕ → Front V → (V → W) → (ObjectIdentifier → Fault) → ObjectIdentifier → ℕ × List ℕ → Result W Fault
-with_one id q wrap unknown o p = if bytes_eq (oid_octets o) id then (whole q (el p.0 p.1) >>= λ v. Ok (wrap v)) else Err (unknown o)
+abbrev pub in_with : {W : Type 0} → (ObjectIdentifier → ℕ × List ℕ → Result W Fault) → AnyAlgorithm → Result W Fault
+in_with f a = elim a.parameters [ None ↦ Err Bad | Some p ↦ f a.oid p ]
 
-abbrev in_one : {V W : Type 0} → List ℕ → Front V → (V → W) → (ObjectIdentifier → Fault) → AnyAlgorithm → Result W Fault
-in_one id q wrap unknown a = elim a.parameters [ None ↦ Err Bad | Some p ↦ with_one id q wrap unknown a.oid p ]
+-- judging an identifier with parameters gives what stands for both in R, whose texts are an identifier and a SEQUENCE
+pub record JudgesWith {W : Type 0} (f : ObjectIdentifier → ℕ × List ℕ → Result W Fault) (R : List ℕ → W → Type 0) : Type 0 where
+  pub found : (o : ObjectIdentifier) (x : ℕ × List ℕ) (w : W) → f o x ≡ Ok w → R (oid (oid_octets o) ++ el x.0 x.1) w
+  pub again : (b : List ℕ) (w : W) → R b w → IsShort b → (id : List ℕ) × (v : List ℕ) × IsTrue (is_identifier id) × (b ≡ oid id ++ el 0x30 v)
+      × ((o : ObjectIdentifier) → oid_octets o ≡ id → f o (0x30, v) ≡ Ok w)
 
-module _ {V W : Type 0} (id : List ℕ) (ok : IsTrue (is_identifier id)) (T : List ℕ → V → Type 0) (q : All V) (exact : ExactAll T q) (wrap : V → W) (unknown : ObjectIdentifier → Fault) where
-  abbrev pub One : List ℕ → W → Type 0
-  One b w = (p : List ℕ) × (v : V) × Within 0x30 T p v × (b ≡ oid id ++ p) × (w ≡ wrap v)
+module _ {W : Type 0} (f : ObjectIdentifier → ℕ × List ℕ → Result W Fault) (R : List ℕ → W → Type 0) (j : JudgesWith f R) where
+  in_found : (o : ObjectIdentifier) (x : Option (ℕ × List ℕ)) (p : List ℕ) (w : W) → Perhaps AnyText p x → in_with f (algorithm o x) ≡ Ok w → R (oid (oid_octets o) ++ p) w
+  in_found o None p w r e = absurd cc
+  in_found o (Some x) p w r e = subst (λ (l : List ℕ). R (oid (oid_octets o) ++ l) w) (sym (any_is p x r)) (j.found o x w e)
 
+  pub with_judges : Judges (AlgorithmOf AnyText) (in_with f) R
+  with_judges = record {
+    found = λ b a w r e. subst (λ (l : List ℕ). R l w) (sym r.2) (in_found a.oid a.parameters r.0 w r.1 e);
+    again = λ b w r short.
+        let x = j.again b w r short in
+        let o = oid_of x.0 x.2 in
+        let same : oid_octets o ≡ x.0 = octets-oid_of x.0 x.2 in
+        let s : IsShort (el 0x30 x.1) = IsShort-right (oid x.0) (el 0x30 x.1) (subst IsShort x.3 short) in
+        (algorithm o (Some (0x30, x.1)), (el 0x30 x.1, (0x30, x.1, refl, refl, refl, refl), x.3 ∙ ap (λ (k : List ℕ). oid k ++ el 0x30 x.1) (sym same)), x.4 o same);
+  }
+
+-- ---- parameters of one row, and the value that is made of them
+
+module _ {V W : Type 0} (T : List ℕ → V → Type 0) (q : All V) (exact : ExactAll T q) (wrap : V → W) where
   around : Exact (Within 0x30 T) (within 0x30 q)
   around = within-exact 0x30 T q refl exact
 
-  with_found : (o : ObjectIdentifier) (x : ℕ × List ℕ) (w : W) → with_one id (within 0x30 q) wrap unknown o x ≡ Ok w → One (oid (oid_octets o) ++ el x.0 x.1) w
-  with_found o x w =
-      if_test (λ (r : Result W Fault). r ≡ Ok w → One (oid (oid_octets o) ++ el x.0 x.1) w) (oid_octets o) id _ _
-      (λ is e.
+  -- found in an element
+  pub row_found : (x : ℕ × List ℕ) (w : W) → (whole (within 0x30 q) (el x.0 x.1) >>= λ v. Ok (wrap v)) ≡ Ok w → (v : V) × Within 0x30 T (el x.0 x.1) v × (w ≡ wrap v)
+  row_found x w e =
       let y = bind_ok (whole (within 0x30 q) (el x.0 x.1)) (λ v. Ok (wrap v)) w e in
-      (el x.0 x.1, y.0, (whole_found (Within 0x30 T) (within 0x30 q) around (el x.0 x.1) y.0 y.1).0, ap (λ (k : List ℕ). oid k ++ el x.0 x.1) is, sym (ok_is (wrap y.0) w y.2)))
-      (λ e. absurd cc)
+      (y.0, (whole_found (Within 0x30 T) (within 0x30 q) around (el x.0 x.1) y.0 y.1).0, sym (ok_is (wrap y.0) w y.2))
 
-  in_found : (o : ObjectIdentifier) (x : Option (ℕ × List ℕ)) (p : List ℕ) (w : W) → Perhaps AnyText p x → in_one id (within 0x30 q) wrap unknown (algorithm o x) ≡ Ok w → One (oid (oid_octets o) ++ p) w
-  in_found o None p w r e = absurd cc
-  in_found o (Some x) p w r e = subst (λ (l : List ℕ). One (oid (oid_octets o) ++ l) w) (sym (any_is p x r)) (with_found o x w e)
-
-  pub one-judges : Judges (AlgorithmOf AnyText) (in_one id (within 0x30 q) wrap unknown) One
-  one-judges = record {
-    found = λ b a w r e. subst (λ (l : List ℕ). One l w) (sym r.2) (in_found a.oid a.parameters r.0 w r.1 e);
-    again = λ b w r short.
-        let o = oid_of id ok in
-        let same : oid_octets o ≡ id = octets-oid_of id ok in
-        let s : IsShort (el 0x30 r.2.0) = subst IsShort r.2.2 (IsShort-right (oid id) r.0 (subst IsShort r.3 short)) in
-        let read : whole (within 0x30 q) (el 0x30 r.2.0) ≡ Ok r.1 = (whole-exact (Within 0x30 T) (within 0x30 q) around).again (el 0x30 r.2.0) r.1 (r.2.0, r.2.1, refl) s in
-        let is : in_one id (within 0x30 q) wrap unknown (algorithm o (Some (0x30, r.2.0))) ≡ Ok w = if_same (oid_octets o) id _ _ same ∙ rw (read, r.4) refl in
-        (algorithm o (Some (0x30, r.2.0)), (r.0, (0x30, r.2.0, refl, refl, refl, r.2.2), r.3 ∙ ap (λ (k : List ℕ). oid k ++ r.0) (sym same)), is);
-  }
+  -- and read again
+  pub row_again : (b : List ℕ) (v : V) (r : Within 0x30 T b v) → IsShort b → (whole (within 0x30 q) (el 0x30 r.0) >>= λ v. Ok (wrap v)) ≡ Ok (wrap v)
+  row_again b v r short =
+      let read : whole (within 0x30 q) (el 0x30 r.0) ≡ Ok v = (whole-exact (Within 0x30 T) (within 0x30 q) around).again (el 0x30 r.0) v (r.0, r.1, refl) (subst IsShort r.2 short) in
+      ap (λ r. r >>= λ v. Ok (wrap v)) read

@@ -1,7 +1,7 @@
 -- lemmas only: nothing to believe here
 -- The parameters of PBES2 are read exactly, and what is written of them is read again.
 use Rattle.std.specs.Prelude.{◌↔◌}
-use Rattle.std.proofs.Common.{◌≡◌, ℕ, List, ◌++◌, refl, sym, ap, subst, ◌∙◌, inl, inr, ◌⊎◌}
+use Rattle.std.proofs.Common.{ℕ, List, ◌++◌, refl, sym, ap, subst, ◌∙◌}
 use Rattle.asn1_core.specs.Der.{el, seq}
 use Rattle.asn1_core.specs.Reading.{any_tag}
 use Rattle.asn1_core.specs.Texts.{Exact, ExactAll}

@@ -1,13 +1,13 @@
 -- lemmas only: nothing to believe here
 -- Salts and the parameters of PBKDF2 are read exactly, and what is written of them is read again.
 use Rattle.std.specs.Prelude.{◌↔◌}
-use Rattle.std.proofs.Common.{◌≡◌, ℕ, ◌<◌, ◌≤◌, false, List, [], ◌∷◌, ◌++◌, length, Option, Some, None, Ok, refl, sym, ap, subst, ◌∙◌, append_assoc, arith, inl, inr, ◌⊎◌, IsTrue, nat_lt, nat_eq}
+use Rattle.std.proofs.Common.{◌≡◌, ℕ, ◌<◌, ◌≤◌, false, List, [], ◌∷◌, ◌++◌, length, Option, Some, None, Ok, refl, sym, ap, subst, ◌∙◌, append_assoc, arith, inl, inr, IsTrue, nat_lt, nat_eq}
 use Rattle.std.proofs.lemmas.Bool.{ltb-true, lt-ltb}
 use Rattle.std.proofs.lemmas.List.{append-nil}
 use Rattle.asn1_core.specs.Der.{el, octets, uint, seq, shortest, is_tag}
 use Rattle.asn1_core.specs.Fields.{OrNothing}
 use Rattle.asn1_core.specs.Reading.{within, uint_at}
-use Rattle.asn1_core.specs.Texts.{ExactAll, On, Ended, Within, Perhaps, Uint, UintOf}
+use Rattle.asn1_core.specs.Texts.{Exact, ExactAll, On, Ended, Within, Perhaps, Uint, UintOf}
 use Rattle.asn1_core.specs.ExactLaws.{on-exact, ended-exact, same-exact, where_holds, where_true}
 use Rattle.asn1_core.specs.ElementLaws.{within-exact, within-whole}
 use Rattle.asn1_core.specs.NumberLaws.{uint-exact}
@@ -16,7 +16,7 @@ use Rattle.der_core.specs.Optional.{canon_option, writable_option}
 use Rattle.pkcs5.specs.Salt.{IsSalt, SaltOf, salt_of}
 use Rattle.pkcs5.specs.Pbkdf2Prf.{PrfOf, PrfText, SpellsPrf, prf_content, prf_of}
 use Rattle.pkcs5.specs.PrfLaws.{prf-exact, prf_canonical, prf_spelled}
-use Rattle.pkcs5.specs.Pbkdf2Params.{pbkdf2_params, Pbkdf2ParamsOf, Pbkdf2ParamsText, stated_prf, before_prf, pbkdf2_params_content, ArePbkdf2Params, SpellsPbkdf2Params, prf_or_default, pbkdf2_params_of}
+use Rattle.pkcs5.specs.Pbkdf2Params.{pbkdf2_params, Pbkdf2ParamsOf, Pbkdf2ParamsText, stated_prf, before_prf, pbkdf2_params_content, ArePbkdf2Params, SpellsPbkdf2Params, prf_or_default, pbkdf2_params_of, pbkdf2_params_at}
 use Rattle.pkcs5.specs.declared.pbes2.pbkdf2_params.Pbkdf2Params.{Pbkdf2Params}
 use Rattle.pkcs5.specs.declared.pbes2.pbkdf2_prf.Pbkdf2Prf.{Pbkdf2Prf}
 use Rattle.pkcs5.specs.declared.pbes2.pbkdf2_prf.Pbkdf2Prf.TheVariants.{HmacWithSha1, HmacWithSha224, HmacWithSha256, HmacWithSha384, HmacWithSha512}
@@ -115,9 +115,12 @@ from b v (s, n, k, f, h, g, r, x, is) =
 pub pbkdf2_params_of-exact : ExactAll Pbkdf2ParamsOf pbkdf2_params_of
 pbkdf2_params_of-exact = same-exact Parts Pbkdf2ParamsOf pbkdf2_params_of to from parts
 
+pub pbkdf2_params-exact : Exact Pbkdf2ParamsText pbkdf2_params_at
+pbkdf2_params-exact = within-exact 0x30 Pbkdf2ParamsOf pbkdf2_params_of refl pbkdf2_params_of-exact
+
 -- ---- what is written
 
-length_written : (k : Option ℕ) → writable_option (λ n. n ≤ 65535) k → Perhaps (Uint 65535) (canon_option uint k) k
+pub length_written : (k : Option ℕ) → writable_option (λ n. n ≤ 65535) k → Perhaps (Uint 65535) (canon_option uint k) k
 length_written None h = refl
 length_written (Some n) h = (shortest n, (h, refl), refl)
 
@@ -145,7 +148,7 @@ pbkdf2_params_canonical v h = (
   refl,
 )
 
-length_spelled : (k : Option ℕ) (b : List ℕ) → Perhaps (Uint 65535) b k → writable_option (λ n. n ≤ 65535) k × (b ≡ canon_option uint k)
+pub length_spelled : (k : Option ℕ) (b : List ℕ) → Perhaps (Uint 65535) b k → writable_option (λ n. n ≤ 65535) k × (b ≡ canon_option uint k)
 length_spelled None b r = (tt, r)
 length_spelled (Some n) b r = (r.1.0, r.2 ∙ ap (λ (l : List ℕ). el 2 l) r.1.1)
 

@@ -3,7 +3,7 @@ use Rattle.std.specs.Prelude.{if◌then◌else◌, ◌≡◌, ◌⊎◌, ℕ, Li
 use Rattle.std.specs.Str.{bytes_eq}
 use Rattle.asn1_core.specs.Der.{oid, null, seq, el}
 use Rattle.asn1_core.specs.Oid.{oid_octets}
-use Rattle.asn1_core.specs.Reading.{Fault, UnknownOid, All, ◌>>=◌, any_tag, ended, whole, within, known}
+use Rattle.asn1_core.specs.Reading.{Fault, UnknownOid, All, Front, ◌>>=◌, any_tag, ended, whole, within, known}
 use Rattle.asn1_core.specs.Texts.{Within}
 use Rattle.asn1_core.specs.declared.identifier.ObjectIdentifier.{ObjectIdentifier}
 use Rattle.der_core.specs.Any.{any_at}
@@ -58,3 +58,6 @@ prf_in a = null_or_none a.parameters >>= λ u. known prf_named UnknownOid a.oid
 
 abbrev pub prf_of : All Pbkdf2Prf
 prf_of b = algorithm_of any_tag any_at b >>= prf_in
+
+abbrev pub prf_at : Front Pbkdf2Prf
+prf_at = within 0x30 prf_of

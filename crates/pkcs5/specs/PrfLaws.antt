@@ -19,7 +19,7 @@ use Rattle.spki.specs.Algorithm.{algorithm, AlgorithmOf}
 use Rattle.spki.specs.AlgorithmLaws.{algorithm_of-exact}
 use Rattle.spki.specs.AnyLaws.{any-exact, any-whole}
 use Rattle.pkcs5.specs.Kinds.{prf_oid}
-use Rattle.pkcs5.specs.Pbkdf2Prf.{PrfOf, PrfText, prf_content, SpellsPrf, prf_named, null_or_none, prf_in, prf_of}
+use Rattle.pkcs5.specs.Pbkdf2Prf.{PrfOf, PrfText, prf_content, SpellsPrf, prf_named, null_or_none, prf_in, prf_of, prf_at}
 use Rattle.pkcs5.specs.JudgedLaws.{Judges, judged-exact, if_test, any_is}
 use Rattle.pkcs5.specs.declared.pbes2.pbkdf2_prf.Pbkdf2Prf.{Pbkdf2Prf}
 use Rattle.pkcs5.specs.declared.pbes2.pbkdf2_prf.Pbkdf2Prf.TheVariants.{HmacWithSha1, HmacWithSha224, HmacWithSha256, HmacWithSha384, HmacWithSha512}
@@ -92,7 +92,7 @@ prf-judges = record {
 pub prf_of-exact : ExactAll PrfOf prf_of
 prf_of-exact = judged-exact (AlgorithmOf AnyText) prf_in PrfOf prf-judges _ (algorithm_of-exact any_tag AnyText any_at any-exact any-whole)
 
-pub prf-exact : Exact PrfText (within 0x30 prf_of)
+pub prf-exact : Exact PrfText prf_at
 prf-exact = within-exact 0x30 PrfOf prf_of refl prf_of-exact
 
 -- ---- what is written

@@ -12,12 +12,21 @@ use Rattle.pkcs5.specs.declared.pbes2.pbkdf2_params.Pbkdf2Params.{Pbkdf2Params}
 use Rattle.pkcs5.specs.Parameters.{parameters}
 use Rattle.pkcs5.specs.declared.pbes2.pbkdf2_prf.Pbkdf2Prf.{Pbkdf2Prf}
 use Rattle.pkcs5.specs.declared.pbes2.kdf.Kdf.{Kdf}
-use Rattle.pkcs5.specs.declared.pbes2.kdf.Kdf.TheVariants.{Pbkdf2}
+use Rattle.pkcs5.specs.declared.pbes2.kdf.Kdf.TheVariants.{Pbkdf2, Scrypt}
+use Rattle.pkcs5.specs.declared.pbes2.scrypt_params.ScryptParams.{ScryptParams}
+use Rattle.pkcs5.specs.ScryptParams.{scrypt_params}
 use Rattle.pkcs5.specs.declared.pbes2.encryption_scheme.EncryptionScheme.{EncryptionScheme as Cipher}
-use Rattle.pkcs5.specs.declared.pbes2.encryption_scheme.EncryptionScheme.TheVariants.{Aes128Cbc, Aes192Cbc, Aes256Cbc}
+use Rattle.pkcs5.specs.declared.pbes2.encryption_scheme.EncryptionScheme.TheVariants.{Aes128Cbc, Aes192Cbc, Aes256Cbc, Aes128Gcm, Aes256Gcm, DesEde3Cbc, DesCbc}
+use Rattle.pkcs5.specs.Alike.{kind_of, of_kind, alike}
+use Rattle.pkcs5.specs.Kinds.{iv_of}
 use Rattle.pkcs5.specs.declared.pbes2.parameters.Parameters.{Parameters}
 use Rattle.pkcs5.specs.declared.encryption_scheme.EncryptionScheme.{EncryptionScheme as Scheme}
-use Rattle.pkcs5.specs.declared.encryption_scheme.EncryptionScheme.TheVariants.{Pbes2}
+use Rattle.pkcs5.specs.declared.encryption_scheme.EncryptionScheme.TheVariants.{Pbes1, Pbes2}
+use Rattle.pkcs5.specs.contracts.pbes1.encryption_scheme.EncryptionScheme.{the_type as pbe_type}
+use Rattle.pkcs5.specs.declared.pbes1.encryption_scheme.EncryptionScheme.{EncryptionScheme as Pbe}
+use Rattle.pkcs5.specs.declared.pbes1.parameters.Parameters.{Parameters as PbeParameters}
+use Rattle.pkcs5.specs.declared.pbes1.algorithm.Algorithm.{Algorithm}
+use Rattle.pkcs5.specs.Pbes1.{pbe, pbe_params}
 
 pub prf_same : (f g : Pbkdf2Prf) → (f ≡ g → sameb the_type f g ≡ true) × (sameb the_type f g ≡ true → f ≡ g)
 prf_same f g = (λ e. true_same the_type f g e, λ h. same_true the_type tt f g h)
@@ -52,40 +61,109 @@ params_itself v w e =
 pub pbkdf2_params_same : (v w : Pbkdf2Params) → (v ≡ w → params_eq v w ≡ true) × (params_eq v w ≡ true → v ≡ w)
 pbkdf2_params_same v w = (params_itself v w, params_told v w)
 
+-- the five of scrypt's
+abbrev pub scrypt_eq : ScryptParams → ScryptParams → Bool
+scrypt_eq v w =
+    pointwise nat_eq v.salt w.salt && (nat_eq v.cost_parameter w.cost_parameter && (nat_eq v.block_size w.block_size
+    && (nat_eq v.parallelization w.parallelization && option_eq nat_eq v.key_length w.key_length)))
+
+scrypt_told : (v w : ScryptParams) → scrypt_eq v w ≡ true → v ≡ w
+scrypt_told v w h =
+    let x = both (pointwise nat_eq v.salt w.salt) _ h in
+    let y = both (nat_eq v.cost_parameter w.cost_parameter) _ x.1 in
+    let z = both (nat_eq v.block_size w.block_size) _ y.1 in
+    let u = both (nat_eq v.parallelization w.parallelization) (option_eq nat_eq v.key_length w.key_length) z.1 in
+    ap (λ (s : List ℕ). scrypt_params s v.cost_parameter v.block_size v.parallelization v.key_length) ((octets_same v.salt w.salt).1 x.0)
+    ∙ ap (λ (n : ℕ). scrypt_params w.salt n v.block_size v.parallelization v.key_length) ((number_same v.cost_parameter w.cost_parameter).1 y.0)
+    ∙ ap (λ (n : ℕ). scrypt_params w.salt w.cost_parameter n v.parallelization v.key_length) ((number_same v.block_size w.block_size).1 z.0)
+    ∙ ap (λ (n : ℕ). scrypt_params w.salt w.cost_parameter w.block_size n v.key_length) ((number_same v.parallelization w.parallelization).1 u.0)
+    ∙ ap (λ (k : Option ℕ). scrypt_params w.salt w.cost_parameter w.block_size w.parallelization k) ((lengths_same v.key_length w.key_length).1 u.1)
+
+scrypt_itself : (v w : ScryptParams) → v ≡ w → scrypt_eq v w ≡ true
+scrypt_itself v w e =
+    and_true (pointwise nat_eq v.salt w.salt) _ ((octets_same v.salt w.salt).0 (ap (λ (x : ScryptParams). x.salt) e))
+    (and_true (nat_eq v.cost_parameter w.cost_parameter) _ ((number_same v.cost_parameter w.cost_parameter).0 (ap (λ (x : ScryptParams). x.cost_parameter) e))
+    (and_true (nat_eq v.block_size w.block_size) _ ((number_same v.block_size w.block_size).0 (ap (λ (x : ScryptParams). x.block_size) e))
+    (and_true (nat_eq v.parallelization w.parallelization) (option_eq nat_eq v.key_length w.key_length) ((number_same v.parallelization w.parallelization).0 (ap (λ (x : ScryptParams). x.parallelization) e))
+    ((lengths_same v.key_length w.key_length).0 (ap (λ (x : ScryptParams). x.key_length) e)))))
+
+pub scrypt_params_same : (v w : ScryptParams) → (v ≡ w → scrypt_eq v w ≡ true) × (scrypt_eq v w ≡ true → v ≡ w)
+scrypt_params_same v w = (scrypt_itself v w, scrypt_told v w)
+
+-- ---- algorithms of PBES1
+
+pub pbe_scheme_same : (f g : Pbe) → (f ≡ g → sameb pbe_type f g ≡ true) × (sameb pbe_type f g ≡ true → f ≡ g)
+pbe_scheme_same f g = (λ e. true_same pbe_type f g e, λ h. same_true pbe_type tt f g h)
+
+abbrev pub pbe_params_eq : PbeParameters → PbeParameters → Bool
+pbe_params_eq v w = pointwise nat_eq v.salt w.salt && nat_eq v.iteration_count w.iteration_count
+
+pub pbe_params_same : (v w : PbeParameters) → (v ≡ w → pbe_params_eq v w ≡ true) × (pbe_params_eq v w ≡ true → v ≡ w)
+pbe_params_same v w = (
+  λ e. and_true (pointwise nat_eq v.salt w.salt) (nat_eq v.iteration_count w.iteration_count)
+      ((octets_same v.salt w.salt).0 (ap (λ (x : PbeParameters). x.salt) e)) ((number_same v.iteration_count w.iteration_count).0 (ap (λ (x : PbeParameters). x.iteration_count) e)),
+  λ h.
+      let x = both (pointwise nat_eq v.salt w.salt) (nat_eq v.iteration_count w.iteration_count) h in
+      ap (λ (s : List ℕ). pbe_params s v.iteration_count) ((octets_same v.salt w.salt).1 x.0) ∙ ap (λ (n : ℕ). pbe_params w.salt n) ((number_same v.iteration_count w.iteration_count).1 x.1),
+)
+
+abbrev pub pbe_eq : Algorithm → Algorithm → Bool
+pbe_eq v w = sameb pbe_type v.encryption w.encryption && pbe_params_eq v.parameters w.parameters
+
+pub pbe_same : (v w : Algorithm) → (v ≡ w → pbe_eq v w ≡ true) × (pbe_eq v w ≡ true → v ≡ w)
+pbe_same v w = (
+  λ e. and_true (sameb pbe_type v.encryption w.encryption) (pbe_params_eq v.parameters w.parameters)
+      ((pbe_scheme_same v.encryption w.encryption).0 (ap (λ (x : Algorithm). x.encryption) e)) ((pbe_params_same v.parameters w.parameters).0 (ap (λ (x : Algorithm). x.parameters) e)),
+  λ h.
+      let x = both (sameb pbe_type v.encryption w.encryption) (pbe_params_eq v.parameters w.parameters) h in
+      ap (λ (s : Pbe). pbe s v.parameters) ((pbe_scheme_same v.encryption w.encryption).1 x.0) ∙ ap (λ (p : PbeParameters). pbe w.encryption p) ((pbe_params_same v.parameters w.parameters).1 x.1),
+)
+
 -- q says whether two values are one
 abbrev pub Tells : {A : Type 0} → (A → A → Bool) → Type 0
 Tells {A = A} q = (v w : A) → (v ≡ w → q v w ≡ true) × (q v w ≡ true → v ≡ w)
 
 -- ---- by the test at each variant
 
-pub kdf_same : (q : Kdf → Kdf → Bool) → ((v w : Pbkdf2Params) → q (Pbkdf2 v) (Pbkdf2 w) ≡ params_eq v w) → Tells q
-kdf_same q is (Pbkdf2 v) (Pbkdf2 w) = (
-  λ e. let f : v ≡ w = cc in is v w ∙ params_itself v w f,
-  λ h. ap (λ (x : Pbkdf2Params). Pbkdf2 x) (params_told v w (sym (is v w) ∙ h)),
+module _ (q : Kdf → Kdf → Bool)
+    (a : (v w : Pbkdf2Params) → q (Pbkdf2 v) (Pbkdf2 w) ≡ params_eq v w) (b : (v w : ScryptParams) → q (Scrypt v) (Scrypt w) ≡ scrypt_eq v w)
+    (c : (v : Pbkdf2Params) (w : ScryptParams) → q (Pbkdf2 v) (Scrypt w) ≡ false) (d : (v : ScryptParams) (w : Pbkdf2Params) → q (Scrypt v) (Pbkdf2 w) ≡ false) where
+  pub kdf_same : Tells q
+  kdf_same (Pbkdf2 v) (Pbkdf2 w) = (
+    λ e. let f : v ≡ w = cc in a v w ∙ params_itself v w f,
+    λ h. ap (λ (x : Pbkdf2Params). Pbkdf2 x) (params_told v w (sym (a v w) ∙ h)),
+  )
+  kdf_same (Scrypt v) (Scrypt w) = (
+    λ e. let f : v ≡ w = cc in b v w ∙ (scrypt_params_same v w).0 f,
+    λ h. ap (λ (x : ScryptParams). Scrypt x) ((scrypt_params_same v w).1 (sym (b v w) ∙ h)),
+  )
+  kdf_same (Pbkdf2 v) (Scrypt w) = (λ e. absurd cc, λ h. let z : true ≡ false = sym h ∙ c v w in absurd cc)
+  kdf_same (Scrypt v) (Pbkdf2 w) = (λ e. absurd cc, λ h. let z : true ≡ false = sym h ∙ d v w in absurd cc)
+
+-- ---- ciphers, by their kind and their vector
+
+again : (c : Cipher) → of_kind (kind_of c) (iv_of c) ≡ Some c
+again (Aes128Cbc v) = refl
+again (Aes192Cbc v) = refl
+again (Aes256Cbc v) = refl
+again (Aes128Gcm v) = refl
+again (Aes256Gcm v) = refl
+again (DesEde3Cbc v) = refl
+again (DesCbc v) = refl
+
+-- two of one kind and one vector are one
+pub cipher_told : (v w : Cipher) → kind_of v ≡ kind_of w → iv_of v ≡ iv_of w → v ≡ w
+cipher_told v w k e =
+    let s : Some v ≡ Some w = sym (again v) ∙ (λ i. of_kind (k i) (e i)) ∙ again w in cc
+
+pub cipher_same : (v w : Cipher) → (v ≡ w → alike v w ≡ true) × (alike v w ≡ true → v ≡ w)
+cipher_same v w = (
+  λ e. and_true (nat_eq (kind_of v) (kind_of w)) (pointwise nat_eq (iv_of v) (iv_of w))
+      ((number_same (kind_of v) (kind_of w)).0 (ap (λ (c : Cipher). kind_of c) e)) ((octets_same (iv_of v) (iv_of w)).0 (ap (λ (c : Cipher). iv_of c) e)),
+  λ h.
+      let x = both (nat_eq (kind_of v) (kind_of w)) (pointwise nat_eq (iv_of v) (iv_of w)) h in
+      cipher_told v w ((number_same (kind_of v) (kind_of w)).1 x.0) ((octets_same (iv_of v) (iv_of w)).1 x.1),
 )
-
-module _ (q : Cipher → Cipher → Bool)
-    (a : (v w : List ℕ) → q (Aes128Cbc v) (Aes128Cbc w) ≡ pointwise nat_eq v w) (b : (v w : List ℕ) → q (Aes192Cbc v) (Aes192Cbc w) ≡ pointwise nat_eq v w)
-    (c : (v w : List ℕ) → q (Aes256Cbc v) (Aes256Cbc w) ≡ pointwise nat_eq v w) (d : (v w : List ℕ) → q (Aes128Cbc v) (Aes192Cbc w) ≡ false)
-    (e : (v w : List ℕ) → q (Aes128Cbc v) (Aes256Cbc w) ≡ false) (f : (v w : List ℕ) → q (Aes192Cbc v) (Aes128Cbc w) ≡ false)
-    (g : (v w : List ℕ) → q (Aes192Cbc v) (Aes256Cbc w) ≡ false) (h : (v w : List ℕ) → q (Aes256Cbc v) (Aes128Cbc w) ≡ false)
-    (i : (v w : List ℕ) → q (Aes256Cbc v) (Aes192Cbc w) ≡ false) where
-  vectors : (wrap : List ℕ → Cipher) → ((v w : List ℕ) → q (wrap v) (wrap w) ≡ pointwise nat_eq v w) → (v w : List ℕ) → (v ≡ w → q (wrap v) (wrap w) ≡ true) × (q (wrap v) (wrap w) ≡ true → wrap v ≡ wrap w)
-  vectors wrap is v w = (λ k. is v w ∙ (octets_same v w).0 k, λ k. ap wrap ((octets_same v w).1 (sym (is v w) ∙ k)))
-
-  apart : (x y : Cipher) → q x y ≡ false → (x ≡ y → ⊥) → (x ≡ y → q x y ≡ true) × (q x y ≡ true → x ≡ y)
-  apart x y unlike differ = (λ k. absurd (differ k), λ k. let z : true ≡ false = sym k ∙ unlike in absurd cc)
-
-  pub cipher_same : Tells q
-  cipher_same (Aes128Cbc v) (Aes128Cbc w) = (λ k. (vectors (λ x. Aes128Cbc x) a v w).0 cc, (vectors (λ x. Aes128Cbc x) a v w).1)
-  cipher_same (Aes192Cbc v) (Aes192Cbc w) = (λ k. (vectors (λ x. Aes192Cbc x) b v w).0 cc, (vectors (λ x. Aes192Cbc x) b v w).1)
-  cipher_same (Aes256Cbc v) (Aes256Cbc w) = (λ k. (vectors (λ x. Aes256Cbc x) c v w).0 cc, (vectors (λ x. Aes256Cbc x) c v w).1)
-  cipher_same (Aes128Cbc v) (Aes192Cbc w) = apart (Aes128Cbc v) (Aes192Cbc w) (d v w) (λ k. cc)
-  cipher_same (Aes128Cbc v) (Aes256Cbc w) = apart (Aes128Cbc v) (Aes256Cbc w) (e v w) (λ k. cc)
-  cipher_same (Aes192Cbc v) (Aes128Cbc w) = apart (Aes192Cbc v) (Aes128Cbc w) (f v w) (λ k. cc)
-  cipher_same (Aes192Cbc v) (Aes256Cbc w) = apart (Aes192Cbc v) (Aes256Cbc w) (g v w) (λ k. cc)
-  cipher_same (Aes256Cbc v) (Aes128Cbc w) = apart (Aes256Cbc v) (Aes128Cbc w) (h v w) (λ k. cc)
-  cipher_same (Aes256Cbc v) (Aes192Cbc w) = apart (Aes256Cbc v) (Aes192Cbc w) (i v w) (λ k. cc)
 
 pub parameters_same : (p : Kdf → Kdf → Bool) → Tells p → (q : Cipher → Cipher → Bool) → Tells q → Tells (λ (v w : Parameters). p v.kdf w.kdf && q v.encryption w.encryption)
 parameters_same p kdfs q ciphers v w = (
@@ -95,8 +173,17 @@ parameters_same p kdfs q ciphers v w = (
       ap (λ (k : Kdf). parameters k v.encryption) ((kdfs v.kdf w.kdf).1 x.0) ∙ ap (λ (c : Cipher). parameters w.kdf c) ((ciphers v.encryption w.encryption).1 x.1),
 )
 
-pub scheme_same : (q : Scheme → Scheme → Bool) (p : Parameters → Parameters → Bool) → ((v w : Parameters) → q (Pbes2 v) (Pbes2 w) ≡ p v w) → Tells p → Tells q
-scheme_same q p is tells (Pbes2 v) (Pbes2 w) = (
-  λ e. let f : v ≡ w = cc in is v w ∙ (tells v w).0 f,
-  λ h. ap (λ (x : Parameters). Pbes2 x) ((tells v w).1 (sym (is v w) ∙ h)),
-)
+module _ (q : Scheme → Scheme → Bool) (p : Parameters → Parameters → Bool)
+    (a : (v w : Parameters) → q (Pbes2 v) (Pbes2 w) ≡ p v w) (tells : Tells p) (b : (v w : Algorithm) → q (Pbes1 v) (Pbes1 w) ≡ pbe_eq v w)
+    (c : (v : Algorithm) (w : Parameters) → q (Pbes1 v) (Pbes2 w) ≡ false) (d : (v : Parameters) (w : Algorithm) → q (Pbes2 v) (Pbes1 w) ≡ false) where
+  pub scheme_same : Tells q
+  scheme_same (Pbes1 v) (Pbes1 w) = (
+    λ e. let f : v ≡ w = cc in b v w ∙ (pbe_same v w).0 f,
+    λ h. ap (λ (x : Algorithm). Pbes1 x) ((pbe_same v w).1 (sym (b v w) ∙ h)),
+  )
+  scheme_same (Pbes2 v) (Pbes2 w) = (
+    λ e. let f : v ≡ w = cc in a v w ∙ (tells v w).0 f,
+    λ h. ap (λ (x : Parameters). Pbes2 x) ((tells v w).1 (sym (a v w) ∙ h)),
+  )
+  scheme_same (Pbes1 v) (Pbes2 w) = (λ e. absurd cc, λ h. let z : true ≡ false = sym h ∙ c v w in absurd cc)
+  scheme_same (Pbes2 v) (Pbes1 w) = (λ e. absurd cc, λ h. let z : true ≡ false = sym h ∙ d v w in absurd cc)

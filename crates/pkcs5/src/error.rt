@@ -10,14 +10,14 @@ use std::fmt;
 pub enum Error {
     /// The parameters of this algorithm cannot be used, or not with the cipher.
     AlgorithmParametersInvalid { oid: ObjectIdentifier },
-    /// The ciphertext has a wrong length, or what it decrypts to has no padding, as under a wrong password.
+    /// The ciphertext has a wrong length, what it decrypts to has no padding, or its tag is not that of it: as under
+    /// a wrong password.
     DecryptFailed,
     /// The ciphertext does not fit the buffer.
     EncryptFailed,
-    /// The scheme is of PBES1, which neither encrypts nor decrypts here. No call of this crate makes it yet: such a scheme is
-    /// not read.
+    /// The scheme is of PBES1, which neither encrypts nor decrypts here.
     NoPbes1CryptSupport,
-    /// The draw failed.
+    /// The draw gave no octets.
     Rng,
     /// This algorithm is not there for encryption.
     UnsupportedAlgorithm { oid: ObjectIdentifier },

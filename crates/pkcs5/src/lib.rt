@@ -1,10 +1,12 @@
-//! Encryption under a password (PKCS #5, RFC 8018): PBES2 with PBKDF2 and AES in CBC mode.
+//! Encryption under a password (PKCS #5, RFC 8018): PBES2 with PBKDF2 or scrypt, and AES in CBC mode or GCM, Triple
+//! DES and DES; and the schemes of PBES1, which are read and written alone.
 #![tactic(auto)]
 
 mod encryption_scheme;
 mod error;
 pub mod laws;
 pub mod opening_laws;
+pub mod pbes1;
 pub mod pbes2;
 mod scheme_encryption;
 #[cfg(test)]

@@ -1,36 +1,45 @@
 //! Laws of opening, each stated by the contract of a function that changes nothing.
 ghost use Rattle.std.specs.Prelude.{◌≡◌, ◌<◌, ℕ, List, All, length};
-ghost use Rattle.pkcs5.specs.Kinds.{iv_of};
-ghost use Rattle.pkcs5.specs.Opening.{Opens, ciphertext_size};
-ghost use Rattle.pkcs5.specs.SchemeOpening.{SchemeOpens};
+ghost use Rattle.pkcs5.specs.Cipher.{IsCipher};
+ghost use Rattle.pkcs5.specs.Opening.{FitsKey, Opens, ciphertext_size};
+ghost use Rattle.pkcs5.specs.SchemeOpening.{SchemeOpens, SchemeRefusesToOpenIn};
+ghost use Rattle.pkcs5.specs.Refusals.{RefusesToOpenIn};
+ghost use Rattle.pkcs5.specs.declared.error.Error.{Error};
+ghost use Rattle.pkcs5.specs.declared.error.Error.TheVariants as errors;
 ghost use Rattle.pkcs5.specs.declared.encryption_scheme.EncryptionScheme.{EncryptionScheme};
 ghost use Rattle.pkcs5.specs.declared.pbes2.parameters.Parameters.{Parameters};
 
-use mac_modes::laws::padded_text_is_unique;
-
 /// A ciphertext opens to at most one text under the same parameters and password: so decryption of what encryption gave
-/// is the text that was encrypted.
+/// is the text that was encrypted, and the only refusal that it may have is want of memory.
 pub fn decryption_undoes_encryption()
-    ensures { (par : Parameters) (q c m n : List ℕ) → Opens par q c m → Opens par q c n → m ≡ n }
-{
-    padded_text_is_unique();
-}
+    ensures text { (par : Parameters) (q c m n : List ℕ) → Opens par q c m → Opens par q c n
+        → m ≡ n }
+    ensures refused { (par : Parameters) (q c m : List ℕ) (e : Error) → FitsKey par
+        → Opens par q c m
+        → RefusesToOpenIn par q c e → e ≡ errors.Memory }
+{}
 
-/// A ciphertext opens to at most one text under the same scheme and password.
+/// A ciphertext opens to at most one text under the same scheme and password, and where it opens want of memory is
+/// the only refusal.
 pub fn scheme_decryption_undoes_encryption()
-    ensures { (scheme : EncryptionScheme) (q c m n : List ℕ) → SchemeOpens scheme q c m → SchemeOpens scheme q c n → m ≡ n }
-{
-    decryption_undoes_encryption();
-}
+    ensures text { (scheme : EncryptionScheme) (q c m n : List ℕ) → SchemeOpens scheme q c m
+        → SchemeOpens scheme q c n → m ≡ n }
+    ensures refused { (scheme : EncryptionScheme) (q c m : List ℕ) (e : Error)
+        → SchemeOpens scheme q c m
+        → SchemeRefusesToOpenIn scheme q c e → e ≡ errors.Memory }
+{}
 
-/// The length of a ciphertext is the next greater multiple of 16 octets than the length of its text.
+/// The length of a ciphertext is that of its cipher: in CBC the next greater multiple of a block than the length of
+/// its text, and in GCM 16 octets more.
 pub fn ciphertext_length()
-    ensures { (par : Parameters) (q c m : List ℕ) → Opens par q c m → length c ≡ ciphertext_size (length m) }
+    ensures { (par : Parameters) (q c m : List ℕ) → Opens par q c m
+        → length c ≡ ciphertext_size par.encryption (length m) }
 {}
 
 /// Two ciphertexts that open to the same text under the same parameters and password are the same: so what encryption
 /// gives is the only ciphertext of its text.
 pub fn one_ciphertext_opens_to_a_text()
-    ensures { (par : Parameters) (q c d m : List ℕ) → All (λ octet. octet < 256) c → All (λ octet. octet < 256) d
-        → length (iv_of par.encryption) ≡ 16 → Opens par q c m → Opens par q d m → c ≡ d }
+    ensures { (par : Parameters) (q c d m : List ℕ) → All (λ octet. octet < 256) c
+        → All (λ octet. octet < 256) d
+        → IsCipher par.encryption → Opens par q c m → Opens par q d m → c ≡ d }
 {}

@@ -1,6 +1,7 @@
 //! Texts of schemes, and texts under passwords.
 
 mod encryption;
+mod schemes;
 mod texts;
 
 use asn1_core::ObjectIdentifier;

@@ -11,3 +11,5 @@ pub mod Spelling
 pub mod EncryptedPrivateKeyInfo
 pub mod EncryptedPrivateKeyInfoLaws
 pub mod Sealing
+pub mod KeyTypes
+pub mod Writing

@@ -14,7 +14,7 @@ use Rattle.spki.specs.Algorithm.{algorithm}
 use Rattle.spki.specs.AlgorithmLaws.{algorithm_spelled}
 use Rattle.spki.specs.SameLaws.{Tells}
 use Rattle.pkcs8.specs.declared.private_key_info.PrivateKeyInfo.{PrivateKeyInfo}
-use Rattle.pkcs8.specs.PrivateKeyInfo.{private_key, version_of, AreAttributes, AreFurther, PrivateKeyText, public_key_content, SpellsPrivateKey}
+use Rattle.pkcs8.specs.PrivateKeyInfo.{private_key, version_of, PrivateKeyText, public_key_content, SpellsPrivateKey}
 use Rattle.pkcs8.specs.PrivateKeyLaws.{version_seen, public_canonical}
 
 module _ {A V K L B W : Type 0} (seen : A → V) (P : List ℕ → V → Type 0) (canon : A → List ℕ) (writable : A → Type 0) (spell : List ℕ → A → Type 0)

@@ -4,10 +4,11 @@ use Rattle.asn1_core.specs.Writing.{IsOverlong}
 use Rattle.asn1_core.specs.declared.error.Error.TheVariants as asn1
 use Rattle.der_core.specs.Document.{IsSequence}
 use Rattle.pkcs5.specs.Opening.{Opens}
-use Rattle.pkcs5.specs.Refusals.{RefusesKey}
+use Rattle.pkcs5.specs.Refusals.{RefusesToEncrypt}
 use Rattle.pkcs5.specs.SchemeOpening.{SchemeOpens, SchemeRefusesToOpen}
 use Rattle.pkcs5.specs.declared.encryption_scheme.EncryptionScheme.{EncryptionScheme}
 use Rattle.pkcs5.specs.declared.encryption_scheme.EncryptionScheme.TheVariants.{Pbes2}
+use Rattle.pkcs5.specs.declared.error.Error.TheVariants as pkcs5
 use Rattle.pkcs5.specs.declared.pbes2.parameters.Parameters.{Parameters}
 use Rattle.pkcs8.specs.declared.error.Error.{Error}
 use Rattle.pkcs8.specs.declared.error.Error.TheVariants as errors
@@ -17,6 +18,10 @@ use Rattle.pkcs8.specs.EncryptedPrivateKeyInfo.{encrypted_key_text}
 abbrev pub IsSealed : Parameters → List ℕ → List ℕ → List ℕ → Type 0
 IsSealed par q m b = (c : List ℕ) × Opens par q c m × (b ≡ encrypted_key_text (Pbes2 par) c)
 
+-- the document of the text m would be too long
+abbrev pub IsTooLong : Parameters → List ℕ → List ℕ → Type 0
+IsTooLong par q m = (c : List ℕ) × Opens par q c m × IsOverlong (length (encrypted_key_text (Pbes2 par) c))
+
 -- why a ciphertext c is not decrypted: it opens to no text, or to one that is no whole SEQUENCE; or there is no memory
 abbrev pub RefusesToDecrypt : EncryptionScheme → List ℕ → List ℕ → Error → Type 0
 RefusesToDecrypt s q c (errors.EncryptedPrivateKey e) = SchemeRefusesToOpen s q c e
@@ -24,12 +29,35 @@ RefusesToDecrypt s q c (errors.Asn1 asn1.Malformed) = (m : List ℕ) × SchemeOp
 RefusesToDecrypt s q c errors.Memory = ⊤
 RefusesToDecrypt s q c e = ⊥
 
--- why a key is not encrypted: it has no text, as `unwritable` says; its text m or its document is too long; the key's length is another
--- than the cipher's; or there is no memory
-abbrev pub RefusesToEncrypt : Type 0 → Parameters → List ℕ → List ℕ → Error → Type 0
-RefusesToEncrypt unwritable par q m (errors.EncryptedPrivateKey e) = RefusesKey par e
-RefusesToEncrypt unwritable par q m (errors.Asn1 asn1.Malformed) = unwritable
-RefusesToEncrypt unwritable par q m (errors.Asn1 asn1.Overlength) =
-    IsOverlong (length m) ⊎ ((c : List ℕ) × Opens par q c m × IsOverlong (length (encrypted_key_text (Pbes2 par) c)))
-RefusesToEncrypt unwritable par q m errors.Memory = ⊤
-RefusesToEncrypt unwritable par q m e = ⊥
+-- why a text m is not sealed: its parameters encrypt nothing; the document is too long; or there is no memory
+abbrev pub RefusesToSeal : Parameters → List ℕ → List ℕ → Error → Type 0
+RefusesToSeal par q m (errors.EncryptedPrivateKey e) = RefusesToEncrypt par e
+RefusesToSeal par q m (errors.Asn1 asn1.Overlength) = IsTooLong par q m
+RefusesToSeal par q m errors.Memory = ⊤
+RefusesToSeal par q m e = ⊥
+
+-- why a key is not encrypted: it has no text, which `writable` says that it has; and then as its text m is not sealed, or that is too
+-- long itself
+abbrev pub RefusesToEncryptKey : Type 0 → Parameters → List ℕ → List ℕ → Error → Type 0
+RefusesToEncryptKey writable par q m (errors.EncryptedPrivateKey e) = writable × RefusesToEncrypt par e
+RefusesToEncryptKey writable par q m (errors.Asn1 asn1.Malformed) = ¬ writable
+RefusesToEncryptKey writable par q m (errors.Asn1 asn1.Overlength) = IsOverlong (length m) ⊎ IsTooLong par q m
+RefusesToEncryptKey writable par q m errors.Memory = ⊤
+RefusesToEncryptKey writable par q m e = ⊥
+
+-- ---- under drawn octets
+
+-- why a text m is not sealed under drawn octets, which the draw lacks where `lacks` says so
+abbrev pub RefusesToSealDrawn : Type 0 → List ℕ → List ℕ → Error → Type 0
+RefusesToSealDrawn lacks q m (errors.EncryptedPrivateKey pkcs5.Rng) = lacks
+RefusesToSealDrawn lacks q m (errors.Asn1 asn1.Overlength) = (par : Parameters) × IsTooLong par q m
+RefusesToSealDrawn lacks q m errors.Memory = ⊤
+RefusesToSealDrawn lacks q m e = ⊥
+
+-- the same of a key
+abbrev pub RefusesToEncryptDrawn : Type 0 → Type 0 → List ℕ → List ℕ → Error → Type 0
+RefusesToEncryptDrawn writable lacks q m (errors.EncryptedPrivateKey pkcs5.Rng) = writable × lacks
+RefusesToEncryptDrawn writable lacks q m (errors.Asn1 asn1.Malformed) = ¬ writable
+RefusesToEncryptDrawn writable lacks q m (errors.Asn1 asn1.Overlength) = IsOverlong (length m) ⊎ ((par : Parameters) × IsTooLong par q m)
+RefusesToEncryptDrawn writable lacks q m errors.Memory = ⊤
+RefusesToEncryptDrawn writable lacks q m e = ⊥

@@ -1,16 +1,19 @@
 //! Encrypting private keys.
-ghost use Rattle.std.specs.Prelude.{◌≡◌, ◌⊎◌, length, None, IfOk, IfErr, OnOk};
+ghost use Rattle.std.specs.Prelude.{◌≡◌, length, None, IfOk, IfErr, OnOk};
 ghost use Rattle.asn1_core.specs.Writing.{Cause, IsOverlong};
+ghost use Rattle.outside.specs.Draw.{DrawsIvAndSalt, Lacks};
+ghost use Rattle.pkcs5.specs.Generation.{recommended};
 ghost use Rattle.pkcs5.specs.Opening.{FitsKey};
 ghost use Rattle.pkcs5.specs.declared.encryption_scheme.EncryptionScheme.TheVariants.{Pbes2};
 ghost use Rattle.pkcs8.specs.EncryptedPrivateKeyInfo.{encrypted_key_text};
-ghost use Rattle.pkcs8.specs.Sealing.{IsSealed, RefusesToEncrypt};
+ghost use Rattle.pkcs8.specs.Sealing.{IsSealed, RefusesToEncryptDrawn, RefusesToEncryptKey, RefusesToSeal, RefusesToSealDrawn};
 
 use crate::bit_string_like::BitStringLike;
 use crate::encrypted_private_key_info::EncryptedPrivateKeyInfo;
 use crate::error::{Error, Result};
 use crate::private_key_info::PrivateKeyInfo;
 use der_core::{Encode, OctetStringRef, SecretDocument};
+use outside::Draw;
 use pkcs5::{EncryptionScheme, pbes2, schemes_have_texts};
 use std::alloc::Global;
 
@@ -20,8 +23,10 @@ fn document_of(
     parameters: pbes2::Parameters,
     ciphertext: &[u8],
 ) -> std::result::Result<SecretDocument, asn1_core::Error>
-    ensures ok { IfOk result (λ d. d.document.octets ≡ encrypted_key_text (Pbes2 parameters) ciphertext.now) }
-    ensures err { IfErr result (λ e. Cause ⊥ (IsOverlong (length (encrypted_key_text (Pbes2 parameters) ciphertext.now))) (Unit {0}) None 0 0 0 e) }
+    ensures ok { IfOk result (λ d. d.document.octets
+        ≡ encrypted_key_text (Pbes2 parameters) ciphertext.now) }
+    ensures err { IfErr result (λ e. Cause ⊥ (IsOverlong (length (encrypted_key_text
+        (Pbes2 parameters) ciphertext.now))) (Unit {0}) None 0 0 0 e) }
 {
     let encrypted_data = match OctetStringRef::new(ciphertext) {
         Ok(encrypted_data) => encrypted_data,
@@ -40,34 +45,120 @@ fn document_of(
     }
 }
 
+/// The document of a text under a password, with these parameters of PBES2.
+pub(crate) fn seal(
+    alloc: Global,
+    parameters: pbes2::Parameters,
+    password: &[u8],
+    text: &[u8],
+) -> Result<SecretDocument>
+    ensures ok { IfOk result (λ d. IsSealed parameters password.now text.now d.document.octets) }
+    ensures fits { OnOk result (FitsKey parameters) }
+    ensures err { IfErr result (λ e. RefusesToSeal parameters password.now text.now e) }
+{
+    let ciphertext = match parameters.encrypt(alloc, password, text) {
+        Ok(ciphertext) => ciphertext,
+        Err(e) => return Err(Error::from(e)),
+    };
+    match document_of(alloc, parameters, ciphertext.as_slice()) {
+        Ok(document) => Ok(document),
+        Err(e) => Err(Error::from(e)),
+    }
+}
+
+/// The same with the recommended parameters, under drawn octets.
+pub(crate) fn seal_drawn<D: Draw>(
+    alloc: Global,
+    draw: &mut D,
+    password: &[u8],
+    text: &[u8],
+) -> Result<SecretDocument>
+    ensures ok { IfOk result (λ d. DrawsIvAndSalt (D.left draw.old) (D.left draw.new)
+        (λ iv salt. IsSealed (recommended iv salt) password.now text.now d.document.octets)) }
+    ensures err { IfErr result
+        (λ e. RefusesToSealDrawn (Lacks (D.faults draw.old) (D.faults draw.new)
+        (D.left draw.old) 32)
+        password.now text.now e) }
+{
+    match pbes2::Parameters::generate_recommended(draw) {
+        Ok(parameters) => seal(alloc, parameters, password, text),
+        Err(e) => Err(Error::from(e)),
+    }
+}
+
 impl<Params: Encode, Key: Encode, PubKey: BitStringLike> PrivateKeyInfo<Params, Key, PubKey> {
-    /// The key under a password, as an EncryptedPrivateKeyInfo in DER (RFC 5958 section 3) with these parameters of PBES2.
+    /// The key under a password, as an EncryptedPrivateKeyInfo in DER (RFC 5958 section 3) with the parameters that
+    /// `pbes2::Parameters::generate_recommended` makes of the next 32 octets of the draw.
     ///
-    /// `Asn1(Malformed)` exactly where a part of the key has no text. `EncryptedPrivateKey(AlgorithmParametersInvalid)` with the
-    /// identifier of the key derivation function exactly where a length of the key is stated that is not the cipher's.
-    /// `Asn1(Overlength)` only where the key's text or the document would have more than 2^32 - 1 octets. And `Memory`.
+    /// `Asn1(Malformed)` exactly where a part of the key has no text; nothing is drawn then.
+    /// `EncryptedPrivateKey(Rng)` exactly where the draw fails. `Asn1(Overlength)` only where the key's text or the
+    /// document would have more than 2^32 - 1 octets. And `Memory`.
+    pub fn encrypt<D: Draw>(
+        &self,
+        alloc: Global,
+        draw: &mut D,
+        password: &[u8],
+    ) -> Result<SecretDocument>
+        ensures ok { IfOk result (λ d. DrawsIvAndSalt (D.left draw.old) (D.left draw.new)
+            (λ iv salt. IsSealed (recommended iv salt) password.now
+            (⟦<PrivateKeyInfo<Params, Key, PubKey> as Encode>⟧.canon self.now) d.document.octets)) }
+        ensures lawful { OnOk result
+            (⟦<PrivateKeyInfo<Params, Key, PubKey> as Encode>⟧.writable self.now) }
+        ensures err { IfErr result (λ e. RefusesToEncryptDrawn
+            (⟦<PrivateKeyInfo<Params, Key, PubKey> as Encode>⟧.writable self.now)
+            (Lacks (D.faults draw.old) (D.faults draw.new) (D.left draw.old) 32) password.now
+            (⟦<PrivateKeyInfo<Params, Key, PubKey> as Encode>⟧.canon self.now) e) }
+    {
+        self.encrypt_with_rng(alloc, draw, password)
+    }
+
+    /// `encrypt`.
+    pub fn encrypt_with_rng<D: Draw>(
+        &self,
+        alloc: Global,
+        draw: &mut D,
+        password: &[u8],
+    ) -> Result<SecretDocument>
+        ensures ok { IfOk result (λ d. DrawsIvAndSalt (D.left draw.old) (D.left draw.new)
+            (λ iv salt. IsSealed (recommended iv salt) password.now
+            (⟦<PrivateKeyInfo<Params, Key, PubKey> as Encode>⟧.canon self.now) d.document.octets)) }
+        ensures lawful { OnOk result
+            (⟦<PrivateKeyInfo<Params, Key, PubKey> as Encode>⟧.writable self.now) }
+        ensures err { IfErr result (λ e. RefusesToEncryptDrawn
+            (⟦<PrivateKeyInfo<Params, Key, PubKey> as Encode>⟧.writable self.now)
+            (Lacks (D.faults draw.old) (D.faults draw.new) (D.left draw.old) 32) password.now
+            (⟦<PrivateKeyInfo<Params, Key, PubKey> as Encode>⟧.canon self.now) e) }
+    {
+        match self.to_der(alloc) {
+            Ok(text) => seal_drawn(alloc, draw, password, text.as_slice()),
+            Err(e) => Err(Error::from(e)),
+        }
+    }
+
+    /// The key under a password, as an EncryptedPrivateKeyInfo in DER (RFC 5958 section 3) with these parameters of
+    /// PBES2.
+    ///
+    /// `Asn1(Malformed)` exactly where a part of the key has no text. Then `EncryptedPrivateKey` with the refusal of
+    /// `pbes2::Parameters::encrypt`: where the function gives no key for the cipher, or the cipher is DES.
+    /// `Asn1(Overlength)` only where the key's text or the document would have more than 2^32 - 1 octets. And
+    /// `Memory`.
     pub fn encrypt_with_params(
         &self,
         alloc: Global,
         params: pbes2::Parameters,
         password: &[u8],
     ) -> Result<SecretDocument>
-        ensures ok { IfOk result (λ d. IsSealed params password.now (⟦<PrivateKeyInfo<Params, Key, PubKey> as Encode>⟧.canon self.now) d.document.octets) }
+        ensures ok { IfOk result (λ d. IsSealed params password.now
+            (⟦<PrivateKeyInfo<Params, Key, PubKey> as Encode>⟧.canon self.now) d.document.octets) }
         ensures fits { OnOk result (FitsKey params) }
-        ensures lawful { OnOk result (⟦<PrivateKeyInfo<Params, Key, PubKey> as Encode>⟧.writable self.now) }
-        ensures err { IfErr result (λ e. RefusesToEncrypt (¬ (⟦<PrivateKeyInfo<Params, Key, PubKey> as Encode>⟧.writable self.now)) params password.now
+        ensures lawful { OnOk result
+            (⟦<PrivateKeyInfo<Params, Key, PubKey> as Encode>⟧.writable self.now) }
+        ensures err { IfErr result (λ e. RefusesToEncryptKey
+            (⟦<PrivateKeyInfo<Params, Key, PubKey> as Encode>⟧.writable self.now) params password.now
             (⟦<PrivateKeyInfo<Params, Key, PubKey> as Encode>⟧.canon self.now) e) }
     {
-        let text = match self.to_der(alloc) {
-            Ok(text) => text,
-            Err(e) => return Err(Error::from(e)),
-        };
-        let ciphertext = match params.encrypt(alloc, password, text.as_slice()) {
-            Ok(ciphertext) => ciphertext,
-            Err(e) => return Err(Error::from(e)),
-        };
-        match document_of(alloc, params, ciphertext.as_slice()) {
-            Ok(document) => Ok(document),
+        match self.to_der(alloc) {
+            Ok(text) => seal(alloc, params, password, text.as_slice()),
             Err(e) => Err(Error::from(e)),
         }
     }

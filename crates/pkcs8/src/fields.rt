@@ -86,12 +86,13 @@ impl<PubKey: EncodeValue> EncodeValue for PublicKeyField<PubKey> {
     }
 }
 
-/// Takes a public key, or nothing where no element of its tag stands next. Refusals are those of its value, and `Malformed` where
-/// the element or the next tag is none; the reader then stands where it stood.
+/// Takes a public key, or nothing where no element of its tag stands next. Refusals are those of its value, and
+/// `Malformed` where the element or the next tag is none; the reader then stands where it stood.
 pub fn read_public_key<'a, PubKey: DecodeValue<&'a [u8]>>(
     r: &mut SliceReader<'a>,
 ) -> Result<Option<PubKey>, Error>
-    ensures { ReadsAs (option_at (λ t. t == 0x81) (within 0x81 (PubKey.value 0x81))) (seen_option PubKey.seen) r.old.rest.now r.new.rest.now result }
+    ensures { ReadsAs (option_at (λ t. t == 0x81) (within 0x81 (PubKey.value 0x81)))
+        (seen_option PubKey.seen) r.old.rest.now r.new.rest.now result }
 {
     match Option::<PublicKeyField<PubKey>>::decode(r) {
         Ok(Some(field)) => Ok(Some(field.key)),

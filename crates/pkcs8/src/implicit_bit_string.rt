@@ -8,9 +8,11 @@ use std::convert::AsSlice;
 
 /// A type of which the value octets behind the implicit tag [1] are those of its BIT STRING, and no others are.
 pub trait ImplicitBitString<S: AsSlice<u8>>: DecodeValue<S> + BitStringLike {
-    ghost implicit: { (k : Self) → Self.text 0x81 ((Self.bits k).0 ∷ (Self.bits k).1) (Self.seen k) };
+    ghost implicit: { (k : Self) → Self.text 0x81 ((Self.bits k).0 ∷ (Self.bits k).1)
+        (Self.seen k) };
 
-    ghost sole: { (b : List ℕ) (k : Self) → Self.text 0x81 b (Self.seen k) → b ≡ (Self.bits k).0 ∷ (Self.bits k).1 };
+    ghost sole: { (b : List ℕ) (k : Self) → Self.text 0x81 b (Self.seen k) → b
+        ≡ (Self.bits k).0 ∷ (Self.bits k).1 };
 }
 
 impl<'a> ImplicitBitString<&'a [u8]> for BitStringRef<'a> {

@@ -2,6 +2,8 @@
 #![tactic(auto)]
 
 mod bit_string_like;
+mod decode_private_key;
+mod encode_private_key;
 mod encrypted_private_key_info;
 mod encryption;
 mod error;
@@ -14,14 +16,20 @@ mod version;
 
 pub use asn1_core::ObjectIdentifier;
 pub use bit_string_like::BitStringLike;
-pub use encrypted_private_key_info::{EncryptedPrivateKeyInfo, EncryptedPrivateKeyInfoRef};
+pub use decode_private_key::DecodePrivateKey;
+pub use der_core::SecretDocument;
+pub use encode_private_key::EncodePrivateKey;
+pub use encrypted_private_key_info::{
+    EncryptedPrivateKeyInfo, EncryptedPrivateKeyInfoOwned, EncryptedPrivateKeyInfoRef,
+};
 pub use error::{Error, KeyError, Result};
 pub use implicit_bit_string::ImplicitBitString;
 pub use laws::{
-    private_keys_are_spelled, private_keys_are_written, private_keys_have_a_text,
+    encrypted_keys_are_spelled, private_keys_are_spelled, private_keys_are_written,
+    private_keys_have_a_text, sealed_documents_open, texts_have_one_encrypted_key,
     texts_have_one_private_key,
 };
-pub use private_key_info::{PrivateKeyInfo, PrivateKeyInfoRef};
+pub use private_key_info::{PrivateKeyInfo, PrivateKeyInfoOwned, PrivateKeyInfoRef};
 pub use spki::AlgorithmIdentifierRef;
 pub use version::Version;
 

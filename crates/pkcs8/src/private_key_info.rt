@@ -17,13 +17,15 @@ use crate::implicit_bit_string::ImplicitBitString;
 use crate::version::Version;
 use asn1_core::{Error, Header, Length, Reader, SliceReader, Tag, Writer};
 use der_core::{
-    AnyRef, BitStringRef, Canonical, Choice, Compared, Decode, DecodeValue, Encode, EncodeValue,
-    FixedTag, OctetStringRef, Pair, Sequence, Spelled, pair_len, write_pair,
+    Any, AnyRef, BitString, BitStringRef, Canonical, Choice, Compared, Decode, DecodeValue, Encode,
+    EncodeValue, FixedTag, OctetString, OctetStringRef, Pair, Sequence, Spelled, pair_len,
+    write_pair,
 };
 use spki::AlgorithmIdentifier;
 use std::fmt;
 
-/// A private key with its algorithm: PrivateKeyInfo (RFC 5208 section 5), which is OneAsymmetricKey (RFC 5958 section 2).
+/// A private key with its algorithm: PrivateKeyInfo (RFC 5208 section 5), which is OneAsymmetricKey (RFC 5958 section
+/// 2).
 ///
 /// ```text
 /// OneAsymmetricKey ::= SEQUENCE {
@@ -37,7 +39,8 @@ use std::fmt;
 ///   }
 /// ```
 ///
-/// The tags are implicit. Attributes, and further fields with the numbers 2 to 30, are read over: they are neither looked at
+/// The tags are implicit. Attributes, and further fields with the numbers 2 to 30, are read over: they are neither
+/// looked at
 /// nor kept.
 #[derive(Clone, PartialEq, Eq, Drop)]
 pub struct PrivateKeyInfo<Params, Key, PubKey> {
@@ -52,10 +55,17 @@ pub struct PrivateKeyInfo<Params, Key, PubKey> {
 /// A private key of any algorithm, borrowed.
 pub type PrivateKeyInfoRef<'a> = PrivateKeyInfo<AnyRef<'a>, OctetStringRef<'a>, BitStringRef<'a>>;
 
+/// A private key of any algorithm, in memory of its own.
+pub type PrivateKeyInfoOwned = PrivateKeyInfo<Any, OctetString, BitString>;
+
 impl<Params, Key, PubKey> PrivateKeyInfo<Params, Key, PubKey> {
     /// A private key without a public one.
     pub fn new(algorithm: AlgorithmIdentifier<Params>, private_key: Key) -> Self
-        ensures { result ≡ record { algorithm = algorithm; private_key = private_key; public_key = None } }
+        ensures { result ≡ record {
+          algorithm = algorithm;
+          private_key = private_key;
+          public_key = None;
+        } }
     {
         PrivateKeyInfo {
             algorithm,
@@ -79,7 +89,8 @@ impl<Params, Key, PubKey> PrivateKeyInfo<Params, Key, PubKey> {
 impl<Params, Key, PubKey: BitStringLike> PrivateKeyInfo<Params, Key, PubKey> {
     /// The public key as it is written.
     fn public_key_field(&self) -> Option<PublicKeyField<BitStringRef<'_>>>
-        ensures { canon_option (λ f. el 0x81 (f.key.unused_bits ∷ f.key.octets.now)) result ≡ public_key_content PubKey.bits self.now.public_key }
+        ensures { canon_option (λ f. el 0x81 (f.key.unused_bits ∷ f.key.octets.now)) result
+            ≡ public_key_content PubKey.bits self.now.public_key }
     {
         match &self.public_key {
             Some(key) => Some(PublicKeyField {
@@ -104,7 +115,9 @@ impl<
 > DecodeValue<&'a [u8]> for PrivateKeyInfo<Params, Key, PubKey> {
     ghost Seen = { PrivateKeyInfo Params.Seen Key.Seen PubKey.Seen };
 
-    ghost seen = { λ k. private_key (⟦<AlgorithmIdentifier<Params> as Decode<&'a [u8]>>⟧.seen k.algorithm) (Key.seen k.private_key) (seen_option PubKey.seen k.public_key) };
+    ghost seen = { λ k. private_key
+        (⟦<AlgorithmIdentifier<Params> as Decode<&'a [u8]>>⟧.seen k.algorithm)
+        (Key.seen k.private_key) (seen_option PubKey.seen k.public_key) };
 
     ghost value = { λ t. private_key_of Params.can Params.at Key.at (PubKey.value 0x81) };
 
@@ -134,14 +147,18 @@ impl<
         })
     }
 
-    ghost exact = { λ t. private_key_of-exact Params.can Params.text Params.at Params.exact Params.whole Key.text Key.at Key.exact (PubKey.text 0x81) (PubKey.value 0x81) (PubKey.exact 0x81) };
+    ghost exact = { λ t. private_key_of-exact Params.can Params.text Params.at Params.exact
+        Params.whole Key.text Key.at Key.exact (PubKey.text 0x81) (PubKey.value 0x81)
+        (PubKey.exact 0x81) };
 }
 
 impl<Params: Encode, Key: Encode, PubKey: BitStringLike> EncodeValue
     for PrivateKeyInfo<Params, Key, PubKey> {
-    ghost content = { λ k. private_key_content Params.canon Key.canon PubKey.bits k.algorithm.oid k.algorithm.parameters k.private_key k.public_key };
+    ghost content = { λ k. private_key_content Params.canon Key.canon PubKey.bits k.algorithm.oid
+        k.algorithm.parameters k.private_key k.public_key };
 
-    ghost writable = { λ k. ⟦<AlgorithmIdentifier<Params> as Encode>⟧.writable k.algorithm × Key.writable k.private_key };
+    ghost writable = { λ k. ⟦<AlgorithmIdentifier<Params> as Encode>⟧.writable k.algorithm
+        × Key.writable k.private_key };
 
     fn value_len(&self) -> Result<Length, Error> {
         let version = self.version();
@@ -173,7 +190,11 @@ impl<
     Key: Canonical<&'a [u8]>,
     PubKey: ImplicitBitString<&'a [u8]>,
 > Canonical<&'a [u8]> for PrivateKeyInfo<Params, Key, PubKey> {
-    ghost canonical = { λ k h. private_key_canonical Params.seen Params.text Params.canon Key.seen Key.text Key.canon PubKey.seen (PubKey.text 0x81) PubKey.bits Params.writable Params.canonical PubKey.implicit k.algorithm.oid k.algorithm.parameters k.private_key k.public_key h.0 (Key.canonical k.private_key h.1) };
+    ghost canonical = { λ k h. private_key_canonical Params.seen Params.text Params.canon Key.seen
+        Key.text Key.canon PubKey.seen
+        (PubKey.text 0x81) PubKey.bits Params.writable Params.canonical PubKey.implicit
+        k.algorithm.oid k.algorithm.parameters k.private_key k.public_key h.0
+        (Key.canonical k.private_key h.1) };
 }
 
 impl<
@@ -182,9 +203,13 @@ impl<
     Key: Spelled<&'a [u8]>,
     PubKey: ImplicitBitString<&'a [u8]>,
 > Spelled<&'a [u8]> for PrivateKeyInfo<Params, Key, PubKey> {
-    ghost spell = { λ b k. SpellsPrivateKey PubKey.bits Params.spell Key.spell b k.algorithm.oid k.algorithm.parameters k.private_key k.public_key };
+    ghost spell = { λ b k. SpellsPrivateKey PubKey.bits Params.spell Key.spell b k.algorithm.oid
+        k.algorithm.parameters k.private_key k.public_key };
 
-    ghost spelled = { λ b k. private_key_spelled Params.seen Params.text Params.canon Params.writable Params.spell Params.spelled Key.seen Key.text Key.canon Key.writable Key.spell Key.spelled PubKey.seen (PubKey.text 0x81) PubKey.bits PubKey.implicit PubKey.sole b k.algorithm.oid k.algorithm.parameters k.private_key k.public_key };
+    ghost spelled = { λ b k. private_key_spelled Params.seen Params.text Params.canon
+        Params.writable Params.spell Params.spelled Key.seen Key.text Key.canon Key.writable
+        Key.spell Key.spelled PubKey.seen (PubKey.text 0x81) PubKey.bits PubKey.implicit PubKey.sole
+        b k.algorithm.oid k.algorithm.parameters k.private_key k.public_key };
 }
 
 impl<
@@ -193,7 +218,8 @@ impl<
     Key: Choice<&'a [u8]> + Compared<&'a [u8]>,
     PubKey: DecodeValue<&'a [u8]> + FixedTag + Compared<&'a [u8]>,
 > Compared<&'a [u8]> for PrivateKeyInfo<Params, Key, PubKey> {
-    ghost compared = { λ k l. private_key_same _ _ _ (algorithm_same Params.Decode.seen Params.eq Params.compared k.algorithm.oid l.algorithm.oid k.algorithm.parameters l.algorithm.parameters) Key.Decode.seen Key.eq Key.compared PubKey.DecodeValue.seen PubKey.eq PubKey.compared k.private_key l.private_key k.public_key l.public_key };
+    ghost compared = { λ k l. private_key_same _ _ _
+        (algorithm_same Params.Decode.seen Params.eq Params.compared k.algorithm.oid l.algorithm.oid k.algorithm.parameters l.algorithm.parameters) Key.Decode.seen Key.eq Key.compared PubKey.DecodeValue.seen PubKey.eq PubKey.compared k.private_key l.private_key k.public_key l.public_key };
 }
 
 impl<Params: fmt::Debug, Key, PubKey: fmt::Debug> fmt::Debug

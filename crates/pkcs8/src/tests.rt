@@ -2,6 +2,7 @@
 
 mod callers;
 mod documents;
+mod key_types;
 mod openssl_keys;
 mod refusals;
 
@@ -195,7 +196,7 @@ fn read<
     Key: DecodeValue<&'a [u8]> + FixedTag,
     PubKey: DecodeValue<&'a [u8]> + FixedTag,
 >(text: &'a [u8]) -> Result<PrivateKeyInfo<Params, Key, PubKey>, asn1_core::Error> {
-    PrivateKeyInfo::from_der(text)
+    <PrivateKeyInfo<Params, Key, PubKey> as Decode<&'a [u8]>>::from_der(text)
 }
 
 /// The text of one.

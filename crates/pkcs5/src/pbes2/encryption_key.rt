@@ -2,18 +2,21 @@
 ghost use Rattle.std.specs.Prelude.{◌≡◌, ◌+◌, ◌≤◌, ◌<◌, ◌^◌, length, IfOk, IfErr, OnOk, OnErr};
 ghost use Rattle.pkcs5.specs.Error.{InvalidOf};
 ghost use Rattle.pkcs5.specs.Kinds as cipher;
-ghost use Rattle.pkcs5.specs.Kinds.{kdf_oid};
-ghost use Rattle.pkcs5.specs.Opening.{FitsKey, StatesLength, derived, inverse, inverse_under, key_steps, opening_steps};
-ghost use Rattle.pkcs5.specs.Refusals.{RefusesKey};
-ghost use Rattle.pkcs5.specs.declared.pbes2.kdf.Kdf.TheVariants.{Pbkdf2};
+ghost use Rattle.pkcs5.specs.Kinds.{IsScrypt};
+ghost use Rattle.pkcs5.specs.Opening.{FitsKey, GivesKey, StatesLength, TakesCosts, derived, key_steps, key_under, opening_steps};
+ghost use Rattle.pkcs5.specs.Refusals.{RefusesCosts, RefusesKeyByRounds, RefusesKeyInPlace, RefusesToDerive};
+ghost use Rattle.pkcs5.specs.declared.pbes2.kdf.Kdf.TheVariants.{Pbkdf2, Scrypt};
 
-use crate::error::Result;
+use crate::error::{Error, Result};
+use crate::pbes2::identifiers::SCRYPT_OID;
 use crate::pbes2::kdf::Kdf;
 use crate::pbes2::parameters::Parameters;
 use crate::pbes2::pbkdf2_params::Pbkdf2Params;
 use crate::pbes2::pbkdf2_prf::Pbkdf2Prf;
+use crate::pbes2::scrypt_params::{ScryptParams, costs_of};
 use octet_core::ShortOctets;
 use pbkdf2::pbkdf2_hmac_counted;
+use scrypt_core::scrypt;
 use sha1::Sha1;
 use sha2::{Sha224, Sha256, Sha384, Sha512};
 use std::alloc::Global;
@@ -68,113 +71,144 @@ fn derive_by_pbkdf2<L: Ledger>(
     }
 }
 
-/// Fills `out` with the key that is derived from a password, and counts the steps.
-fn derive<L: Ledger>(kdf: &Kdf, password: &[u8], out: &mut [u8], steps: &mut Steps<L>)
-    requires { length out.old ≤ 32 }
-    ensures key { out.new ≡ derived kdf.now password.now (length out.old) }
-    ensures steps { steps.new ≡ steps.old + key_steps kdf.now (length out.old) }
-{
-    match kdf {
-        Kdf::Pbkdf2(params) => derive_by_pbkdf2(params, password, out, steps),
-    }
-}
-
-/// `EncryptionKey::derive_counted` with a counter of its own.
-fn derive_from<L: Ledger>(
-    password: &[u8],
-    kdf: &Kdf,
-    key_size: usize,
-    blank: Blank,
-) -> Result<EncryptionKey>
+/// `derive_by_pbkdf2` with a counter of its own.
+fn derive_uncounted<L: Ledger>(params: &Pbkdf2Params, password: &[u8], out: &mut [u8], blank: Blank)
     requires name { blank.name ≡ L.name }
     requires parts { blank.parts ≡ L.parts }
     requires some { 0 < blank.parts }
-    requires size { key_size ≤ 32 }
-    ensures ok { IfOk result (λ k. StatesLength kdf.now key_size × (k ≡ derived kdf.now password.now key_size)) }
-    ensures length { IfOk result (λ k. length k ≡ key_size) }
-    ensures err { IfErr result (λ e. InvalidOf (kdf_oid kdf.now) e × ¬ StatesLength kdf.now key_size) }
+    requires size { length out.old ≤ 32 }
+    ensures { out.new ≡ derived (Pbkdf2 params.now) password.now (length out.old) }
 {
     let mut steps = Steps::<L>::open(blank);
-    EncryptionKey::derive_counted(password, kdf, key_size, &mut steps)
+    derive_by_pbkdf2(params, password, out, &mut steps);
+}
+
+/// Fills `out` with the key that scrypt derives from a password. `AlgorithmParametersInvalid` exactly where it does
+/// not take the costs; and `Memory`.
+#[tactic(auto, unfolding(crate::specs::Opening::derived))]
+fn derive_by_scrypt(
+    alloc: Global,
+    params: &ScryptParams,
+    password: &[u8],
+    out: &mut [u8],
+) -> Result<()>
+    requires some { 1 ≤ length out.old }
+    requires size { length out.old ≤ 32 }
+    ensures key { OnOk result
+        (out.new ≡ derived (Scrypt params.now) password.now (length out.old)) }
+    ensures costs { OnOk result (TakesCosts (Scrypt params.now)) }
+    ensures err { IfErr result (λ e. RefusesCosts (Scrypt params.now) e) }
+{
+    let costs = costs_of(params)?;
+    match scrypt(alloc, password, params.salt.as_bytes(), &costs, out) {
+        Ok(()) => Ok(()),
+        Err(_) => Err(Error::Memory),
+    }
+}
+
+/// Fills `out` with the key that is derived from a password.
+fn derive(alloc: Global, kdf: &Kdf, password: &[u8], out: &mut [u8]) -> Result<()>
+    requires some { IsScrypt kdf.now → 1 ≤ length out.old }
+    requires size { length out.old ≤ 32 }
+    ensures key { OnOk result (out.new ≡ derived kdf.now password.now (length out.old)) }
+    ensures costs { OnOk result (TakesCosts kdf.now) }
+    ensures err { IfErr result (λ e. RefusesCosts kdf.now e) }
+{
+    match kdf {
+        Kdf::Pbkdf2(params) => {
+            derive_uncounted::<Brand>(params, password, out, Blank::new(1));
+            Ok(())
+        }
+        Kdf::Scrypt(params) => derive_by_scrypt(alloc, params, password, out),
+    }
+}
+
+/// That a length which is stated is this one. `AlgorithmParametersInvalid` with the function's identifier exactly
+/// where it is another.
+fn expect_length(kdf: &Kdf, key_size: usize) -> Result<()>
+    ensures ok { OnOk result (StatesLength kdf.now key_size) }
+    ensures err { IfErr result (λ e. InvalidOf (cipher.kdf_oid kdf.now) e
+        × ¬ StatesLength kdf.now key_size) }
+{
+    if let Some(stated) = kdf.key_length() {
+        if usize::from(stated) != key_size {
+            return Err(kdf.to_alg_params_invalid());
+        }
+    }
+    Ok(())
 }
 
 impl EncryptionKey {
-    /// The key of `key_size` octets that is derived from a password (RFC 8018 section 5.2). It takes no memory.
-    /// `AlgorithmParametersInvalid` with the identifier of the key derivation function exactly where the parameters
-    /// state another length of the key. Caller: `key_size` is at most 32.
+    /// The key of `key_size` octets that is derived from a password (RFC 8018 section 5.2, RFC 7914 section 6). Only
+    /// scrypt takes memory. `AlgorithmParametersInvalid` with the identifier of the key derivation function exactly
+    /// where the parameters state another length of the key, or scrypt refuses its costs. Caller: `key_size` is at
+    /// most 32, and at least 1 for scrypt.
     pub fn derive_from_password(
         alloc: Global,
         password: &[u8],
         kdf: &Kdf,
         key_size: usize,
     ) -> Result<EncryptionKey>
-        requires { key_size ≤ 32 }
-        ensures ok { IfOk result (λ k. StatesLength kdf.now key_size × (k ≡ derived kdf.now password.now key_size)) }
+        requires size { key_size ≤ 32 }
+        requires some { IsScrypt kdf.now → 1 ≤ key_size }
+        ensures ok { IfOk result (λ k. GivesKey kdf.now key_size
+            × (k ≡ derived kdf.now password.now key_size)) }
         ensures length { IfOk result (λ k. length k ≡ key_size) }
-        ensures err { IfErr result (λ e. InvalidOf (kdf_oid kdf.now) e × ¬ StatesLength kdf.now key_size) }
+        ensures err { IfErr result (λ e. RefusesToDerive kdf.now key_size e) }
     {
-        derive_from::<Brand>(password, kdf, key_size, Blank::new(1))
-    }
-
-    /// `derive_from_password` that counts a step for each answer of the pseudorandom function, and none where it refuses.
-    pub(crate) fn derive_counted<L: Ledger>(
-        password: &[u8],
-        kdf: &Kdf,
-        key_size: usize,
-        steps: &mut Steps<L>,
-    ) -> Result<EncryptionKey>
-        requires { key_size ≤ 32 }
-        ensures ok { IfOk result (λ k. StatesLength kdf.now key_size × (k ≡ derived kdf.now password.now key_size)) }
-        ensures length { IfOk result (λ k. length k ≡ key_size) }
-        ensures err { IfErr result (λ e. InvalidOf (kdf_oid kdf.now) e × ¬ StatesLength kdf.now key_size) }
-        ensures steps { OnOk result (steps.new ≡ steps.old + key_steps kdf.now key_size) }
-        ensures refused { OnErr result (steps.new ≡ steps.old) }
-    {
-        if let Some(stated) = kdf.key_length() {
-            if usize::from(stated) != key_size {
-                return Err(kdf.to_alg_params_invalid());
-            }
-        }
+        expect_length(kdf, key_size)?;
         let mut octets = [0u8; 32];
-        derive(kdf, password, &mut octets[..key_size], steps);
+        derive(alloc, kdf, password, &mut octets[..key_size])?;
         Ok(EncryptionKey {
             octets: ShortOctets::new(&octets[..key_size]),
         })
     }
 
-    /// The key of these parameters under a password. `AlgorithmParametersInvalid` exactly where they state a length of
-    /// the key that is not the cipher's.
-    #[tactic(auto, unfolding(crate::specs::Opening::inverse_under))]
+    /// The key of these parameters under a password. `AlgorithmParametersInvalid` exactly where the function gives no
+    /// key for the cipher.
+    #[tactic(auto, unfolding(crate::specs::Opening::key_under))]
     pub(crate) fn of_parameters(
         alloc: Global,
         password: &[u8],
         parameters: &Parameters,
     ) -> Result<EncryptionKey>
         ensures fits { OnOk result (FitsKey parameters.now) }
-        ensures inverse { IfOk result (λ k. inverse parameters.now.encryption k ≡ inverse_under parameters.now password.now) }
+        ensures key { IfOk result (λ k. k ≡ key_under parameters.now password.now) }
         ensures length { IfOk result (λ k. length k ≡ cipher.key_size parameters.now.encryption) }
-        ensures err { IfErr result (λ e. RefusesKey parameters.now e) }
+        ensures err { IfErr result (λ e. RefusesKeyInPlace parameters.now e) }
     {
         let key_size = parameters.encryption.key_size();
         EncryptionKey::derive_from_password(alloc, password, &parameters.kdf, key_size)
     }
 
-    /// `of_parameters` that counts the steps.
-    #[tactic(auto, unfolding(crate::specs::Opening::inverse_under))]
+    /// The key that PBKDF2 derives for these parameters under a password, with a step for each answer of its
+    /// function, and none where it refuses. `AlgorithmParametersInvalid` exactly where a length of the key is stated
+    /// that is not the cipher's; then `UnsupportedAlgorithm` exactly where the function is scrypt.
+    #[tactic(auto, unfolding(crate::specs::Opening::key_under))]
     pub(crate) fn of_parameters_counted<L: Ledger>(
         password: &[u8],
         parameters: &Parameters,
         steps: &mut Steps<L>,
     ) -> Result<EncryptionKey>
-        ensures fits { OnOk result (FitsKey parameters.now) }
-        ensures inverse { IfOk result (λ k. inverse parameters.now.encryption k ≡ inverse_under parameters.now password.now) }
+        ensures fits { OnOk result (FitsKey parameters.now × ¬ IsScrypt parameters.now.kdf) }
+        ensures key { IfOk result (λ k. k ≡ key_under parameters.now password.now) }
         ensures length { IfOk result (λ k. length k ≡ cipher.key_size parameters.now.encryption) }
-        ensures err { IfErr result (λ e. RefusesKey parameters.now e) }
+        ensures err { IfErr result (λ e. RefusesKeyByRounds parameters.now e) }
         ensures steps { OnOk result (steps.new ≡ steps.old + opening_steps parameters.now) }
         ensures refused { OnErr result (steps.new ≡ steps.old) }
     {
         let key_size = parameters.encryption.key_size();
-        EncryptionKey::derive_counted(password, &parameters.kdf, key_size, steps)
+        expect_length(&parameters.kdf, key_size)?;
+        let mut octets = [0u8; 32];
+        match &parameters.kdf {
+            Kdf::Pbkdf2(params) => {
+                derive_by_pbkdf2(params, password, &mut octets[..key_size], steps)
+            }
+            Kdf::Scrypt(_) => return Err(Error::UnsupportedAlgorithm { oid: SCRYPT_OID }),
+        }
+        Ok(EncryptionKey {
+            octets: ShortOctets::new(&octets[..key_size]),
+        })
     }
 
     /// The octets of the key.

@@ -1,20 +1,26 @@
 //! The ciphers of PBES2.
-ghost use Rattle.std.specs.Prelude.{◌≡◌, ◌≢◌, Some, length, MatchResult, IfOk, refl};
+ghost use Rattle.std.specs.Prelude.{◌≡◌, ◌≢◌, ◌≤◌, Some, length, MatchResult, IfOk, refl};
 ghost use Rattle.asn1_core.specs.Der.{seq};
 ghost use Rattle.asn1_core.specs.Gives.{Gives};
 ghost use Rattle.asn1_core.specs.Oid.{oid_octets};
 ghost use Rattle.asn1_core.specs.Texts.{seen_option};
 ghost use Rattle.asn1_core.specs.declared.error.Error.TheVariants.{Malformed};
 ghost use Rattle.spki.specs.Seen.{borrowed_any, borrowed_algorithm};
+ghost use Rattle.std.specs.Cmp.Rules.{comparing};
+ghost use Rattle.std.proofs.Common.{rules};
+ghost use Rattle.pkcs5.specs.Alike.{alike, kind_of};
 ghost use Rattle.pkcs5.specs.Cipher.{IsCipher, cipher_content, CipherOf, cipher_named, cipher_with, cipher_in, cipher_of};
 ghost use Rattle.pkcs5.specs.CipherLaws.{cipher_of-exact, cipher_canonical, cipher_spelled};
 ghost use Rattle.pkcs5.specs.Error.{InvalidOf};
-ghost use Rattle.pkcs5.specs.Kinds.{cipher_oid, key_size, iv_of};
+ghost use Rattle.pkcs5.specs.Kinds.{cipher_oid, key_size, iv_of, iv_size};
 ghost use Rattle.pkcs5.specs.SameLaws.{cipher_same};
 ghost use Rattle.pkcs5.specs.declared.pbes2.encryption_scheme.EncryptionScheme.{EncryptionScheme};
 
 use crate::error;
-use crate::pbes2::identifiers::{AES_128_CBC_OID, AES_192_CBC_OID, AES_256_CBC_OID};
+use crate::pbes2::identifiers::{
+    AES_128_CBC_OID, AES_128_GCM_OID, AES_192_CBC_OID, AES_256_CBC_OID, AES_256_GCM_OID,
+    DES_CBC_OID, DES_EDE3_CBC_OID,
+};
 use asn1_core::{Error, Header, Length, ObjectIdentifier, Reader, SliceReader, Tag, Writer};
 use der_core::{
     AnyRef, Canonical, Compared, Decode, DecodeValue, EncodeValue, FixedTag, OctetStringRef,
@@ -22,8 +28,9 @@ use der_core::{
 };
 use spki::{AlgorithmIdentifier, AlgorithmIdentifierRef};
 
-/// A cipher with its initialization vector (RFC 8018 appendix B.2), as an algorithm whose parameters are that OCTET STRING.
-#[derive(Clone, Copy, Debug, PartialEq, Eq, Drop)]
+/// A cipher with its initialization vector or nonce (RFC 8018 appendix B.2, RFC 5084 section 3.2), as an algorithm
+/// whose parameters are that OCTET STRING.
+#[derive(Clone, Copy, Debug, Drop)]
 pub enum EncryptionScheme {
     /// AES with a key of 128 bits, in CBC mode.
     Aes128Cbc { iv: [u8; 16] },
@@ -31,17 +38,30 @@ pub enum EncryptionScheme {
     Aes192Cbc { iv: [u8; 16] },
     /// AES with a key of 256 bits, in CBC mode.
     Aes256Cbc { iv: [u8; 16] },
+    /// AES with a key of 128 bits, in Galois counter mode.
+    Aes128Gcm { nonce: [u8; 12] },
+    /// AES with a key of 256 bits, in Galois counter mode.
+    Aes256Gcm { nonce: [u8; 12] },
+    /// Triple DES with three keys, in CBC mode.
+    DesEde3Cbc { iv: [u8; 8] },
+    /// DES in CBC mode: a text is decrypted, and none is encrypted.
+    DesCbc { iv: [u8; 8] },
 }
 
 impl EncryptionScheme {
     /// The length of the key in octets.
     pub fn key_size(&self) -> usize
-        ensures { result ≡ key_size self.now }
+        ensures value { result ≡ key_size self.now }
+        ensures bounds { (8 ≤ result) × (result ≤ 32) }
     {
         match self {
             Self::Aes128Cbc { .. } => 16,
             Self::Aes192Cbc { .. } => 24,
             Self::Aes256Cbc { .. } => 32,
+            Self::Aes128Gcm { .. } => 16,
+            Self::Aes256Gcm { .. } => 32,
+            Self::DesEde3Cbc { .. } => 24,
+            Self::DesCbc { .. } => 8,
         }
     }
 
@@ -53,6 +73,10 @@ impl EncryptionScheme {
             Self::Aes128Cbc { .. } => AES_128_CBC_OID,
             Self::Aes192Cbc { .. } => AES_192_CBC_OID,
             Self::Aes256Cbc { .. } => AES_256_CBC_OID,
+            Self::Aes128Gcm { .. } => AES_128_GCM_OID,
+            Self::Aes256Gcm { .. } => AES_256_GCM_OID,
+            Self::DesEde3Cbc { .. } => DES_EDE3_CBC_OID,
+            Self::DesCbc { .. } => DES_CBC_OID,
         }
     }
 
@@ -63,17 +87,34 @@ impl EncryptionScheme {
         error::Error::AlgorithmParametersInvalid { oid: self.oid() }
     }
 
-    /// The initialization vector, of 16 octets.
+    /// The initialization vector or nonce.
     pub(crate) fn iv(&self) -> &[u8]
         ensures value { result.now ≡ iv_of self.now }
         ensures long { IsCipher self.now }
     {
         match self {
             Self::Aes128Cbc { iv } | Self::Aes192Cbc { iv } | Self::Aes256Cbc { iv } => iv,
+            Self::Aes128Gcm { nonce } | Self::Aes256Gcm { nonce } => nonce,
+            Self::DesEde3Cbc { iv } | Self::DesCbc { iv } => iv,
         }
     }
 
-    /// The initialization vector as OCTET STRING.
+    /// A number for each kind of cipher.
+    fn kind(&self) -> u8
+        ensures { result ≡ kind_of self.now }
+    {
+        match self {
+            Self::Aes128Cbc { .. } => 1,
+            Self::Aes192Cbc { .. } => 2,
+            Self::Aes256Cbc { .. } => 3,
+            Self::Aes128Gcm { .. } => 4,
+            Self::Aes256Gcm { .. } => 5,
+            Self::DesEde3Cbc { .. } => 6,
+            Self::DesCbc { .. } => 7,
+        }
+    }
+
+    /// The initialization vector or nonce as OCTET STRING.
     #[tactic(auto, using(der_core::specs::StringLaws::small_header))]
     fn iv_string(&self) -> OctetStringRef<'_>
         ensures value { result.octets.now ≡ iv_of self.now }
@@ -83,30 +124,58 @@ impl EncryptionScheme {
     }
 }
 
-/// An initialization vector of 16 octets. `Malformed` exactly where there are more or fewer.
-fn iv_from(octets: &[u8]) -> Result<[u8; 16], Error>
-    ensures { MatchResult result (λ iv. (iv ≡ octets.now) × (length octets.now ≡ 16)) (λ e. (e ≡ Malformed) × (length octets.now ≢ 16)) }
+impl PartialEq for EncryptionScheme {
+    ghost eq = { alike };
+
+    ghost laws = { Prim.search (comparing, rules) };
+
+    fn eq(&self, other: &EncryptionScheme) -> bool {
+        self.kind() == other.kind() && self.iv() == other.iv()
+    }
+}
+
+impl Eq for EncryptionScheme {
+    ghost laws = { Prim.search (comparing, rules) };
+}
+
+/// So many octets. `Malformed` exactly where there are more or fewer.
+fn exactly<const N: usize>(octets: &[u8]) -> Result<[u8; N], Error>
+    ensures { MatchResult result (λ iv. (iv ≡ octets.now) × (length octets.now ≡ N))
+        (λ e. (e ≡ Malformed)
+        × (length octets.now ≢ N)) }
 {
-    match <[u8; 16]>::try_from(octets) {
+    match <[u8; N]>::try_from(octets) {
         Ok(iv) => Ok(iv),
         Err(_) => Err(Error::Malformed),
     }
 }
 
-/// The cipher of this identifier with this initialization vector. `OidUnknown` exactly where the identifier names none; else
-/// `Malformed` exactly where the vector has not 16 octets.
+/// The cipher of this identifier with this initialization vector or nonce. `OidUnknown` exactly where the identifier
+/// names none; else `Malformed` exactly where the octets have not the cipher's length.
 fn cipher_with(oid: ObjectIdentifier, octets: &[u8]) -> Result<EncryptionScheme, Error>
     ensures { Gives (λ c. c) result (cipher_with oid octets.now) }
 {
     if oid == AES_128_CBC_OID {
-        let iv = iv_from(octets)?;
+        let iv = exactly::<16>(octets)?;
         Ok(EncryptionScheme::Aes128Cbc { iv })
     } else if oid == AES_192_CBC_OID {
-        let iv = iv_from(octets)?;
+        let iv = exactly::<16>(octets)?;
         Ok(EncryptionScheme::Aes192Cbc { iv })
     } else if oid == AES_256_CBC_OID {
-        let iv = iv_from(octets)?;
+        let iv = exactly::<16>(octets)?;
         Ok(EncryptionScheme::Aes256Cbc { iv })
+    } else if oid == AES_128_GCM_OID {
+        let nonce = exactly::<12>(octets)?;
+        Ok(EncryptionScheme::Aes128Gcm { nonce })
+    } else if oid == AES_256_GCM_OID {
+        let nonce = exactly::<12>(octets)?;
+        Ok(EncryptionScheme::Aes256Gcm { nonce })
+    } else if oid == DES_EDE3_CBC_OID {
+        let iv = exactly::<8>(octets)?;
+        Ok(EncryptionScheme::DesEde3Cbc { iv })
+    } else if oid == DES_CBC_OID {
+        let iv = exactly::<8>(octets)?;
+        Ok(EncryptionScheme::DesCbc { iv })
     } else {
         Err(Error::OidUnknown { oid })
     }
@@ -117,8 +186,9 @@ impl TryFrom<AlgorithmIdentifierRef<'_>> for EncryptionScheme {
 
     ghost try_from_gives = { λ a r. Gives (λ c. c) r (cipher_in (borrowed_algorithm a)) };
 
-    /// The cipher that an algorithm is. `Malformed` exactly where it has no parameters or they are no OCTET STRING; else `OidUnknown`
-    /// with its identifier exactly where that names none; else `Malformed` exactly where the string has not 16 octets.
+    /// The cipher that an algorithm is. `Malformed` exactly where it has no parameters or they are no OCTET STRING;
+    /// else `OidUnknown` with its identifier exactly where that names none; else `Malformed` exactly where the string
+    /// has not the cipher's length.
     #[tactic(auto, unfolding(crate::specs::Cipher::cipher_in))]
     fn try_from(algorithm: AlgorithmIdentifierRef<'_>) -> Result<EncryptionScheme, Error> {
         match algorithm.parameters {
@@ -134,9 +204,11 @@ impl TryFrom<AlgorithmIdentifierRef<'_>> for EncryptionScheme {
 impl<'a> TryFrom<&'a EncryptionScheme> for AlgorithmIdentifierRef<'a> {
     type Error = Error;
 
-    ghost try_from_gives = { λ c r. MatchResult r (λ a. (oid_octets a.oid ≡ cipher_oid c.now) × (seen_option borrowed_any a.parameters ≡ Some (4, iv_of c.now))) (λ e. ⊥) };
+    ghost try_from_gives = { λ c r. MatchResult r (λ a. (oid_octets a.oid ≡ cipher_oid c.now)
+        × (seen_option borrowed_any a.parameters ≡ Some (4, iv_of c.now))) (λ e. ⊥) };
 
-    /// The algorithm of a cipher: its identifier, and its initialization vector as OCTET STRING. Nothing is refused.
+    /// The algorithm of a cipher: its identifier, and its initialization vector or nonce as OCTET STRING. Nothing is
+    /// refused.
     fn try_from(cipher: &'a EncryptionScheme) -> Result<AlgorithmIdentifierRef<'a>, Error> {
         Ok(AlgorithmIdentifier {
             oid: cipher.oid(),
@@ -208,6 +280,5 @@ impl<'a> Spelled<&'a [u8]> for EncryptionScheme {
 }
 
 impl<'a> Compared<&'a [u8]> for EncryptionScheme {
-    ghost compared = { cipher_same ⟦<EncryptionScheme as PartialEq>⟧.eq (λ v w. refl) (λ v w. refl) (λ v w. refl)
-        (λ v w. refl) (λ v w. refl) (λ v w. refl) (λ v w. refl) (λ v w. refl) (λ v w. refl) };
+    ghost compared = { cipher_same };
 }

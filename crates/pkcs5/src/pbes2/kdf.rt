@@ -1,5 +1,5 @@
 //! Key derivation functions of PBES2.
-ghost use Rattle.std.specs.Prelude.{◌≡◌, IsSomeAnd, IsTrue, refl};
+ghost use Rattle.std.specs.Prelude.{◌≡◌, ◌↔◌, IfSome, IsSome, IsTrue, true, refl};
 ghost use Rattle.asn1_core.specs.Gives.{Gives};
 ghost use Rattle.asn1_core.specs.Oid.{oid_octets};
 ghost use Rattle.asn1_core.specs.Texts.{seen_option};
@@ -7,14 +7,15 @@ ghost use Rattle.spki.specs.Seen.{borrowed_any, borrowed_algorithm};
 ghost use Rattle.pkcs5.specs.Error.{InvalidOf};
 ghost use Rattle.pkcs5.specs.Kdf.{KdfOf, kdf_content, IsKdf, SpellsKdf, kdf_with, kdf_in, kdf_of};
 ghost use Rattle.pkcs5.specs.KdfLaws.{kdf_of-exact, kdf_canonical, kdf_spelled};
-ghost use Rattle.pkcs5.specs.Kinds.{kdf_oid, stated_length};
+ghost use Rattle.pkcs5.specs.Kinds.{IsScrypt, is_pbkdf2, kdf_oid, stated_length};
 ghost use Rattle.pkcs5.specs.SameLaws.{kdf_same};
 ghost use Rattle.pkcs5.specs.declared.pbes2.kdf.Kdf.{Kdf};
-ghost use Rattle.pkcs5.specs.declared.pbes2.kdf.Kdf.TheVariants.{Pbkdf2};
+ghost use Rattle.pkcs5.specs.declared.pbes2.kdf.Kdf.TheVariants.{Pbkdf2, Scrypt};
 
 use crate::error;
-use crate::pbes2::identifiers::PBKDF2_OID;
+use crate::pbes2::identifiers::{PBKDF2_OID, SCRYPT_OID};
 use crate::pbes2::pbkdf2_params::Pbkdf2Params;
+use crate::pbes2::scrypt_params::ScryptParams;
 use asn1_core::{Error, Header, Length, ObjectIdentifier, Reader, SliceReader, Tag, Writer};
 use der_core::{
     AnyRef, Canonical, Compared, Decode, DecodeValue, EncodeValue, FixedTag, Sequence, Spelled,
@@ -31,6 +32,8 @@ use spki::{AlgorithmIdentifier, AlgorithmIdentifierRef};
 pub enum Kdf {
     /// PBKDF2 (RFC 8018 section 5.2).
     Pbkdf2(Pbkdf2Params),
+    /// scrypt (RFC 7914).
+    Scrypt(ScryptParams),
 }
 
 impl Kdf {
@@ -40,6 +43,7 @@ impl Kdf {
     {
         match self {
             Self::Pbkdf2(params) => params.key_length,
+            Self::Scrypt(params) => params.key_length,
         }
     }
 
@@ -49,6 +53,7 @@ impl Kdf {
     {
         match self {
             Self::Pbkdf2(_) => PBKDF2_OID,
+            Self::Scrypt(_) => SCRYPT_OID,
         }
     }
 
@@ -61,18 +66,44 @@ impl Kdf {
 
     /// The parameters of PBKDF2, where this is that function.
     pub fn pbkdf2(&self) -> Option<&Pbkdf2Params>
-        ensures { IsSomeAnd result (λ v. Pbkdf2 v.now ≡ self.now) }
+        ensures value { IfSome result (λ v. Pbkdf2 v.now ≡ self.now) }
+        ensures some { IsSome result ↔ (is_pbkdf2 self.now ≡ true) }
     {
         match self {
             Self::Pbkdf2(params) => Some(params),
+            Self::Scrypt(_) => None,
+        }
+    }
+
+    /// The parameters of scrypt, where this is that function.
+    pub fn scrypt(&self) -> Option<&ScryptParams>
+        ensures value { IfSome result (λ v. Scrypt v.now ≡ self.now) }
+        ensures some { IsSome result ↔ IsScrypt self.now }
+    {
+        match self {
+            Self::Pbkdf2(_) => None,
+            Self::Scrypt(params) => Some(params),
         }
     }
 
     /// Whether this is PBKDF2.
     pub fn is_pbkdf2(&self) -> bool
-        ensures { IsTrue result }
+        ensures { result ≡ is_pbkdf2 self.now }
     {
-        self.pbkdf2().is_some()
+        match self {
+            Self::Pbkdf2(_) => true,
+            Self::Scrypt(_) => false,
+        }
+    }
+
+    /// Whether this is scrypt.
+    pub fn is_scrypt(&self) -> bool
+        ensures { IsTrue result ↔ IsScrypt self.now }
+    {
+        match self {
+            Self::Pbkdf2(_) => false,
+            Self::Scrypt(_) => true,
+        }
     }
 }
 
@@ -85,18 +116,33 @@ impl From<Pbkdf2Params> for Kdf {
     }
 }
 
-/// The function of this identifier with these parameters. `OidUnknown` exactly where the identifier names none; else the refusals
-/// of the parameters.
+/// The function of scrypt with these parameters.
+impl From<ScryptParams> for Kdf {
+    ghost from_gives = { λ v k. k ≡ Scrypt v };
+
+    fn from(params: ScryptParams) -> Kdf {
+        Kdf::Scrypt(params)
+    }
+}
+
+/// The function of this identifier with these parameters. `OidUnknown` exactly where the identifier names none; else
+/// the refusals of the parameters.
 fn kdf_with(oid: ObjectIdentifier, parameters: &AnyRef<'_>) -> Result<Kdf, Error>
     ensures { Gives (λ k. k) result (kdf_with oid (borrowed_any parameters.now)) }
 {
-    if oid != PBKDF2_OID {
-        return Err(Error::OidUnknown { oid });
+    if oid == PBKDF2_OID {
+        return match Pbkdf2Params::try_from(*parameters) {
+            Ok(params) => Ok(Kdf::Pbkdf2(params)),
+            Err(e) => Err(e),
+        };
     }
-    match Pbkdf2Params::try_from(*parameters) {
-        Ok(params) => Ok(Kdf::Pbkdf2(params)),
-        Err(e) => Err(e),
+    if oid == SCRYPT_OID {
+        return match ScryptParams::try_from(*parameters) {
+            Ok(params) => Ok(Kdf::Scrypt(params)),
+            Err(e) => Err(e),
+        };
     }
+    Err(Error::OidUnknown { oid })
 }
 
 impl TryFrom<AlgorithmIdentifierRef<'_>> for Kdf {
@@ -104,8 +150,8 @@ impl TryFrom<AlgorithmIdentifierRef<'_>> for Kdf {
 
     ghost try_from_gives = { λ a r. Gives (λ k. k) r (kdf_in (borrowed_algorithm a)) };
 
-    /// The function that an algorithm is. `Malformed` exactly where it has no parameters; else `OidUnknown` with its identifier exactly
-    /// where that names none; else the refusals of the parameters.
+    /// The function that an algorithm is. `Malformed` exactly where it has no parameters; else `OidUnknown` with its
+    /// identifier exactly where that names none; else the refusals of the parameters.
     #[tactic(auto, unfolding(crate::specs::Kdf::kdf_in))]
     fn try_from(algorithm: AlgorithmIdentifierRef<'_>) -> Result<Kdf, Error> {
         match &algorithm.parameters {
@@ -154,12 +200,14 @@ impl EncodeValue for Kdf {
     fn value_len(&self) -> Result<Length, Error> {
         match self {
             Self::Pbkdf2(params) => pair_len(&PBKDF2_OID, params),
+            Self::Scrypt(params) => pair_len(&SCRYPT_OID, params),
         }
     }
 
     fn encode_value<W: Writer>(&self, w: &mut W) -> Result<(), Error> {
         match self {
             Self::Pbkdf2(params) => write_pair(w, &PBKDF2_OID, params),
+            Self::Scrypt(params) => write_pair(w, &SCRYPT_OID, params),
         }
     }
 }
@@ -179,5 +227,6 @@ impl<'a> Spelled<&'a [u8]> for Kdf {
 }
 
 impl<'a> Compared<&'a [u8]> for Kdf {
-    ghost compared = { kdf_same ⟦<Kdf as PartialEq>⟧.eq (λ v w. refl) };
+    ghost compared = { kdf_same ⟦<Kdf as PartialEq>⟧.eq (λ v w. refl) (λ v w. refl) (λ v w. refl)
+        (λ v w. refl) };
 }

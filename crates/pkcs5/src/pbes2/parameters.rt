@@ -4,6 +4,7 @@ ghost use Rattle.asn1_core.specs.Gives.{Gives};
 ghost use Rattle.spki.specs.Seen.{borrowed_any};
 ghost use Rattle.pkcs5.specs.Parameters.{ParametersOf, parameters_content, AreParameters, SpellsParameters, parameters_of, parameters_in};
 ghost use Rattle.pkcs5.specs.ParametersLaws.{parameters_of-exact, parameters_canonical, parameters_spelled};
+ghost use Rattle.pkcs5.specs.Alike.{alike};
 ghost use Rattle.pkcs5.specs.SameLaws.{kdf_same, cipher_same, parameters_same};
 ghost use Rattle.pkcs5.specs.declared.pbes2.parameters.Parameters.{Parameters};
 
@@ -38,7 +39,8 @@ impl TryFrom<AnyRef<'_>> for Parameters {
 
     ghost try_from_gives = { λ a r. Gives (λ v. v) r (parameters_in (borrowed_any a)) };
 
-    /// The parameters that an element is. `Malformed` or `OidUnknown` exactly where it is none, as decoding of its text.
+    /// The parameters that an element is. `Malformed` or `OidUnknown` exactly where it is none, as decoding of its
+    /// text.
     fn try_from(element: AnyRef<'_>) -> Result<Parameters, Error> {
         element.decode_as::<Parameters>()
     }
@@ -59,8 +61,8 @@ impl<'a> DecodeValue<&'a [u8]> for Parameters {
 
     ghost text = { λ t. ParametersOf };
 
-    /// Refusals in this order: `Malformed` where one of the two is no algorithm with any parameters; those of the key derivation
-    /// function; those of the cipher; `Malformed` for octets behind them.
+    /// Refusals in this order: `Malformed` where one of the two is no algorithm with any parameters; those of the key
+    /// derivation function; those of the cipher; `Malformed` for octets behind them.
     fn decode_value<R: Reader<&'a [u8]>>(r: &mut R, header: Header) -> Result<Parameters, Error> {
         let mut ahead = *r;
         let value = ahead.read_slice(header.length)?;
@@ -106,7 +108,7 @@ impl<'a> Spelled<&'a [u8]> for Parameters {
 }
 
 impl<'a> Compared<&'a [u8]> for Parameters {
-    ghost compared = { parameters_same ⟦<Kdf as PartialEq>⟧.eq (kdf_same ⟦<Kdf as PartialEq>⟧.eq (λ v w. refl)) ⟦<EncryptionScheme as PartialEq>⟧.eq
-        (cipher_same ⟦<EncryptionScheme as PartialEq>⟧.eq (λ v w. refl) (λ v w. refl) (λ v w. refl)
-        (λ v w. refl) (λ v w. refl) (λ v w. refl) (λ v w. refl) (λ v w. refl) (λ v w. refl)) };
+    ghost compared = { parameters_same ⟦<Kdf as PartialEq>⟧.eq
+        (kdf_same ⟦<Kdf as PartialEq>⟧.eq (λ v w. refl) (λ v w. refl) (λ v w. refl) (λ v w. refl))
+        alike cipher_same };
 }

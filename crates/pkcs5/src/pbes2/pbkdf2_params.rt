@@ -58,12 +58,14 @@ impl Pbkdf2Params {
     pub const MAX_ITERATION_COUNT: u32 = 100_000_000;
 
     /// Parameters with HMAC over SHA-256, this many rounds and this salt, which state no key length.
-    /// `AlgorithmParametersInvalid` with the identifier of PBKDF2 exactly where the rounds are more than 100,000,000 or the salt has
-    /// more than 32 octets.
+    /// `AlgorithmParametersInvalid` with the identifier of PBKDF2 exactly where the rounds are more than 100,000,000
+    /// or the salt has more than 32 octets.
     pub fn hmac_sha256(iteration_count: u32, salt: &[u8]) -> error::Result<Pbkdf2Params>
         ensures { MatchResult result
-            (λ v. (v ≡ pbkdf2_params salt.now iteration_count None HmacWithSha256) × (iteration_count ≤ 100000000) × (length salt.now ≤ 32))
-            (λ e. InvalidOf pbkdf2_oid e × ((100000000 < iteration_count) ⊎ (32 < length salt.now))) }
+            (λ v. (v ≡ pbkdf2_params salt.now iteration_count None HmacWithSha256)
+            × (iteration_count ≤ 100000000) × (length salt.now ≤ 32))
+            (λ e. InvalidOf pbkdf2_oid e
+            × ((100000000 < iteration_count) ⊎ (32 < length salt.now))) }
     {
         if iteration_count > Self::MAX_ITERATION_COUNT {
             return Err(invalid());
@@ -107,7 +109,8 @@ impl TryFrom<AnyRef<'_>> for Pbkdf2Params {
 
     ghost try_from_gives = { λ a r. Gives (λ v. v) r (pbkdf2_params_in (borrowed_any a)) };
 
-    /// The parameters that an element is. `Malformed` or `OidUnknown` exactly where it is none, as decoding of its text.
+    /// The parameters that an element is. `Malformed` or `OidUnknown` exactly where it is none, as decoding of its
+    /// text.
     fn try_from(element: AnyRef<'_>) -> Result<Pbkdf2Params, Error> {
         element.decode_as::<Pbkdf2Params>()
     }
@@ -128,8 +131,8 @@ impl<'a> DecodeValue<&'a [u8]> for Pbkdf2Params {
 
     ghost text = { λ t. Pbkdf2ParamsOf };
 
-    /// Refusals in the order of the parts: each is `Malformed` where it is not as its row says; an unknown function is `OidUnknown`;
-    /// octets behind the function are `Malformed`.
+    /// Refusals in the order of the parts: each is `Malformed` where it is not as its row says; an unknown function
+    /// is `OidUnknown`; octets behind the function are `Malformed`.
     fn decode_value<R: Reader<&'a [u8]>>(r: &mut R, header: Header) -> Result<Pbkdf2Params, Error> {
         let mut ahead = *r;
         let value = ahead.read_slice(header.length)?;

@@ -100,8 +100,8 @@ impl TryFrom<AlgorithmIdentifierRef<'_>> for Pbkdf2Prf {
 
     ghost try_from_gives = { λ a r. Gives (λ f. f) r (prf_in (borrowed_algorithm a)) };
 
-    /// The function that an algorithm is. `Malformed` exactly where it has parameters other than NULL; else `OidUnknown` with its
-    /// identifier exactly where that names none.
+    /// The function that an algorithm is. `Malformed` exactly where it has parameters other than NULL; else
+    /// `OidUnknown` with its identifier exactly where that names none.
     fn try_from(algorithm: AlgorithmIdentifierRef<'_>) -> Result<Pbkdf2Prf, Error> {
         expect_null(&algorithm.parameters)?;
         prf_named(algorithm.oid)
@@ -110,7 +110,8 @@ impl TryFrom<AlgorithmIdentifierRef<'_>> for Pbkdf2Prf {
 
 /// The algorithm of a function, with NULL.
 impl<'a> From<Pbkdf2Prf> for AlgorithmIdentifierRef<'a> {
-    ghost from_gives = { λ f a. (oid_octets a.oid ≡ prf_oid f) × (seen_option borrowed_any a.parameters ≡ Some (5, [])) };
+    ghost from_gives = { λ f a. (oid_octets a.oid ≡ prf_oid f)
+        × (seen_option borrowed_any a.parameters ≡ Some (5, [])) };
 
     fn from(prf: Pbkdf2Prf) -> AlgorithmIdentifierRef<'a> {
         AlgorithmIdentifier {

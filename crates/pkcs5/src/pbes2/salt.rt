@@ -47,6 +47,15 @@ impl Salt {
         })
     }
 
+    /// The salt of these 16 octets.
+    pub(crate) fn of_16(octets: &[u8; 16]) -> Salt
+        ensures { result ≡ octets.now }
+    {
+        Salt {
+            octets: ShortOctets::new(octets),
+        }
+    }
+
     /// The octets.
     pub fn as_bytes(&self) -> &[u8]
         ensures value { result.now ≡ self.now }
@@ -94,7 +103,8 @@ impl TryFrom<&[u8]> for Salt {
 
     ghost use Rattle.asn1_core.specs.declared.error.Error.TheVariants.{Malformed};
 
-    ghost try_from_gives = { λ b r. MatchResult r (λ s. (s ≡ b.now) × (length b.now ≤ 32)) (λ e. (e ≡ Malformed) × (32 < length b.now)) };
+    ghost try_from_gives = { λ b r. MatchResult r (λ s. (s ≡ b.now)
+        × (length b.now ≤ 32)) (λ e. (e ≡ Malformed) × (32 < length b.now)) };
 
     fn try_from(octets: &[u8]) -> Result<Salt, Error> {
         Salt::new(octets)

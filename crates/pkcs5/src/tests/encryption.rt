@@ -1,7 +1,7 @@
 //! Encryption and decryption: a vector of RFC 8018's scheme as OpenSSL writes it, and refusals. Each pseudorandom function and each
 //! cipher is tried by the lines of `tests/vectors/schemes.txt`.
 ghost use Rattle.std.specs.Prelude.{◌≡◌, IfOk, IfErr};
-ghost use Rattle.pkcs5.specs.Refusals.{RefusesKeyIn};
+ghost use Rattle.pkcs5.specs.Refusals.{RefusesToEncryptIn};
 
 use crate::opening_laws::decryption_undoes_encryption;
 use crate::pbes2::{
@@ -38,7 +38,9 @@ fn key_parameters(rt: &impl Abort) -> Parameters {
 /// The same with a stated length of the key.
 fn with_key_length(rt: &impl Abort, key_length: u16) -> Parameters {
     let Parameters { kdf, encryption } = key_parameters(rt);
-    let Kdf::Pbkdf2(mut params) = kdf;
+    let Kdf::Pbkdf2(mut params) = kdf else {
+        panic!(rt; "PBKDF2");
+    };
     params.key_length = Some(key_length);
     Parameters {
         kdf: Kdf::Pbkdf2(params),
@@ -54,7 +56,7 @@ fn there_and_back(
     text: &[u8],
 ) -> Result<Octets>
     ensures ok { IfOk result (λ m. m ≡ text.now) }
-    ensures err { IfErr result (λ e. RefusesKeyIn parameters.now e) }
+    ensures err { IfErr result (λ e. RefusesToEncryptIn parameters.now e) }
 {
     let sealed = parameters.encrypt(alloc, password, text)?;
     decryption_undoes_encryption();

@@ -1,18 +1,47 @@
-//! The caller of CALLING.md.
-ghost use Rattle.std.specs.Prelude.{◌≡◌, IfOk};
+//! The callers of CALLING.md.
+ghost use Rattle.std.specs.Prelude.{◌≡◌, List, ℕ, IfOk};
+ghost use Rattle.outside.specs.Draw.{DrawsIvAndSalt};
+ghost use Rattle.pkcs5.specs.Generation.{recommended};
+ghost use Rattle.pkcs8.specs.KeyTypes.{IsUnlocked, OfKey};
+ghost use Rattle.pkcs8.specs.Sealing.{IsSealed};
 ghost use Rattle.pkcs8.specs.Seen.{AnyPrivateKey, IsPrivateKey};
 
 use super::{KEY, octets, oid};
-use crate::{Error, PrivateKeyInfoRef, Result};
+use crate::{DecodePrivateKey, EncodePrivateKey, Error, PrivateKeyInfoRef, Result, SecretDocument};
 use asn1_core::ObjectIdentifier;
+use outside::Draw;
+use std::alloc::Global;
 
 /// The octets of a private key whose algorithm is this one.
 fn key_octets<'a>(algorithm: ObjectIdentifier, text: &'a [u8]) -> Result<&'a [u8]>
-    ensures { IfOk result (λ o. (k : AnyPrivateKey) × IsPrivateKey text.now k × (k.algorithm.oid ≡ algorithm) × (k.private_key ≡ o.now)) }
+    ensures { IfOk result (λ o. (k : AnyPrivateKey) × IsPrivateKey text.now k
+        × (k.algorithm.oid ≡ algorithm) × (k.private_key ≡ o.now)) }
 {
     let key = PrivateKeyInfoRef::try_from(text)?;
     key.algorithm.assert_algorithm_oid(algorithm)?;
     Ok(key.private_key.as_bytes())
+}
+
+/// The key of a type of one's own, out of the document of another program under a password.
+fn opened<K: DecodePrivateKey>(alloc: Global, document: &[u8], password: &[u8]) -> Result<K>
+    ensures { IfOk result (λ k. (m : List ℕ) × IsUnlocked document.now password.now m
+        × OfKey (λ i. K.holds i k) m) }
+{
+    K::from_pkcs8_encrypted_der(alloc, document, password)
+}
+
+/// The document of a key of a type of one's own under scrypt, with an initialization vector and a salt that are drawn.
+fn sealed<K: EncodePrivateKey, D: Draw>(
+    alloc: Global,
+    draw: &mut D,
+    key: &K,
+    password: &[u8],
+) -> Result<SecretDocument>
+    ensures { IfOk result (λ d. (m : List ℕ) × K.text key.now m × DrawsIvAndSalt (D.left draw.old)
+        (D.left draw.new)
+        (λ iv salt. IsSealed (recommended iv salt) password.now m d.document.octets)) }
+{
+    key.to_pkcs8_encrypted_der(alloc, draw, password)
 }
 
 #[test]

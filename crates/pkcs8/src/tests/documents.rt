@@ -2,18 +2,17 @@
 use super::{KEY, octets};
 use crate::{EncryptedPrivateKeyInfo, EncryptedPrivateKeyInfoRef, Error, PrivateKeyInfoRef};
 use der_core::{Decode, Encode, OctetStringRef, canon_is_read, exact_spellings, texts_are_read};
-use pkcs5::{EncryptionScheme, pbes2};
+use pkcs5::pbes2;
 use std::alloc::Global;
 use std::process::Abort;
 
 /// That key under `hunter42` by AES-256-CBC, with a salt of 8 octets and 2,048 rounds of HMAC over SHA-256.
-const SEALED: &str =
+pub const SEALED: &str =
     "30819b305706092a864886f70d01050d304a302906092a864886f70d01050c301c040879d982e70df91a8802020800300c06082a864886f70d02090500301d060960864801650304012a0410b2d02d78b2efd9dff694cf8e0af409250440d0cd6c770f4bb87176422305c17401809e226674ce74185d221bfdaa95069890c8882fce02b05d41bcbf54b035595bcd4154b32593708469b86aacf8815a7b2b";
 
 /// The parameters of a document, which is under PBES2.
-fn parameters(info: &EncryptedPrivateKeyInfoRef<'_>) -> pbes2::Parameters {
-    let EncryptionScheme::Pbes2(parameters) = info.encryption_algorithm;
-    parameters
+fn parameters(rt: &impl Abort, info: &EncryptedPrivateKeyInfoRef<'_>) -> pbes2::Parameters {
+    *info.encryption_algorithm.pbes2().expect(rt, "PBES2")
 }
 
 /// Whether the document opens to the key under the password, and the key under the same parameters is the document again.
@@ -26,7 +25,7 @@ fn opens_and_seals(rt: &impl Abort, alloc: Global, document: &str, key: &str) ->
     let opened = info.decrypt(alloc, b"hunter42").expect(rt, "a key");
     let read = PrivateKeyInfoRef::try_from(key.as_slice()).expect(rt, "a private key");
     let sealed = read
-        .encrypt_with_params(alloc, parameters(&info), b"hunter42")
+        .encrypt_with_params(alloc, parameters(rt, &info), b"hunter42")
         .expect(rt, "a document");
     let written = info.to_der(alloc).expect(rt, "memory");
     opened.as_bytes() == key.as_slice()
@@ -75,8 +74,8 @@ const STATED_KEY: &str =
     "306d305906092a864886f70d01050d304c302b06092a864886f70d01050c301e04080001020304050607020102020120300c06082a864886f70d02090500301d060960864801650304012a0410101112131415161718191a1b1c1d1e1f0410a5fe88c6846554714fe64642a801eaa6";
 
 /// A document whose key is derived by scrypt (RFC 7914 section 7).
-const SCRYPT: &str =
-    "308193304f06092a864886f70d01050d3042302106092b06010401da47040b30140408e6211e2348ad69e002024000020108020101301d060960864801650304012a04109bd0a6251f2254f9fd5963887c27cf010440cc62ba773c0f495fab3668e4fcefcdb08e78a0ee15e0a15013f62abe08daa742065eeb366d6e6c98cc3b0e7e69bdc861c88afeb8f03dba1e2c6d99d06d17360c";
+const OTHER_FUNCTION: &str =
+    "308193304f06092a864886f70d01050d3042302106092b06010401da47040c30140408e6211e2348ad69e002024000020108020101301d060960864801650304012a04109bd0a6251f2254f9fd5963887c27cf010440cc62ba773c0f495fab3668e4fcefcdb08e78a0ee15e0a15013f62abe08daa742065eeb366d6e6c98cc3b0e7e69bdc861c88afeb8f03dba1e2c6d99d06d17360c";
 
 #[test]
 fn what_is_opened_is_one_sequence(rt: HostRuntime) {
@@ -107,7 +106,7 @@ fn cannot_seal(rt: &impl Abort, alloc: Global, document: &[u8], refusal: Error) 
     };
     let key = octets(rt, alloc, KEY);
     let key = PrivateKeyInfoRef::try_from(key.as_slice()).expect(rt, "a private key");
-    match key.encrypt_with_params(alloc, parameters(&info), b"hunter42") {
+    match key.encrypt_with_params(alloc, parameters(rt, &info), b"hunter42") {
         Ok(_) => false,
         Err(e) => e == refusal,
     }
@@ -124,10 +123,10 @@ fn texts_that_are_no_document_are_refused(rt: HostRuntime) {
     assert!(rt; refusal(alloc, &[0x30, 0], b"hunter42") == malformed);
     let key = octets(&rt, alloc, KEY);
     assert!(rt; refusal(alloc, key.as_slice(), b"hunter42") == malformed);
-    let oid = super::oid(&rt, "1.3.6.1.4.1.11591.4.11");
+    let oid = super::oid(&rt, "1.3.6.1.4.1.11591.4.12");
     let unknown = Some(Error::Asn1(asn1_core::Error::OidUnknown { oid }));
-    let scrypt = octets(&rt, alloc, SCRYPT);
-    assert!(rt; refusal(alloc, scrypt.as_slice(), b"hunter42") == unknown);
+    let other = octets(&rt, alloc, OTHER_FUNCTION);
+    assert!(rt; refusal(alloc, other.as_slice(), b"hunter42") == unknown);
 }
 
 /// Whether the laws hold at a document, and one with an empty ciphertext is another and does not open.

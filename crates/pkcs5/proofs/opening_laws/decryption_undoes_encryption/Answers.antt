@@ -1,6 +1,9 @@
-use Rattle.std.proofs.Common.{refl, sym, ◌∙◌}
-use Rattle.std.proofs.lemmas.Bool.{leb-true}
+use Rattle.pkcs5.specs.OpeningLaws.{opened_once}
+use Rattle.pkcs5.proofs.Refused.{memory_alone}
 use Rattle.pkcs5.proofs.opening_laws.decryption_undoes_encryption.Goals as goal
 
-pub returns : goal.returns
-returns c = λ par q d m n h k. c.padded_text_is_unique.ensures 16 m n (leb-true 1 16 refl) (sym h.text ∙ k.text)
+pub returns-clause-text : goal.returns-clause-text
+returns-clause-text c = opened_once
+
+pub returns-clause-refused : goal.returns-clause-refused
+returns-clause-refused c = memory_alone

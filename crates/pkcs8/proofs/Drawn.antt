@@ -1,0 +1,74 @@
+-- Documents that are sealed under drawn octets.
+use Rattle.std.proofs.Common.{◌≡◌, ℕ, List, Option, Result, Ok, Err, refl, subst, lit<, lit≤}
+use Rattle.std.specs.Prelude.{IfOk, IfErr}
+use Rattle.asn1_core.specs.declared.error.Error.TheVariants as asn1
+use Rattle.outside.specs.Draw.{DrawsIvAndSalt}
+use Rattle.pkcs5.specs.Generation.{recommended}
+use Rattle.pkcs5.specs.Opening.{FitsKey}
+use Rattle.pkcs5.specs.Refusals.{RefusesToEncrypt}
+use Rattle.pkcs5.specs.declared.error.Error.{Error as Pkcs5Error}
+use Rattle.pkcs5.specs.declared.error.Error.TheVariants as pkcs5
+use Rattle.pkcs5.specs.declared.pbes2.parameters.Parameters.{Parameters}
+use Rattle.pkcs8.specs.declared.error.Error.{Error}
+use Rattle.pkcs8.specs.declared.error.Error.TheVariants as errors
+use Rattle.pkcs8.specs.Sealing.{IsSealed, RefusesToSeal, RefusesToSealDrawn}
+
+-- what is recommended gives a key, and is not DES
+recommended_fits : (iv salt : List ℕ) → FitsKey (recommended iv salt)
+recommended_fits iv salt = (
+  tt,
+  (
+    14,
+    refl,
+    record {
+      some_turns = lit≤ tt;
+      word = lit≤ tt;
+      wide = lit< tt;
+      some_blocks = lit≤ tt;
+      some_pieces = lit≤ tt;
+      product = lit< tt;
+      memory = lit< tt;
+      pieces = lit< tt;
+    },
+  ),
+)
+
+never : {P : Type 0} (iv salt : List ℕ) (e : Pkcs5Error) → RefusesToEncrypt (recommended iv salt) e → P
+never iv salt (pkcs5.AlgorithmParametersInvalid o) h = absurd (h.1 (recommended_fits iv salt))
+never iv salt (pkcs5.UnsupportedAlgorithm o) h = absurd h.2
+never iv salt pkcs5.DecryptFailed h = absurd h
+never iv salt pkcs5.EncryptFailed h = absurd h
+never iv salt pkcs5.NoPbes1CryptSupport h = absurd h
+never iv salt pkcs5.Rng h = absurd h
+never iv salt pkcs5.Memory h = absurd h
+
+refused : (lacks : Type 0) (iv salt q m : List ℕ) (e : Error) → RefusesToSeal (recommended iv salt) q m e → RefusesToSealDrawn lacks q m e
+refused lacks iv salt q m (errors.EncryptedPrivateKey e) h = never iv salt e h
+refused lacks iv salt q m (errors.Asn1 asn1.Overlength) h = (recommended iv salt, h)
+refused lacks iv salt q m (errors.Asn1 asn1.Malformed) h = absurd h
+refused lacks iv salt q m (errors.Asn1 (asn1.OidUnknown o)) h = absurd h
+refused lacks iv salt q m (errors.Asn1 asn1.NoRoom) h = absurd h
+refused lacks iv salt q m (errors.Asn1 asn1.File) h = absurd h
+refused lacks iv salt q m (errors.Asn1 asn1.Memory) h = absurd h
+refused lacks iv salt q m (errors.KeyMalformed k) h = absurd h
+refused lacks iv salt q m errors.ParametersMalformed h = absurd h
+refused lacks iv salt q m (errors.PublicKey e) h = absurd h
+refused lacks iv salt q m errors.Memory h = tt
+
+module _ {X : Type 0} (octets : X → List ℕ) (old new : Option (List ℕ)) (par : Parameters) (q m : List ℕ) (d : DrawsIvAndSalt old new (λ iv salt. par ≡ recommended iv salt)) where
+  pub sealed_drawn : (r : Result X Error) → IfOk r (λ x. IsSealed par q m (octets x)) → IfOk r (λ x. DrawsIvAndSalt old new (λ iv salt. IsSealed (recommended iv salt) q m (octets x)))
+  sealed_drawn (Ok x) h = record { iv = d.iv; salt = d.salt; iv_long = d.iv_long; salt_long = d.salt_long; took = d.took; are = subst (λ (p : Parameters). IsSealed p q m (octets x)) d.are h }
+  sealed_drawn (Err e) h = tt
+
+  pub refused_drawn : (lacks : Type 0) (r : Result X Error) → IfErr r (λ e. RefusesToSeal par q m e) → IfErr r (λ e. RefusesToSealDrawn lacks q m e)
+  refused_drawn lacks (Ok x) h = tt
+  refused_drawn lacks (Err e) h = refused lacks d.iv d.salt q m e (subst (λ (p : Parameters). RefusesToSeal p q m e) d.are h)
+
+-- what is said of a text, said of the same text, and of some text
+pub of_text : {X E : Type 0} (Q : List ℕ → X → Type 0) (m n : List ℕ) → m ≡ n → (r : Result X E) → IfOk r (λ x. Q m x) → IfOk r (λ x. Q n x)
+of_text Q m n e (Ok x) h = subst (λ (t : List ℕ). Q t x) e h
+of_text Q m n e (Err f) h = tt
+
+pub of_some_text : {X E : Type 0} (T : List ℕ → Type 0) (Q : List ℕ → X → Type 0) (m : List ℕ) → T m → (r : Result X E) → IfOk r (λ x. Q m x) → IfOk r (λ x. (t : List ℕ) × T t × Q t x)
+of_some_text T Q m t (Ok x) h = (m, t, h)
+of_some_text T Q m t (Err f) h = tt
