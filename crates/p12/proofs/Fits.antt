@@ -1,7 +1,7 @@
 -- A part of a text is no longer than the whole.
 use Rattle.std.proofs.Common.{◌≡◌, ℕ, zero, suc, ◌≤◌, ◌<◌, ◌^◌, List, [], ◌∷◌, ◌++◌, length, Option, Some, None, ap, arith, length-append}
 use Rattle.std.specs.Prelude.{All, IfSome}
-use Rattle.asn1_core.specs.Der.{IsShort, el, len}
+use Rattle.asn1_core.specs.Der.{el, len}
 use Rattle.asn1_core.specs.Texts.{Inside, Many, Raw, Perhaps}
 use Rattle.asn1_core.specs.declared.identifier.ObjectIdentifier.{ObjectIdentifier}
 use Rattle.p12.specs.declared.algorithm_identifier.Pkcs12PbeParams.{Pkcs12PbeParams}
@@ -24,23 +24,23 @@ use Rattle.p12.specs.MacData.{MacText}
 use Rattle.p12.specs.Pfx.{IsStore, StoreFits}
 use Rattle.p12.specs.SafeBag.{BagFits, BagText, IsBags, KindCase, KindFits}
 
-abbrev Fits : List ℕ → List ℕ → Type 0
+abbrev pub Fits : List ℕ → List ℕ → Type 0
 Fits x b = length x ≤ length b
 
-through : (x y z : List ℕ) → Fits x y → Fits y z → Fits x z
+pub through : (x y z : List ℕ) → Fits x y → Fits y z → Fits x z
 through x y z h i = omega (arith, h, i)
 
-value_fits : (tag : ℕ) (v b : List ℕ) → b ≡ el tag v → Fits v b
+pub value_fits : (tag : ℕ) (v b : List ℕ) → b ≡ el tag v → Fits v b
 unfolding el
 value_fits tag v b e = omega (arith, ap length e, length-append (len (length v)) v)
 
-left_fits : (x y b : List ℕ) → b ≡ x ++ y → Fits x b
+pub left_fits : (x y b : List ℕ) → b ≡ x ++ y → Fits x b
 left_fits x y b e = omega (arith, ap length e, length-append x y)
 
-right_fits : (x y b : List ℕ) → b ≡ x ++ y → Fits y b
+pub right_fits : (x y b : List ℕ) → b ≡ x ++ y → Fits y b
 right_fits x y b e = omega (arith, ap length e, length-append x y)
 
-inside_fits : (tag : ℕ) (b v : List ℕ) → Inside tag b v → Fits v b
+pub inside_fits : (tag : ℕ) (b v : List ℕ) → Inside tag b v → Fits v b
 inside_fits tag b v r = omega (arith, ap length r.1, value_fits tag r.0 b r.2)
 
 raw_fits : (b v : List ℕ) → Raw b v → Fits v b
@@ -64,7 +64,7 @@ salt_fits b a r = let f = r.1 in through _ _ _ (case_fits f.2 f.1 a f.4) (throug
 
 -- ---- contents
 
-encrypted_fits : (b : List ℕ) (d : EncryptedData) → EncryptedDataText b d → Fits d.encrypted_content_info.encrypted_content b × Fits (salt_of d.encrypted_content_info.content_encryption_algorithm) b
+pub encrypted_fits : (b : List ℕ) (d : EncryptedData) → EncryptedDataText b d → Fits d.encrypted_content_info.encrypted_content b × Fits (salt_of d.encrypted_content_info.content_encryption_algorithm) b
 encrypted_fits b d r =
     let version = r.1 in
     let info = version.3 in

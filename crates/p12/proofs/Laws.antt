@@ -1,5 +1,5 @@
 -- Laws of the definitions, for the crates above.
-use Rattle.std.proofs.Common.{◌≡◌, ℕ, zero, suc, inl, inr, ◌+◌, ◌*◌, ◌-◌, ◌≤◌, List, [], ◌∷◌, length, Bool, true, false, Option, Some, None, refl, arith, length-append, IsTrue, nat_lt}
+use Rattle.std.proofs.Common.{◌<◌, ◌≡◌, ℕ, zero, suc, inl, inr, ◌+◌, ◌*◌, ◌-◌, ◌≤◌, List, [], ◌∷◌, length, Bool, true, false, Option, Some, None, refl, arith, length-append, IsTrue, nat_lt}
 use Rattle.std.specs.Prelude.{All, if◌then◌else◌, ◌&&◌}
 use Rattle.std.specs.List.{flat_map}
 use Rattle.std.specs.Str.{chars, chars_after, continuation_len, lead_bits}
@@ -13,14 +13,15 @@ use Rattle.p12.specs.declared.algorithm_identifier.AlgorithmIdentifier.TheVarian
 use Rattle.p12.specs.declared.content_info.ContentInfo.{ContentInfo}
 use Rattle.p12.specs.declared.pfx.PFX.{PFX}
 use Rattle.p12.specs.declared.safe_bag.SafeBag.{SafeBag}
-use Rattle.pkcs5.specs.Kinds.{key_size, rounds_of}
-use Rattle.pkcs5.specs.Opening.{decrypted, states_length, steps_of}
+use Rattle.pkcs5.specs.Kinds.{is_pbkdf2, key_size, rounds_of}
+use Rattle.pkcs5.specs.Opening.{opened, states_length, steps_of}
 use Rattle.pkcs5.specs.declared.pbes2.parameters.Parameters.{Parameters}
-use Rattle.p12.specs.AlgorithmIdentifier.{IsOpened, cost, is_aes_blocks, is_blocks, taken, taken_pbe, unlock, unlock_pbe, unlock_pbes2, unpadded, triple_des_text}
+use Rattle.p12.specs.AlgorithmIdentifier.{IsOpened, cost, is_blocks, taken, taken_pbe, unlock, unlock_pbe, unlock_pbes2, unpadded, triple_des_text}
 use Rattle.p12.specs.ContentInfo.{ContentFits, ContentText, IsContents}
 use Rattle.p12.specs.Password.{bmp_password, units_of_char}
 use Rattle.p12.specs.Pfx.{IsStore, PfxText, StoreFits}
 use Rattle.p12.specs.SafeBag.{BagFits, BagText, IsBags}
+use Rattle.p12.proofs.Pbes2.{by_rounds}
 use Rattle.p12.proofs.BagRows.{bags-exact}
 use Rattle.p12.proofs.ContentRows.{contents-exact, pfx-exact}
 use Rattle.p12.proofs.Fits as fits
@@ -69,10 +70,10 @@ pbes2_opened : (par : Parameters) (p c m : List ℕ) → unlock_pbes2 par p c �
 unfolding unlock_pbes2 taken
 pbes2_opened par p c m h =
     let fits = states_length par.kdf (key_size par.encryption) in
-    let some = nat_lt 0 (rounds_of par.kdf) && is_aes_blocks c in
-    let t = both fits some (not_none (fits && some) (unpadded 16 (decrypted par p c)) m h) in
-    let u = both (nat_lt 0 (rounds_of par.kdf)) (is_aes_blocks c) t.1 in
-    record { openable = t.0; some_rounds = ltb-true 0 (rounds_of par.kdf) u.0; all = rw t.0 refl }
+    let some = nat_lt 0 (rounds_of par.kdf) in
+    let t = both fits some (not_none (fits && some) (opened par p c) m h) in
+    let rounds : 0 < rounds_of par.kdf = ltb-true 0 (rounds_of par.kdf) t.1 in
+    record { openable = rw (by_rounds par.kdf rounds) t.0; some_rounds = rounds; all = rw t.0 refl }
 
 pub unlock_opened : (a : AlgorithmIdentifier) (p c m : List ℕ) → unlock a p c ≡ Some m → IsOpened a c
 unfolding unlock

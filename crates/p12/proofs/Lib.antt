@@ -10,3 +10,11 @@ pub mod Opened
 pub mod Macs
 pub mod Fits
 pub mod Laws
+mod Ends
+mod Walks
+mod ContentWalks
+mod BagWalks
+mod UnitsPass
+mod Characters
+mod Refusals
+mod OneCiphertext

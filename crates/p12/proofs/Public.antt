@@ -1,5 +1,5 @@
 -- From the reading functions to the public words of this crate.
-use Rattle.std.proofs.Common.{◌≡◌, ℕ, List}
+use Rattle.std.proofs.Common.{◌≡◌, ℕ, List, refl}
 use Rattle.asn1_core.specs.Der.{IsShort}
 use Rattle.asn1_core.specs.Reading.{Bad, UnknownOid, Front, whole}
 use Rattle.asn1_core.specs.Texts.{Exact}
@@ -8,6 +8,7 @@ use Rattle.asn1_core.specs.StandLaws.{none_stands, whole_none}
 use Rattle.asn1_core.specs.declared.error.Error.{Error as Asn1Error}
 use Rattle.asn1_core.specs.declared.error.Error.TheVariants as asn1
 use Rattle.p12.specs.Error.{refusal_of, MalformedOnly}
+use Rattle.p12.specs.declared.error.Error.TheVariants.{Malformed}
 
 pub refused : {A : Type 0} {R : List ℕ → A → Type 0} {at : Front A} → Exact R at → (old new : List ℕ) (e : Asn1Error) → (new ≡ old) × Fails (Unit {0}) e (at old) → (new ≡ old) × MalformedOnly (refusal_of e) (NoneStands R old)
 refused {R = R} {at = at} exact old new asn1.Malformed h = (h.0, none_stands R at exact old Bad h.1)
@@ -24,3 +25,12 @@ not_whole exact b asn1.Overlength h = absurd h
 not_whole exact b asn1.NoRoom h = absurd h
 not_whole exact b asn1.File h = absurd h
 not_whole exact b asn1.Memory h = tt
+
+-- the same of a call that takes no memory
+pub not_whole_free : {A : Type 0} {R : List ℕ → A → Type 0} {at : Front A} → Exact R at → (b : List ℕ) (e : Asn1Error) → Fails ⊥ e (whole at b) → (refusal_of e ≡ Malformed) × ((v : A) → R b v × IsShort b → ⊥)
+not_whole_free {R = R} {at = at} exact b asn1.Malformed h = (refl, whole_none R at exact b Bad h)
+not_whole_free {R = R} {at = at} exact b (asn1.OidUnknown o) h = (refl, whole_none R at exact b (UnknownOid o) h)
+not_whole_free exact b asn1.Overlength h = absurd h
+not_whole_free exact b asn1.NoRoom h = absurd h
+not_whole_free exact b asn1.File h = absurd h
+not_whole_free exact b asn1.Memory h = absurd h

@@ -1,6 +1,6 @@
 -- Algorithms of PKCS#12 (RFC 7292 appendix C; PBES2 of RFC 8018 appendix A.4; AlgorithmIdentifier of RFC 5280 section
 -- 4.1.1.2), and what they open under a password.
-use Rattle.std.specs.Prelude.{◌≡◌, ◌≢◌, ◌⊎◌, ℕ, ◌<◌, ◌-◌, ◌*◌, ◌^◌, ◌%◌, ◌==◌, ◌&&◌, nat_lt, if◌then◌else◌, Bool, true, false, List, [], length, take, slice_index, Option, Some, None}
+use Rattle.std.specs.Prelude.{◌≡◌, ◌≢◌, ◌⊎◌, ℕ, ◌<◌, ◌≤◌, ◌-◌, ◌*◌, ◌^◌, ◌%◌, ◌==◌, ◌&&◌, nat_lt, if◌then◌else◌, Bool, true, false, List, [], length, take, slice_index, Option, Some, None, ⊤}
 use Rattle.asn1_core.specs.Texts.{On, Perhaps, Raw, Uint, Oid, Inside}
 use Rattle.asn1_core.specs.Fields.{Field, End, Sequence}
 use Rattle.asn1_core.specs.Oid.{oid_octets}
@@ -12,13 +12,15 @@ use Rattle.block_core.specs.Tdes.{inv_tdes}
 use Rattle.mac_modes.specs.Cbc.{uncbc}
 use Rattle.mac_modes.specs.Padding.{padded}
 use Rattle.pkcs5.specs.Identifiers.{pbes2_oid}
-use Rattle.pkcs5.specs.Opening.{decrypted, states_length, steps_of}
-use Rattle.pkcs5.specs.Kinds.{key_size, rounds_of}
+use Rattle.pkcs5.specs.Opening.{opened, states_length, steps_of}
+use Rattle.pkcs5.specs.Kinds.{IsDes, is_pbkdf2, key_size, rounds_of}
 use Rattle.pkcs5.specs.Parameters.{ParametersText}
 use Rattle.pkcs5.specs.declared.pbes2.parameters.Parameters.{Parameters}
 use Rattle.p12.specs.Derivation.{derive12}
 use Rattle.p12.specs.Password.{bmp_password}
 use Rattle.p12.specs.Identifiers.{sha1_oid, sha256_oid, rc2_scheme_oid, triple_des_scheme_oid}
+use Rattle.p12.specs.declared.error.Error.{Error}
+use Rattle.p12.specs.declared.error.Error.TheVariants as errors
 use Rattle.p12.specs.declared.algorithm_identifier.Pkcs12PbeParams.{Pkcs12PbeParams}
 use Rattle.p12.specs.declared.algorithm_identifier.AlgorithmIdentifier.{AlgorithmIdentifier}
 use Rattle.p12.specs.declared.algorithm_identifier.AlgorithmIdentifier.TheVariants.{Sha1, Sha256, PbewithSHAAnd40BitRC2CBC, PbeWithSHAAnd3KeyTripleDESCBC, Pbes2, OtherAlg}
@@ -48,14 +50,23 @@ AlgorithmText = Sequence (On Oid AlgorithmCase)
 
 -- ---- opening (RFC 7292 appendix B and C; RFC 8018 section 6.2)
 
--- whether a text under it can be opened: Triple DES, and PBES2 where a length of the key that is stated is the cipher's
+-- whether a text under it can be opened: Triple DES, and PBES2 with PBKDF2 where a length of the key that is stated is the cipher's
 abbrev pub openable : AlgorithmIdentifier → Bool
 openable Sha1 = false
 openable Sha256 = false
 openable (PbewithSHAAnd40BitRC2CBC p) = false
 openable (PbeWithSHAAnd3KeyTripleDESCBC p) = true
-openable (Pbes2 par) = states_length par.kdf (key_size par.encryption)
+openable (Pbes2 par) = is_pbkdf2 par.kdf && states_length par.kdf (key_size par.encryption)
 openable (OtherAlg o) = false
+
+-- whether it is PBES2 with DES, under which nothing is encrypted anew
+abbrev pub IsUnderDes : AlgorithmIdentifier → Type 0
+IsUnderDes Sha1 = ⊥
+IsUnderDes Sha256 = ⊥
+IsUnderDes (PbewithSHAAnd40BitRC2CBC p) = ⊥
+IsUnderDes (PbeWithSHAAnd3KeyTripleDESCBC p) = ⊥
+IsUnderDes (Pbes2 par) = IsDes par.encryption
+IsUnderDes (OtherAlg o) = ⊥
 
 -- its count of rounds
 abbrev pub count : AlgorithmIdentifier → ℕ
@@ -111,7 +122,8 @@ taken (OtherAlg o) c = 0
 abbrev pub without_last : ℕ → List ℕ → List ℕ
 without_last k t = take (length t - k) t
 
--- the text of which t is the padded one, to blocks of n octets, or none: it ends where t's last octet says
+-- the text of which t is the padded one, to blocks of n octets, or none: it ends where t's last octet says. It is the text by
+-- the law `unpadding_undoes_padding` of src/uniqueness.rt.
 unfoldable pub unpadded : ℕ → List ℕ → Option (List ℕ)
 unpadded n t =
     let m = without_last (slice_index t (length t - 1)) t in
@@ -131,15 +143,11 @@ unlock_pbe (PbeWithSHAAnd3KeyTripleDESCBC p) q c = if nat_lt 0 p.iterations && i
 unlock_pbe (Pbes2 par) q c = None
 unlock_pbe (OtherAlg o) q c = None
 
--- a positive multiple of 16 octets
-abbrev pub is_aes_blocks : List ℕ → Bool
-is_aes_blocks c = nat_lt 0 (length c) && (length c % 16 == 0)
-
--- a text opened by PBES2 under a password: none with no rounds, where the length of the key that is stated is not the
--- cipher's, of a wrong length, or with a wrong padding
+-- a text opened by PBES2 under a password: none with no rounds of PBKDF2, where the length of the key that is stated is not
+-- the cipher's, and where the ciphertext opens to none
 unfoldable pub unlock_pbes2 : Parameters → List ℕ → List ℕ → Option (List ℕ)
 unlock_pbes2 par p c =
-    if states_length par.kdf (key_size par.encryption) && (nat_lt 0 (rounds_of par.kdf) && is_aes_blocks c) then unpadded 16 (decrypted par p c) else None
+    if states_length par.kdf (key_size par.encryption) && nat_lt 0 (rounds_of par.kdf) then opened par p c else None
 
 -- a text opened under a password, given by its UTF-8: schemes of RFC 7292 take it in UTF-16, PBES2 as it is
 unfoldable pub unlock : AlgorithmIdentifier → List ℕ → List ℕ → Option (List ℕ)
@@ -155,3 +163,27 @@ pub record IsOpened (a : AlgorithmIdentifier) (c : List ℕ) : Type 0 where
   pub openable : openable a ≡ true
   pub some_rounds : 0 < count a
   pub all : taken a c ≡ cost a
+
+-- ---- sealing
+
+-- whether texts are opened under it by a password in UTF-16
+abbrev pub is_triple_des : AlgorithmIdentifier → Bool
+is_triple_des Sha1 = false
+is_triple_des Sha256 = false
+is_triple_des (PbewithSHAAnd40BitRC2CBC p) = false
+is_triple_des (PbeWithSHAAnd3KeyTripleDESCBC p) = true
+is_triple_des (Pbes2 par) = false
+is_triple_des (OtherAlg o) = false
+
+-- c is a ciphertext of the text m, by what opens it, and has at most 2 ^ 32 - 1 octets
+abbrev pub IsSealed : (List ℕ → Option (List ℕ)) → List ℕ → List ℕ → Type 0
+IsSealed opens m c = (opens c ≡ Some m) × (length c < 2 ^ 32)
+
+-- when sealing the text m is refused, by cases on the error: one with ⊥ never comes, want of memory may come at any point, and
+-- a text is too long where its ciphertext has more than 2 ^ 32 - 1 octets
+abbrev pub RefusesToSeal : (List ℕ → Option (List ℕ)) → List ℕ → Error → Type 0
+RefusesToSeal opens m errors.Malformed = ⊥
+RefusesToSeal opens m errors.Invalid = ⊥
+RefusesToSeal opens m errors.Rng = ⊥
+RefusesToSeal opens m errors.TooLong = (c : List ℕ) × (opens c ≡ Some m) × (2 ^ 32 ≤ length c)
+RefusesToSeal opens m errors.Memory = ⊤

@@ -37,6 +37,12 @@ held (content.Data v) = v
 held (content.EncryptedData d) = d.encrypted_content_info.encrypted_content
 held (content.OtherContext o) = o.content
 
+-- the encrypted ones among them
+abbrev pub encrypted_of : ContentInfo → List ℕ
+encrypted_of (content.Data v) = []
+encrypted_of (content.EncryptedData d) = d.encrypted_content_info.encrypted_content
+encrypted_of (content.OtherContext o) = []
+
 -- the salt that they are encrypted under
 abbrev pub held_salt : ContentInfo → List ℕ
 held_salt (content.Data v) = []

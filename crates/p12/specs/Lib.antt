@@ -14,3 +14,13 @@ pub mod Attribute
 pub mod SafeBag
 pub mod Pfx
 pub mod Reading
+pub mod Place
+pub mod Walk
+pub mod AlgorithmView
+pub mod MacView
+pub mod ContentView
+pub mod StoreView
+pub mod Units
+pub mod AttributeView
+pub mod BagView
+pub mod Sole

@@ -60,10 +60,10 @@ key_of (kind.CertBag c) q = None
 key_of (kind.Pkcs8ShroudedKeyBag e) q = unlock_pbe e.encryption_algorithm q e.encrypted_data
 key_of (kind.OtherBagKind o) q = None
 
--- an encrypted key has fewer than 2 ^ 32 octets, and so has its salt
+-- an encrypted key has fewer than 2 ^ 32 octets, and its salt fewer than 2 ^ 59
 abbrev pub KindFits : SafeBagKind → Type 0
 KindFits (kind.CertBag c) = ⊤
-KindFits (kind.Pkcs8ShroudedKeyBag e) = (length e.encrypted_data < 2 ^ 32) × (length (salt_of e.encryption_algorithm) < 2 ^ 32)
+KindFits (kind.Pkcs8ShroudedKeyBag e) = (length e.encrypted_data < 2 ^ 32) × (length (salt_of e.encryption_algorithm) < 2 ^ 59)
 KindFits (kind.OtherBagKind o) = ⊤
 
 abbrev pub BagFits : SafeBag → Type 0

@@ -1,10 +1,15 @@
 //! Attributes of a bag.
-ghost use Rattle.std.specs.Prelude.{◌+◌, ◌≡◌, ◌<◌, length, OnOk, IfOk, IfErr};
-ghost use Rattle.asn1_core.specs.Gives.{ReadsIn, GivesIn};
+ghost use Rattle.std.specs.Prelude.{◌+◌, ◌≡◌, ◌<◌, false, [], length, Ok, OnOk, IfOk, IfErr};
+ghost use Rattle.asn1_core.specs.Gives.{Gives, GivesIn, ReadsAs, ReadsIn};
 ghost use Rattle.asn1_core.specs.Reading.{many, raw_at, inside_at};
 ghost use Rattle.asn1_core.specs.Fields.{latest};
-ghost use Rattle.asn1_core.specs.Unicode.{bmp_at};
+ghost use Rattle.asn1_core.specs.Unicode.{bmp_at, units_all};
+ghost use Rattle.std.specs.Char.Utf16.{is_high_surrogate, is_low_surrogate};
+ghost use Rattle.p12.specs.AttributeView.{bmp_text, IsAttribute, seen_attribute, seen_elements, seen_list};
+ghost use Rattle.p12.specs.Units.{agrees, units_pass};
+ghost use Rattle.p12.specs.Walk.{Passes};
 ghost use Rattle.p12.specs.Attribute.{AttributeText};
+ghost use Rattle.asn1_core.specs.declared.error.Error.TheVariants as asn1;
 ghost use Rattle.p12.specs.Error.{Reads};
 ghost use Rattle.p12.specs.Reading.{name_all, key_id_all, other_attribute_all, attribute_all, attribute_at, attributes_all};
 
@@ -37,6 +42,208 @@ pub enum PKCS12Attribute {
     Other(OtherAttribute),
 }
 
+/// An attribute, which lends its parts: a name by the BMPString as it stands, other values by the octets of their set.
+#[derive(Clone, Copy, Drop)]
+enum AttributeView<'a> {
+    Name(&'a [u8]),
+    KeyId(&'a [u8]),
+    Other {
+        oid: ObjectIdentifier,
+        values: &'a [u8],
+    },
+}
+
+/// The last of one or more octet strings.
+fn last_octets<'a>(mut body: SliceReader<'a>) -> Result<&'a [u8], asn1_core::Error>
+    ensures { Gives (λ x. x.now) result (latest (inside_at 0x04) body.entry.rest.now) }
+{
+    let mut found = read_inner(&mut body, Tag::OCTET_STRING)?.rest;
+    while !body.is_finished() {
+        found = read_inner(&mut body, Tag::OCTET_STRING)?.rest;
+    }
+    Ok(found)
+}
+
+fn is_low(unit: u16) -> bool
+    ensures { result ≡ is_low_surrogate unit }
+{
+    unit >= 0xdc00 && unit < 0xe000
+}
+
+fn is_high(unit: u16) -> bool
+    ensures { result ≡ is_high_surrogate unit }
+{
+    unit >= 0xd800 && unit < 0xdc00
+}
+
+/// Whether a unit may stand behind the unit before.
+fn agrees(high: bool, low: bool) -> bool
+    ensures { result ≡ agrees high low }
+{
+    if high { low } else { !low }
+}
+
+/// Whether the octets are the units of a text.
+#[tactic(auto, unfolding(crate::specs::Units::units_pass))]
+fn are_units(octets: &[u8]) -> bool
+    ensures { result ≡ units_pass false octets.now }
+{
+    let mut rest = octets;
+    let mut high = false;
+    while let Some((first, behind)) = rest.split_first() {
+        let Some((second, after)) = behind.split_first() else {
+            return false;
+        };
+        let unit = 256 * u16::from(*first) + u16::from(*second);
+        if !agrees(high, is_low(unit)) {
+            return false;
+        }
+        high = is_high(unit);
+        rest = after;
+    }
+    !high
+}
+
+/// That the octets are the units of a text.
+fn check_units(octets: &[u8]) -> Result<(), asn1_core::Error>
+    ensures { Passes result (units_all octets.now) }
+{
+    if are_units(octets) {
+        Ok(())
+    } else {
+        Err(asn1_core::Error::Malformed)
+    }
+}
+
+/// A BMPString, as it stands.
+#[tactic(auto, unfolding(asn1_core::specs::Unicode::bmp_at))]
+fn bmp_element<'a>(r: &mut SliceReader<'a>) -> Result<&'a [u8], asn1_core::Error>
+    ensures exact { ReadsAs bmp_at (λ x. bmp_text x.now) r.old.rest.now r.new.rest.now result }
+    ensures alone { IfOk result (λ x. bmp_at x.now ≡ Ok (bmp_text x.now, [])) }
+    ensures shorter { OnOk result (length r.new.rest.now < length r.old.rest.now) }
+{
+    let mut ahead = *r;
+    let value = read_inner(&mut ahead, Tag::BMP_STRING)?;
+    check_units(value.rest)?;
+    let element = &r.rest[..r.rest.len() - ahead.rest.len()];
+    *r = ahead;
+    Ok(element)
+}
+
+/// The last of one or more BMPStrings, as it stands.
+fn last_name<'a>(mut body: SliceReader<'a>) -> Result<&'a [u8], asn1_core::Error>
+    ensures exact { Gives (λ x. bmp_text x.now) result (latest bmp_at body.entry.rest.now) }
+    ensures alone { IfOk result (λ x. bmp_at x.now ≡ Ok (bmp_text x.now, [])) }
+{
+    let mut found = bmp_element(&mut body)?;
+    while !body.is_finished() {
+        found = bmp_element(&mut body)?;
+    }
+    Ok(found)
+}
+
+/// The octets of a set, that elements stand in it.
+fn element_list<'a>(mut body: SliceReader<'a>) -> Result<&'a [u8], asn1_core::Error>
+    ensures exact { Gives (λ x. seen_elements x.now) result (many raw_at body.entry.rest.now) }
+    ensures all { IfOk result (λ x. many raw_at x.now ≡ Ok (seen_elements x.now)) }
+{
+    let all = body.rest;
+    while !body.is_finished() {
+        read_raw(&mut body)?;
+    }
+    Ok(all)
+}
+
+fn name_view<'a>(mut body: SliceReader<'a>) -> Result<AttributeView<'a>, asn1_core::Error>
+    ensures exact { Gives seen_attribute result (name_all body.entry.rest.now) }
+    ensures lawful { IfOk result IsAttribute }
+{
+    let set = read_inner(&mut body, Tag::SET)?;
+    let name = last_name(set)?;
+    body.finish()?;
+    Ok(AttributeView::Name(name))
+}
+
+fn key_id_view<'a>(mut body: SliceReader<'a>) -> Result<AttributeView<'a>, asn1_core::Error>
+    ensures exact { Gives seen_attribute result (key_id_all body.entry.rest.now) }
+    ensures lawful { IfOk result IsAttribute }
+{
+    let set = read_inner(&mut body, Tag::SET)?;
+    let key_id = last_octets(set)?;
+    body.finish()?;
+    Ok(AttributeView::KeyId(key_id))
+}
+
+fn other_view<'a>(
+    oid: ObjectIdentifier,
+    mut body: SliceReader<'a>,
+) -> Result<AttributeView<'a>, asn1_core::Error>
+    ensures exact { Gives seen_attribute result (other_attribute_all oid body.entry.rest.now) }
+    ensures lawful { IfOk result IsAttribute }
+{
+    let set = read_inner(&mut body, Tag::SET)?;
+    let values = element_list(set)?;
+    body.finish()?;
+    Ok(AttributeView::Other { oid, values })
+}
+
+fn view_of<'a>(
+    oid: ObjectIdentifier,
+    body: SliceReader<'a>,
+) -> Result<AttributeView<'a>, asn1_core::Error>
+    ensures exact { Gives seen_attribute result (attribute_all oid body.entry.rest.now) }
+    ensures lawful { IfOk result IsAttribute }
+{
+    if oid == FRIENDLY_NAME {
+        name_view(body)
+    } else if oid == LOCAL_KEY_ID {
+        key_id_view(body)
+    } else {
+        other_view(oid, body)
+    }
+}
+
+#[tactic(auto, unfolding(crate::specs::Reading::attribute_at))]
+fn attribute_view<'a>(r: &mut SliceReader<'a>) -> Result<AttributeView<'a>, asn1_core::Error>
+    ensures exact { ReadsAs attribute_at seen_attribute r.old.rest.now r.new.rest.now result }
+    ensures lawful { IfOk result IsAttribute }
+    ensures place { r.new.read + length r.new.rest.now ≡ r.old.read + length r.old.rest.now }
+    ensures shorter { OnOk result (length r.new.rest.now < length r.old.rest.now) }
+{
+    let mut ahead = *r;
+    let mut body = read_inner(&mut ahead, Tag::SEQUENCE)?;
+    let oid = read_identifier(&mut body)?;
+    let attribute = view_of(oid, body)?;
+    *r = ahead;
+    Ok(attribute)
+}
+
+/// The octets of a list of attributes.
+fn checked_list<'a>(mut body: SliceReader<'a>) -> Result<&'a [u8], asn1_core::Error>
+    ensures exact { Gives (λ x. seen_list x.now) result (many attribute_at body.entry.rest.now) }
+    ensures all { IfOk result (λ x. many attribute_at x.now ≡ Ok (seen_list x.now)) }
+{
+    let all = body.rest;
+    while !body.is_finished() {
+        attribute_view(&mut body)?;
+    }
+    Ok(all)
+}
+
+/// The octets of the attributes behind a bag's value: none where no set stands there.
+pub(crate) fn attributes_view<'a>(mut body: SliceReader<'a>) -> Result<&'a [u8], asn1_core::Error>
+    ensures exact { Gives (λ x. seen_list x.now) result (attributes_all body.entry.rest.now) }
+    ensures all { IfOk result (λ x. many attribute_at x.now ≡ Ok (seen_list x.now)) }
+{
+    if body.is_finished() {
+        return Ok(body.rest);
+    }
+    let set = read_inner(&mut body, Tag::SET)?;
+    let all = checked_list(set)?;
+    body.finish()?;
+    Ok(all)
+}
+
 /// The elements of a set, in the order in which they stand.
 fn elements(alloc: Global, mut body: SliceReader<'_>) -> Result<Items<Octets>, asn1_core::Error>
     ensures { GivesIn (λ x. x) result (many raw_at body.entry.rest.now) }
@@ -49,82 +256,29 @@ fn elements(alloc: Global, mut body: SliceReader<'_>) -> Result<Items<Octets>, a
     Ok(items)
 }
 
-/// The last of one or more octet strings.
-fn last_octets<'a>(mut body: SliceReader<'a>) -> Result<&'a [u8], asn1_core::Error>
-    ensures { GivesIn (λ x. x.now) result (latest (inside_at 0x04) body.entry.rest.now) }
-{
-    let mut found = read_inner(&mut body, Tag::OCTET_STRING)?.rest;
-    while !body.is_finished() {
-        found = read_inner(&mut body, Tag::OCTET_STRING)?.rest;
-    }
-    Ok(found)
-}
-
-/// The last of one or more texts.
-fn last_text(alloc: Global, mut body: SliceReader<'_>) -> Result<Text, asn1_core::Error>
-    ensures { GivesIn (λ x. x) result (latest bmp_at body.entry.rest.now) }
-{
-    let mut found = read_bmp(alloc, &mut body)?;
-    while !body.is_finished() {
-        found = read_bmp(alloc, &mut body)?;
-    }
-    Ok(found)
-}
-
-fn friendly_name(
-    alloc: Global,
-    mut body: SliceReader<'_>,
-) -> Result<PKCS12Attribute, asn1_core::Error>
-    ensures { GivesIn (λ x. x) result (name_all body.entry.rest.now) }
-{
-    let set = read_inner(&mut body, Tag::SET)?;
-    let name = last_text(alloc, set)?;
-    body.finish()?;
-    Ok(PKCS12Attribute::FriendlyName(name))
-}
-
-fn local_key_id(
-    alloc: Global,
-    mut body: SliceReader<'_>,
-) -> Result<PKCS12Attribute, asn1_core::Error>
-    ensures { GivesIn (λ x. x) result (key_id_all body.entry.rest.now) }
-{
-    let set = read_inner(&mut body, Tag::SET)?;
-    let key_id = last_octets(set)?;
-    body.finish()?;
-    Ok(PKCS12Attribute::LocalKeyId(Octets::from_slice(alloc, key_id)?))
-}
-
-fn other_attribute(
-    alloc: Global,
-    oid: ObjectIdentifier,
-    mut body: SliceReader<'_>,
-) -> Result<PKCS12Attribute, asn1_core::Error>
-    ensures { GivesIn (λ x. x) result (other_attribute_all oid body.entry.rest.now) }
-{
-    let set = read_inner(&mut body, Tag::SET)?;
-    let values = elements(alloc, set)?;
-    body.finish()?;
-    Ok(PKCS12Attribute::Other(OtherAttribute { oid, values }))
-}
-
-fn attribute_of(
-    alloc: Global,
-    oid: ObjectIdentifier,
-    body: SliceReader<'_>,
-) -> Result<PKCS12Attribute, asn1_core::Error>
-    ensures { GivesIn (λ x. x) result (attribute_all oid body.entry.rest.now) }
-{
-    if oid == FRIENDLY_NAME {
-        friendly_name(alloc, body)
-    } else if oid == LOCAL_KEY_ID {
-        local_key_id(alloc, body)
-    } else {
-        other_attribute(alloc, oid, body)
+impl<'a> AttributeView<'a> {
+    /// The same in memory of its own. The only refusal is `Memory`.
+    #[tactic(auto, using(crate::proofs::Refusals::is_memory))]
+    fn owned(&self, alloc: Global) -> Result<PKCS12Attribute, asn1_core::Error>
+        requires { IsAttribute self.now }
+        ensures ok { IfOk result (λ a. a ≡ seen_attribute self.now) }
+        ensures err { IfErr result (λ e. e ≡ asn1.Memory) }
+    {
+        Ok(match self {
+            AttributeView::Name(name) => {
+                PKCS12Attribute::FriendlyName(read_bmp(alloc, &mut SliceReader::new(name))?)
+            }
+            AttributeView::KeyId(key_id) => {
+                PKCS12Attribute::LocalKeyId(Octets::from_slice(alloc, key_id)?)
+            }
+            AttributeView::Other { oid, values } => PKCS12Attribute::Other(OtherAttribute {
+                oid: *oid,
+                values: elements(alloc, SliceReader::new(values))?,
+            }),
+        })
     }
 }
 
-#[tactic(auto, unfolding(crate::specs::Reading::attribute_at))]
 fn attribute_in_front(
     alloc: Global,
     r: &mut SliceReader<'_>,
@@ -134,14 +288,14 @@ fn attribute_in_front(
     ensures shorter { OnOk result (length r.new.rest.now < length r.old.rest.now) }
 {
     let mut ahead = *r;
-    let mut body = read_inner(&mut ahead, Tag::SEQUENCE)?;
-    let oid = read_identifier(&mut body)?;
-    let attribute = attribute_of(alloc, oid, body)?;
+    let view = attribute_view(&mut ahead)?;
+    let attribute = view.owned(alloc)?;
     *r = ahead;
     Ok(attribute)
 }
 
-fn attribute_list(
+/// The attributes that stand in these octets.
+pub(crate) fn attribute_list(
     alloc: Global,
     mut body: SliceReader<'_>,
 ) -> Result<Items<PKCS12Attribute>, asn1_core::Error>
@@ -152,22 +306,6 @@ fn attribute_list(
         let item = attribute_in_front(alloc, &mut body)?;
         items.push(item)?;
     }
-    Ok(items)
-}
-
-/// The attributes behind a bag's value: none where no set stands there.
-pub(crate) fn attributes(
-    alloc: Global,
-    mut body: SliceReader<'_>,
-) -> Result<Items<PKCS12Attribute>, asn1_core::Error>
-    ensures { GivesIn (λ x. x) result (attributes_all body.entry.rest.now) }
-{
-    if body.is_finished() {
-        return Ok(Items::new(alloc));
-    }
-    let set = read_inner(&mut body, Tag::SET)?;
-    let items = attribute_list(alloc, set)?;
-    body.finish()?;
     Ok(items)
 }
 

@@ -17,7 +17,8 @@ fn add_to_block(block: &mut [u8], addend: &[u8; 64])
 
 /// Adds `addend` and 1 to the number in each block of 64 octets, modulo 2^512: no carry passes from one block to the next.
 pub(crate) fn add_to_blocks(text: &mut [u8], addend: &[u8; 64])
-    ensures { numbers text.new ≡ map (λ x. (x + number addend.now + 1) % 2 ^ 512) (numbers text.old) }
+    ensures { numbers text.new ≡ map (λ x. (x + number addend.now + 1) % 2 ^ 512)
+        (numbers text.old) }
 {
     for k in 0..text.len() / 64 {
         add_to_block(&mut text[64 * k..64 * k + 64], addend);

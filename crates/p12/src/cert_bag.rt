@@ -1,14 +1,17 @@
 //! Certificate bags.
-ghost use Rattle.std.specs.Prelude.{◌+◌, ◌≡◌, ◌<◌, length, OnOk, IfOk, IfErr};
-ghost use Rattle.asn1_core.specs.Gives.{ReadsIn, GivesIn};
+ghost use Rattle.std.specs.Prelude.{◌+◌, ◌≡◌, ◌<◌, length, true, OnOk, IfOk, IfErr};
+ghost use Rattle.asn1_core.specs.Gives.{Gives, ReadsAs, ReadsIn};
 ghost use Rattle.p12.specs.CertBag.{CertBagText};
+ghost use Rattle.asn1_core.specs.Unicode.{ia5_at, is_ascii_text};
+ghost use Rattle.p12.specs.BagView.{IsCert, seen_cert};
+ghost use Rattle.asn1_core.specs.declared.error.Error.TheVariants as asn1;
 ghost use Rattle.p12.specs.Error.{Reads};
 ghost use Rattle.p12.specs.Reading.{x509_all, sdsi_all, cert_bag_all, cert_bag_at};
 
 use crate::error::Error;
 use crate::identifiers::{SDSI_CERTIFICATE, X509_CERTIFICATE};
 use asn1_core::{
-    ObjectIdentifier, Octets, Reader, SliceReader, Tag, Text, read_ia5, read_identifier, read_inner,
+    ObjectIdentifier, Octets, Reader, SliceReader, Tag, Text, read_identifier, read_inner,
 };
 use std::alloc::Global;
 
@@ -23,54 +26,124 @@ pub enum CertBag {
     SDSI(Text),
 }
 
-fn x509_certificate(alloc: Global, mut body: SliceReader<'_>) -> Result<CertBag, asn1_core::Error>
-    ensures { GivesIn (λ x. x) result (x509_all body.entry.rest.now) }
+/// A certificate, which lends its octets.
+#[derive(Clone, Copy, Drop)]
+pub(crate) enum CertView<'a> {
+    X509(&'a [u8]),
+    Sdsi(&'a [u8]),
+}
+
+fn are_ascii(octets: &[u8]) -> bool
+    ensures { result ≡ is_ascii_text octets.now }
+{
+    for octet in octets {
+        if *octet > 127 {
+            return false;
+        }
+    }
+    true
+}
+
+/// The octets of an IA5String.
+#[tactic(auto, unfolding(asn1_core::specs::Unicode::ia5_at))]
+fn ia5_octets<'a>(r: &mut SliceReader<'a>) -> Result<&'a [u8], asn1_core::Error>
+    ensures exact { ReadsAs ia5_at (λ x. x.now) r.old.rest.now r.new.rest.now result }
+    ensures ascii { IfOk result (λ x. is_ascii_text x.now ≡ true) }
+{
+    let mut ahead = *r;
+    let value = read_inner(&mut ahead, Tag::IA5_STRING)?;
+    if !are_ascii(value.rest) {
+        return Err(asn1_core::Error::Malformed);
+    }
+    *r = ahead;
+    Ok(value.rest)
+}
+
+fn x509_view<'a>(mut body: SliceReader<'a>) -> Result<CertView<'a>, asn1_core::Error>
+    ensures exact { Gives seen_cert result (x509_all body.entry.rest.now) }
+    ensures lawful { IfOk result IsCert }
 {
     let mut explicit = read_inner(&mut body, Tag::CONTEXT_0)?;
     let value = read_inner(&mut explicit, Tag::OCTET_STRING)?;
     explicit.finish()?;
     body.finish()?;
-    Ok(CertBag::X509(Octets::from_slice(alloc, value.rest)?))
+    Ok(CertView::X509(value.rest))
 }
 
-fn sdsi_certificate(alloc: Global, mut body: SliceReader<'_>) -> Result<CertBag, asn1_core::Error>
-    ensures { GivesIn (λ x. x) result (sdsi_all body.entry.rest.now) }
+fn sdsi_view<'a>(mut body: SliceReader<'a>) -> Result<CertView<'a>, asn1_core::Error>
+    ensures exact { Gives seen_cert result (sdsi_all body.entry.rest.now) }
+    ensures lawful { IfOk result IsCert }
 {
     let mut explicit = read_inner(&mut body, Tag::CONTEXT_0)?;
-    let text = read_ia5(alloc, &mut explicit)?;
+    let text = ia5_octets(&mut explicit)?;
     explicit.finish()?;
     body.finish()?;
-    Ok(CertBag::SDSI(text))
+    Ok(CertView::Sdsi(text))
 }
 
-fn certificate_of(
-    alloc: Global,
+fn view_of<'a>(
     certificate_type: ObjectIdentifier,
-    body: SliceReader<'_>,
-) -> Result<CertBag, asn1_core::Error>
-    ensures { GivesIn (λ x. x) result (cert_bag_all certificate_type body.entry.rest.now) }
+    body: SliceReader<'a>,
+) -> Result<CertView<'a>, asn1_core::Error>
+    ensures exact { Gives seen_cert result (cert_bag_all certificate_type body.entry.rest.now) }
+    ensures lawful { IfOk result IsCert }
 {
     if certificate_type == X509_CERTIFICATE {
-        x509_certificate(alloc, body)
+        x509_view(body)
     } else if certificate_type == SDSI_CERTIFICATE {
-        sdsi_certificate(alloc, body)
+        sdsi_view(body)
     } else {
         Err(asn1_core::Error::Malformed)
     }
 }
 
 #[tactic(auto, unfolding(crate::specs::Reading::cert_bag_at))]
-pub(crate) fn certificate_in_front(
-    alloc: Global,
-    r: &mut SliceReader<'_>,
-) -> Result<CertBag, asn1_core::Error>
-    ensures exact { ReadsIn cert_bag_at (λ x. x) r.old.rest.now r.new.rest.now result }
+pub(crate) fn certificate_view<'a>(
+    r: &mut SliceReader<'a>,
+) -> Result<CertView<'a>, asn1_core::Error>
+    ensures exact { ReadsAs cert_bag_at seen_cert r.old.rest.now r.new.rest.now result }
+    ensures lawful { IfOk result IsCert }
     ensures place { r.new.read + length r.new.rest.now ≡ r.old.read + length r.old.rest.now }
 {
     let mut ahead = *r;
     let mut body = read_inner(&mut ahead, Tag::SEQUENCE)?;
     let certificate_type = read_identifier(&mut body)?;
-    let certificate = certificate_of(alloc, certificate_type, body)?;
+    let certificate = view_of(certificate_type, body)?;
+    *r = ahead;
+    Ok(certificate)
+}
+
+/// A text of ASCII characters in memory of its own.
+#[tactic(auto, using(crate::proofs::Characters::ascii_text))]
+fn ascii(alloc: Global, text: &[u8]) -> Result<Text, asn1_core::Error>
+    requires { is_ascii_text text.now ≡ true }
+    ensures ok { IfOk result (λ t. t ≡ text.now) }
+    ensures err { IfErr result (λ e. e ≡ asn1.Memory) }
+{
+    Ok(Text::from_string(String::from_utf8_lossy(alloc, text)?))
+}
+
+impl<'a> CertView<'a> {
+    /// The same in memory of its own. The only refusal is `Memory`.
+    pub(crate) fn owned(&self, alloc: Global) -> Result<CertBag, asn1_core::Error>
+        requires { IsCert self.now }
+        ensures ok { IfOk result (λ c. c ≡ seen_cert self.now) }
+        ensures err { IfErr result (λ e. e ≡ asn1.Memory) }
+    {
+        Ok(match self {
+            CertView::X509(octets) => CertBag::X509(Octets::from_slice(alloc, octets)?),
+            CertView::Sdsi(text) => CertBag::SDSI(ascii(alloc, text)?),
+        })
+    }
+}
+
+fn certificate_in_front(alloc: Global, r: &mut SliceReader<'_>) -> Result<CertBag, asn1_core::Error>
+    ensures exact { ReadsIn cert_bag_at (λ x. x) r.old.rest.now r.new.rest.now result }
+    ensures place { r.new.read + length r.new.rest.now ≡ r.old.read + length r.old.rest.now }
+{
+    let mut ahead = *r;
+    let view = certificate_view(&mut ahead)?;
+    let certificate = view.owned(alloc)?;
     *r = ahead;
     Ok(certificate)
 }

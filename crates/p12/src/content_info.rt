@@ -1,16 +1,20 @@
 //! Contents.
-ghost use Rattle.std.specs.Prelude.{◌+◌, ◌≡◌, ◌<◌, ◌^◌, length, OnOk, IfOk, IfErr};
-ghost use Rattle.asn1_core.specs.Gives.{ReadsIn, GivesIn};
+ghost use Rattle.std.specs.Prelude.{◌+◌, ◌≡◌, ◌-◌, ◌<◌, ◌≤◌, ◌^◌, ℕ, length, OnOk, IfOk, IfErr};
+ghost use Rattle.asn1_core.specs.Gives.{Gives, GivesIn, ReadsAs, ReadsIn};
 ghost use Rattle.asn1_core.specs.Reading.{many};
-ghost use Rattle.p12.specs.ContentInfo.{ContentText, content_oid, held, held_salt, plain_pbe, IsContents, NoContents};
+ghost use Rattle.p12.specs.ContentInfo.{ContentText, content_oid, encrypted_of, held_salt, plain_pbe, IsContents, NoContents};
 ghost use Rattle.p12.specs.Error.{MalformedOnly, Reads};
 ghost use Rattle.p12.specs.Reading.{data_all, encrypted_all, other_content_all, content_all, content_at, contents_at};
 ghost use Rattle.asn1_core.specs.Reading.{whole};
 ghost use Rattle.asn1_core.specs.Oid.{oid_octets};
+ghost use Rattle.asn1_core.specs.declared.error.Error.TheVariants as asn1;
+ghost use Rattle.p12.specs.ContentView.{EndsAt, seen_content};
 
-use crate::encrypted_data::{EncryptedData, encrypted_data_in_front};
+use crate::algorithm_identifier::AlgorithmView;
+use crate::encrypted_data::{EncryptedContentInfo, EncryptedData, encrypted_data_view};
 use crate::error::Error;
 use crate::identifiers::{DATA, ENCRYPTED_DATA};
+use crate::place::Place;
 use asn1_core::{
     Items, ObjectIdentifier, Octets, Reader, SliceReader, Tag, read_identifier, read_inner,
     read_raw,
@@ -36,76 +40,165 @@ pub enum ContentInfo {
     OtherContext(OtherContext),
 }
 
-fn data_content(alloc: Global, mut body: SliceReader<'_>) -> Result<ContentInfo, asn1_core::Error>
-    ensures { GivesIn (λ x. x) result (data_all body.entry.rest.now) }
-{
-    let mut explicit = read_inner(&mut body, Tag::CONTEXT_0)?;
-    let value = read_inner(&mut explicit, Tag::OCTET_STRING)?;
-    explicit.finish()?;
-    body.finish()?;
-    Ok(ContentInfo::Data(Octets::from_slice(alloc, value.rest)?))
+/// A content of a store, which it lends from the octets that were parsed; `at` says where it stands in them. A contract sees the
+/// content in memory of its own.
+#[derive(Clone, Copy, Debug, Drop)]
+pub enum ContentView<'a> {
+    Plain {
+        content: &'a [u8],
+        at: Place,
+    },
+    Encrypted {
+        algorithm: AlgorithmView<'a>,
+        content: &'a [u8],
+        at: Place,
+    },
+    Other {
+        content_type: ObjectIdentifier,
+        content: &'a [u8],
+    },
 }
 
-fn encrypted_content(
-    alloc: Global,
-    mut body: SliceReader<'_>,
-) -> Result<ContentInfo, asn1_core::Error>
-    ensures { GivesIn (λ x. x) result (encrypted_all body.entry.rest.now) }
+fn plain_view<'a>(
+    mut body: SliceReader<'a>,
+    end: usize,
+) -> Result<ContentView<'a>, asn1_core::Error>
+    requires { length body.rest.now ≤ end }
+    ensures exact { Gives seen_content result (data_all body.entry.rest.now) }
+    ensures ends { IfOk result (EndsAt end) }
 {
     let mut explicit = read_inner(&mut body, Tag::CONTEXT_0)?;
-    let encrypted = encrypted_data_in_front(alloc, &mut explicit)?;
+    let content = read_inner(&mut explicit, Tag::OCTET_STRING)?.rest;
     explicit.finish()?;
     body.finish()?;
-    Ok(ContentInfo::EncryptedData(encrypted))
+    let at = Place::ending_at(end, content);
+    Ok(ContentView::Plain { content, at })
 }
 
-fn other_content(
-    alloc: Global,
+fn encrypted_view<'a>(
+    mut body: SliceReader<'a>,
+    end: usize,
+) -> Result<ContentView<'a>, asn1_core::Error>
+    requires { length body.rest.now ≤ end }
+    ensures exact { Gives seen_content result (encrypted_all body.entry.rest.now) }
+    ensures ends { IfOk result (EndsAt end) }
+{
+    let mut explicit = read_inner(&mut body, Tag::CONTEXT_0)?;
+    let encrypted = match encrypted_data_view(&mut explicit) {
+        Ok(encrypted) => encrypted,
+        Err(error) => return Err(error),
+    };
+    explicit.finish()?;
+    body.finish()?;
+    let at = Place::ending_at(end, encrypted.content);
+    Ok(ContentView::Encrypted {
+        algorithm: encrypted.algorithm,
+        content: encrypted.content,
+        at,
+    })
+}
+
+fn other_view<'a>(
     content_type: ObjectIdentifier,
-    mut body: SliceReader<'_>,
-) -> Result<ContentInfo, asn1_core::Error>
-    ensures { GivesIn (λ x. x) result (other_content_all content_type body.entry.rest.now) }
+    mut body: SliceReader<'a>,
+) -> Result<ContentView<'a>, asn1_core::Error>
+    ensures exact { Gives seen_content result (other_content_all content_type body.entry.rest.now) }
+    ensures ends { IfOk result (λ v. (n : ℕ) → EndsAt n v) }
 {
     let mut explicit = read_inner(&mut body, Tag::CONTEXT_0)?;
-    let value = read_raw(&mut explicit)?;
+    let content = read_raw(&mut explicit)?;
     explicit.finish()?;
     body.finish()?;
-    let content = Octets::from_slice(alloc, value)?;
-    Ok(ContentInfo::OtherContext(OtherContext {
+    Ok(ContentView::Other {
         content_type,
         content,
-    }))
+    })
 }
 
-fn content_of(
-    alloc: Global,
+fn view_of<'a>(
     content_type: ObjectIdentifier,
-    body: SliceReader<'_>,
-) -> Result<ContentInfo, asn1_core::Error>
-    ensures { GivesIn (λ x. x) result (content_all content_type body.entry.rest.now) }
+    body: SliceReader<'a>,
+    end: usize,
+) -> Result<ContentView<'a>, asn1_core::Error>
+    requires { length body.rest.now ≤ end }
+    ensures exact { Gives seen_content result (content_all content_type body.entry.rest.now) }
+    ensures ends { IfOk result (EndsAt end) }
 {
     if content_type == DATA {
-        data_content(alloc, body)
+        plain_view(body, end)
     } else if content_type == ENCRYPTED_DATA {
-        encrypted_content(alloc, body)
+        encrypted_view(body, end)
     } else {
-        other_content(alloc, content_type, body)
+        other_view(content_type, body)
     }
 }
 
+/// The content that stands next in what is left of `total` octets, in which its place is counted.
 #[tactic(auto, unfolding(crate::specs::Reading::content_at))]
-pub(crate) fn content_in_front(
-    alloc: Global,
-    r: &mut SliceReader<'_>,
-) -> Result<ContentInfo, asn1_core::Error>
+pub(crate) fn content_view<'a>(
+    r: &mut SliceReader<'a>,
+    total: usize,
+) -> Result<ContentView<'a>, asn1_core::Error>
+    requires { length r.old.rest.now ≤ total }
+    ensures exact { ReadsAs content_at seen_content r.old.rest.now r.new.rest.now result }
+    ensures place { r.new.read + length r.new.rest.now ≡ r.old.read + length r.old.rest.now }
+    ensures shorter { OnOk result (length r.new.rest.now < length r.old.rest.now) }
+    ensures ends { IfOk result (EndsAt (total - length r.new.rest.now)) }
+{
+    let mut ahead = *r;
+    let mut body = read_inner(&mut ahead, Tag::SEQUENCE)?;
+    let end = total - ahead.rest.len();
+    let content_type = read_identifier(&mut body)?;
+    let content = match view_of(content_type, body, end) {
+        Ok(content) => content,
+        Err(error) => return Err(error),
+    };
+    *r = ahead;
+    Ok(content)
+}
+
+impl<'a> ContentView<'a> {
+    /// The same in memory of its own. The only refusal is `Memory`.
+    pub(crate) fn owned(&self, alloc: Global) -> Result<ContentInfo, asn1_core::Error>
+        ensures ok { IfOk result (λ c. c ≡ seen_content self.now) }
+        ensures err { IfErr result (λ e. e ≡ asn1.Memory) }
+    {
+        Ok(match self {
+            ContentView::Plain { content, .. } => {
+                ContentInfo::Data(Octets::from_slice(alloc, content)?)
+            }
+            ContentView::Encrypted {
+                algorithm,
+                content,
+                ..
+            } => ContentInfo::EncryptedData(EncryptedData {
+                encrypted_content_info: EncryptedContentInfo {
+                    content_encryption_algorithm: algorithm.owned(alloc)?,
+                    encrypted_content: Octets::from_slice(alloc, content)?,
+                },
+            }),
+            ContentView::Other {
+                content_type,
+                content,
+            } => ContentInfo::OtherContext(OtherContext {
+                content_type: *content_type,
+                content: Octets::from_slice(alloc, content)?,
+            }),
+        })
+    }
+}
+
+fn content_in_front(alloc: Global, r: &mut SliceReader<'_>) -> Result<ContentInfo, asn1_core::Error>
     ensures exact { ReadsIn content_at (λ x. x) r.old.rest.now r.new.rest.now result }
     ensures place { r.new.read + length r.new.rest.now ≡ r.old.read + length r.old.rest.now }
     ensures shorter { OnOk result (length r.new.rest.now < length r.old.rest.now) }
 {
     let mut ahead = *r;
-    let mut body = read_inner(&mut ahead, Tag::SEQUENCE)?;
-    let content_type = read_identifier(&mut body)?;
-    let content = content_of(alloc, content_type, body)?;
+    let view = match content_view(&mut ahead, r.rest.len()) {
+        Ok(view) => view,
+        Err(error) => return Err(error),
+    };
+    let content = view.owned(alloc)?;
     *r = ahead;
     Ok(content)
 }
@@ -201,7 +294,7 @@ impl ContentInfo {
     ///
     /// Caller: the encrypted octets are fewer than 2^32, password and salt fewer than 2^59 each.
     pub fn data(&self, alloc: Global, password: &[u8]) -> Result<Option<Octets>, Error>
-        requires content { length (held self.now) < 2 ^ 32 }
+        requires content { length (encrypted_of self.now) < 2 ^ 32 }
         requires salt { length (held_salt self.now) < 2 ^ 59 }
         requires password { length password.now < 2 ^ 59 }
         ensures value { IfOk result (λ m. m ≡ plain_pbe self.now password.now) }

@@ -78,9 +78,11 @@ pub(crate) fn derive<H: HashFn, L: Ledger>(
     requires password { length password.now < 2 ^ 59 }
     requires salt { length salt.now < 2 ^ 59 }
     requires size { size ≤ 2 ^ 32 }
-    ensures value { IfOk result (λ key. key.items ≡ derive12 H.digest H.OUTPUT password.now salt.now rounds id size) }
+    ensures value { IfOk result
+        (λ key. key.items ≡ derive12 H.digest H.OUTPUT password.now salt.now rounds id size) }
     ensures steps { OnOk result (steps.new ≡ steps.old + rounds * turns size H.OUTPUT) }
-    ensures at_most { (steps.old ≤ steps.new) × (steps.new ≤ steps.old + rounds * turns size H.OUTPUT) }
+    ensures at_most { (steps.old ≤ steps.new)
+        × (steps.new ≤ steps.old + rounds * turns size H.OUTPUT) }
 {
     let mut inputs = Vec::new(alloc);
     push_filled(&mut inputs, salt)?;
@@ -112,7 +114,8 @@ fn derive_from<H: HashFn, L: Ledger>(
     requires password { length password.now < 2 ^ 59 }
     requires salt { length salt.now < 2 ^ 59 }
     requires size { size ≤ 2 ^ 32 }
-    ensures { IfOk result (λ key. key.items ≡ derive12 H.digest H.OUTPUT password.now salt.now rounds id size) }
+    ensures { IfOk result
+        (λ key. key.items ≡ derive12 H.digest H.OUTPUT password.now salt.now rounds id size) }
 {
     let mut steps = Steps::<L>::open(blank);
     derive::<H, L>(alloc, password, salt, rounds, id, size, &mut steps)
@@ -136,7 +139,8 @@ pub fn pbepkcs12<H: HashFn>(
     requires size { size ≤ 2 ^ 32 }
     requires pass { length pass.now < 2 ^ 59 }
     requires salt { length salt.now < 2 ^ 59 }
-    ensures ok { IfOk result (λ key. key ≡ derive12 H.digest H.OUTPUT pass.now salt.now iterations id size) }
+    ensures ok { IfOk result
+        (λ key. key ≡ derive12 H.digest H.OUTPUT pass.now salt.now iterations id size) }
     ensures err { IfErr result (λ e. e ≡ Error.Memory) }
 {
     let size = size as usize;

@@ -1,11 +1,13 @@
 //! A digest and its algorithm.
 ghost use Rattle.std.specs.Prelude.{◌+◌, ◌≡◌, ◌<◌, length, OnOk, IfOk, IfErr};
-ghost use Rattle.asn1_core.specs.Gives.{ReadsIn, GivesIn};
+ghost use Rattle.asn1_core.specs.Gives.{ReadsAs, ReadsIn};
 ghost use Rattle.p12.specs.DigestInfo.{DigestText};
+ghost use Rattle.p12.specs.MacView.{seen_digest};
 ghost use Rattle.p12.specs.Error.{Reads};
+ghost use Rattle.asn1_core.specs.declared.error.Error.TheVariants as asn1;
 ghost use Rattle.p12.specs.Reading.{digest_at};
 
-use crate::algorithm_identifier::{AlgorithmIdentifier, algorithm_in_front};
+use crate::algorithm_identifier::{AlgorithmIdentifier, AlgorithmView, algorithm_view};
 use crate::error::Error;
 use asn1_core::{Octets, Reader, SliceReader, Tag, read_inner};
 use std::alloc::Global;
@@ -21,25 +23,55 @@ pub struct DigestInfo {
     pub digest: Octets,
 }
 
+/// A digest and the algorithm that made it, which lends them.
+#[derive(Clone, Copy, Drop)]
+pub(crate) struct DigestView<'a> {
+    pub(crate) algorithm: AlgorithmView<'a>,
+    pub(crate) digest: &'a [u8],
+}
+
 #[tactic(auto, unfolding(crate::specs::Reading::digest_at))]
-pub(crate) fn digest_in_front(
-    alloc: Global,
-    r: &mut SliceReader<'_>,
-) -> Result<DigestInfo, asn1_core::Error>
-    ensures exact { ReadsIn digest_at (λ x. x) r.old.rest.now r.new.rest.now result }
+pub(crate) fn digest_view<'a>(r: &mut SliceReader<'a>) -> Result<DigestView<'a>, asn1_core::Error>
+    ensures exact { ReadsAs digest_at seen_digest r.old.rest.now r.new.rest.now result }
     ensures place { r.new.read + length r.new.rest.now ≡ r.old.read + length r.old.rest.now }
 {
     let mut ahead = *r;
     let mut body = read_inner(&mut ahead, Tag::SEQUENCE)?;
-    let digest_algorithm = algorithm_in_front(alloc, &mut body)?;
-    let digest = read_inner(&mut body, Tag::OCTET_STRING)?;
+    let algorithm = match algorithm_view(&mut body) {
+        Ok(algorithm) => algorithm,
+        Err(error) => return Err(error),
+    };
+    let digest = read_inner(&mut body, Tag::OCTET_STRING)?.rest;
     body.finish()?;
-    let digest = Octets::from_slice(alloc, digest.rest)?;
     *r = ahead;
-    Ok(DigestInfo {
-        digest_algorithm,
-        digest,
-    })
+    Ok(DigestView { algorithm, digest })
+}
+
+impl<'a> DigestView<'a> {
+    /// The same in memory of its own. The only refusal is `Memory`.
+    pub(crate) fn owned(&self, alloc: Global) -> Result<DigestInfo, asn1_core::Error>
+        ensures ok { IfOk result (λ d. d ≡ seen_digest self.now) }
+        ensures err { IfErr result (λ e. e ≡ asn1.Memory) }
+    {
+        Ok(DigestInfo {
+            digest_algorithm: self.algorithm.owned(alloc)?,
+            digest: Octets::from_slice(alloc, self.digest)?,
+        })
+    }
+}
+
+fn digest_in_front(alloc: Global, r: &mut SliceReader<'_>) -> Result<DigestInfo, asn1_core::Error>
+    ensures exact { ReadsIn digest_at (λ x. x) r.old.rest.now r.new.rest.now result }
+    ensures place { r.new.read + length r.new.rest.now ≡ r.old.read + length r.old.rest.now }
+{
+    let mut ahead = *r;
+    let view = match digest_view(&mut ahead) {
+        Ok(view) => view,
+        Err(error) => return Err(error),
+    };
+    let digest = view.owned(alloc)?;
+    *r = ahead;
+    Ok(digest)
 }
 
 impl DigestInfo {

@@ -1,12 +1,14 @@
 //! Encrypted contents.
 ghost use Rattle.std.specs.Prelude.{◌+◌, ◌≡◌, ◌<◌, ◌^◌, length, OnOk, IfOk, IfErr};
-ghost use Rattle.asn1_core.specs.Gives.{ReadsIn, GivesIn};
+ghost use Rattle.asn1_core.specs.Gives.{ReadsAs, ReadsIn};
 ghost use Rattle.p12.specs.EncryptedData.{EncryptedContentText, EncryptedDataText};
+ghost use Rattle.p12.specs.ContentView.{seen_encrypted, seen_encrypted_data};
 ghost use Rattle.p12.specs.Error.{Reads};
+ghost use Rattle.asn1_core.specs.declared.error.Error.TheVariants as asn1;
 ghost use Rattle.p12.specs.Reading.{encrypted_content_at, encrypted_data_at};
 ghost use Rattle.p12.specs.AlgorithmIdentifier.{salt_of, unlock_pbe};
 
-use crate::algorithm_identifier::{AlgorithmIdentifier, algorithm_in_front};
+use crate::algorithm_identifier::{AlgorithmIdentifier, AlgorithmView, algorithm_view};
 use crate::error::Error;
 use crate::identifiers::DATA;
 use asn1_core::{Octets, Reader, SliceReader, Tag, read_identifier, read_inner, read_uint};
@@ -34,7 +36,71 @@ pub struct EncryptedData {
     pub encrypted_content_info: EncryptedContentInfo,
 }
 
+/// Octets that are encrypted, and how, which lends them.
+#[derive(Clone, Copy, Drop)]
+pub(crate) struct EncryptedView<'a> {
+    pub(crate) algorithm: AlgorithmView<'a>,
+    pub(crate) content: &'a [u8],
+}
+
 #[tactic(auto, unfolding(crate::specs::Reading::encrypted_content_at))]
+fn encrypted_content_view<'a>(
+    r: &mut SliceReader<'a>,
+) -> Result<EncryptedView<'a>, asn1_core::Error>
+    ensures exact { ReadsAs encrypted_content_at seen_encrypted r.old.rest.now
+        r.new.rest.now result }
+    ensures place { r.new.read + length r.new.rest.now ≡ r.old.read + length r.old.rest.now }
+{
+    let mut ahead = *r;
+    let mut body = read_inner(&mut ahead, Tag::SEQUENCE)?;
+    if read_identifier(&mut body)? != DATA {
+        return Err(asn1_core::Error::Malformed);
+    }
+    let algorithm = match algorithm_view(&mut body) {
+        Ok(algorithm) => algorithm,
+        Err(error) => return Err(error),
+    };
+    let content = read_inner(&mut body, Tag::PRIMITIVE_CONTEXT_0)?.rest;
+    body.finish()?;
+    *r = ahead;
+    Ok(EncryptedView { algorithm, content })
+}
+
+#[tactic(auto, unfolding(crate::specs::Reading::encrypted_data_at))]
+pub(crate) fn encrypted_data_view<'a>(
+    r: &mut SliceReader<'a>,
+) -> Result<EncryptedView<'a>, asn1_core::Error>
+    ensures exact { ReadsAs encrypted_data_at seen_encrypted_data r.old.rest.now
+        r.new.rest.now result }
+    ensures place { r.new.read + length r.new.rest.now ≡ r.old.read + length r.old.rest.now }
+{
+    let mut ahead = *r;
+    let mut body = read_inner(&mut ahead, Tag::SEQUENCE)?;
+    if read_uint(&mut body, 0xff)? != 0 {
+        return Err(asn1_core::Error::Malformed);
+    }
+    let encrypted = match encrypted_content_view(&mut body) {
+        Ok(encrypted) => encrypted,
+        Err(error) => return Err(error),
+    };
+    body.finish()?;
+    *r = ahead;
+    Ok(encrypted)
+}
+
+impl<'a> EncryptedView<'a> {
+    /// The same in memory of its own. The only refusal is `Memory`.
+    fn owned(&self, alloc: Global) -> Result<EncryptedContentInfo, asn1_core::Error>
+        ensures ok { IfOk result (λ e. e ≡ seen_encrypted self.now) }
+        ensures err { IfErr result (λ e. e ≡ asn1.Memory) }
+    {
+        Ok(EncryptedContentInfo {
+            content_encryption_algorithm: self.algorithm.owned(alloc)?,
+            encrypted_content: Octets::from_slice(alloc, self.content)?,
+        })
+    }
+}
+
 fn encrypted_content_in_front(
     alloc: Global,
     r: &mut SliceReader<'_>,
@@ -43,23 +109,16 @@ fn encrypted_content_in_front(
     ensures place { r.new.read + length r.new.rest.now ≡ r.old.read + length r.old.rest.now }
 {
     let mut ahead = *r;
-    let mut body = read_inner(&mut ahead, Tag::SEQUENCE)?;
-    if read_identifier(&mut body)? != DATA {
-        return Err(asn1_core::Error::Malformed);
-    }
-    let content_encryption_algorithm = algorithm_in_front(alloc, &mut body)?;
-    let content = read_inner(&mut body, Tag::PRIMITIVE_CONTEXT_0)?;
-    body.finish()?;
-    let encrypted_content = Octets::from_slice(alloc, content.rest)?;
+    let view = match encrypted_content_view(&mut ahead) {
+        Ok(view) => view,
+        Err(error) => return Err(error),
+    };
+    let encrypted = view.owned(alloc)?;
     *r = ahead;
-    Ok(EncryptedContentInfo {
-        content_encryption_algorithm,
-        encrypted_content,
-    })
+    Ok(encrypted)
 }
 
-#[tactic(auto, unfolding(crate::specs::Reading::encrypted_data_at))]
-pub(crate) fn encrypted_data_in_front(
+fn encrypted_data_in_front(
     alloc: Global,
     r: &mut SliceReader<'_>,
 ) -> Result<EncryptedData, asn1_core::Error>
@@ -67,12 +126,11 @@ pub(crate) fn encrypted_data_in_front(
     ensures place { r.new.read + length r.new.rest.now ≡ r.old.read + length r.old.rest.now }
 {
     let mut ahead = *r;
-    let mut body = read_inner(&mut ahead, Tag::SEQUENCE)?;
-    if read_uint(&mut body, 0xff)? != 0 {
-        return Err(asn1_core::Error::Malformed);
-    }
-    let encrypted_content_info = encrypted_content_in_front(alloc, &mut body)?;
-    body.finish()?;
+    let view = match encrypted_data_view(&mut ahead) {
+        Ok(view) => view,
+        Err(error) => return Err(error),
+    };
+    let encrypted_content_info = view.owned(alloc)?;
     *r = ahead;
     Ok(EncryptedData {
         encrypted_content_info,
@@ -133,7 +191,9 @@ impl EncryptedContentInfo {
         requires content { length self.now.encrypted_content < 2 ^ 32 }
         requires salt { length (salt_of self.now.content_encryption_algorithm) < 2 ^ 59 }
         requires password { length password.now < 2 ^ 59 }
-        ensures value { IfOk result (λ m. m ≡ unlock_pbe self.now.content_encryption_algorithm password.now self.now.encrypted_content) }
+        ensures value { IfOk result
+            (λ m. m ≡ unlock_pbe self.now.content_encryption_algorithm password.now
+            self.now.encrypted_content) }
         ensures err { IfErr result (λ e. e ≡ Error.Memory) }
     {
         let algorithm = &self.content_encryption_algorithm;
@@ -147,9 +207,12 @@ impl EncryptedData {
     /// Caller: the encrypted octets are fewer than 2^32, password and salt fewer than 2^59 each.
     pub fn data(&self, alloc: Global, password: &[u8]) -> Result<Option<Octets>, Error>
         requires content { length self.now.encrypted_content_info.encrypted_content < 2 ^ 32 }
-        requires salt { length (salt_of self.now.encrypted_content_info.content_encryption_algorithm) < 2 ^ 59 }
+        requires salt { length
+            (salt_of self.now.encrypted_content_info.content_encryption_algorithm) < 2 ^ 59 }
         requires password { length password.now < 2 ^ 59 }
-        ensures value { IfOk result (λ m. m ≡ unlock_pbe self.now.encrypted_content_info.content_encryption_algorithm password.now self.now.encrypted_content_info.encrypted_content) }
+        ensures value { let e = self.now.encrypted_content_info in
+            IfOk result (λ m. m ≡ unlock_pbe e.content_encryption_algorithm password.now
+            e.encrypted_content) }
         ensures err { IfErr result (λ e. e ≡ Error.Memory) }
     {
         self.encrypted_content_info.data(alloc, password)

@@ -1,12 +1,14 @@
 //! Encrypted private keys of a store.
 ghost use Rattle.std.specs.Prelude.{◌+◌, ◌≡◌, ◌<◌, ◌^◌, length, OnOk, IfOk, IfErr};
-ghost use Rattle.asn1_core.specs.Gives.{ReadsIn, GivesIn};
+ghost use Rattle.asn1_core.specs.Gives.{ReadsAs, ReadsIn};
 ghost use Rattle.p12.specs.AlgorithmIdentifier.{salt_of, unlock_pbe};
 ghost use Rattle.p12.specs.EncryptedPrivateKeyInfo.{EncryptedKeyText};
+ghost use Rattle.p12.specs.BagView.{seen_key};
 ghost use Rattle.p12.specs.Error.{Reads};
 ghost use Rattle.p12.specs.Reading.{encrypted_key_at};
 
-use crate::algorithm_identifier::{AlgorithmIdentifier, algorithm_in_front};
+use crate::algorithm_identifier::{AlgorithmIdentifier, algorithm_view};
+use crate::encrypted_data::EncryptedView;
 use crate::error::Error;
 use asn1_core::{Octets, Reader, SliceReader, Tag, read_inner};
 use std::alloc::Global;
@@ -23,7 +25,25 @@ pub struct EncryptedPrivateKeyInfo {
 }
 
 #[tactic(auto, unfolding(crate::specs::Reading::encrypted_key_at))]
-pub(crate) fn encrypted_key_in_front(
+pub(crate) fn encrypted_key_view<'a>(
+    r: &mut SliceReader<'a>,
+) -> Result<EncryptedView<'a>, asn1_core::Error>
+    ensures exact { ReadsAs encrypted_key_at seen_key r.old.rest.now r.new.rest.now result }
+    ensures place { r.new.read + length r.new.rest.now ≡ r.old.read + length r.old.rest.now }
+{
+    let mut ahead = *r;
+    let mut body = read_inner(&mut ahead, Tag::SEQUENCE)?;
+    let algorithm = match algorithm_view(&mut body) {
+        Ok(algorithm) => algorithm,
+        Err(error) => return Err(error),
+    };
+    let content = read_inner(&mut body, Tag::OCTET_STRING)?.rest;
+    body.finish()?;
+    *r = ahead;
+    Ok(EncryptedView { algorithm, content })
+}
+
+fn encrypted_key_in_front(
     alloc: Global,
     r: &mut SliceReader<'_>,
 ) -> Result<EncryptedPrivateKeyInfo, asn1_core::Error>
@@ -31,11 +51,12 @@ pub(crate) fn encrypted_key_in_front(
     ensures place { r.new.read + length r.new.rest.now ≡ r.old.read + length r.old.rest.now }
 {
     let mut ahead = *r;
-    let mut body = read_inner(&mut ahead, Tag::SEQUENCE)?;
-    let encryption_algorithm = algorithm_in_front(alloc, &mut body)?;
-    let value = read_inner(&mut body, Tag::OCTET_STRING)?;
-    body.finish()?;
-    let encrypted_data = Octets::from_slice(alloc, value.rest)?;
+    let view = match encrypted_key_view(&mut ahead) {
+        Ok(view) => view,
+        Err(error) => return Err(error),
+    };
+    let encryption_algorithm = view.algorithm.owned(alloc)?;
+    let encrypted_data = Octets::from_slice(alloc, view.content)?;
     *r = ahead;
     Ok(EncryptedPrivateKeyInfo {
         encryption_algorithm,
@@ -75,7 +96,9 @@ impl EncryptedPrivateKeyInfo {
         requires text { length self.now.encrypted_data < 2 ^ 32 }
         requires salt { length (salt_of self.now.encryption_algorithm) < 2 ^ 59 }
         requires password { length password.now < 2 ^ 59 }
-        ensures value { IfOk result (λ m. m ≡ unlock_pbe self.now.encryption_algorithm password.now self.now.encrypted_data) }
+        ensures value { IfOk result
+            (λ m. m ≡ unlock_pbe self.now.encryption_algorithm password.now
+            self.now.encrypted_data) }
         ensures err { IfErr result (λ e. e ≡ Error.Memory) }
     {
         let algorithm = &self.encryption_algorithm;

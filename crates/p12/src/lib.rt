@@ -3,9 +3,11 @@
 
 mod algorithm_identifier;
 mod attribute;
+mod bags_view;
 mod carry;
 mod cert_bag;
 mod content_info;
+mod contents_view;
 mod derivation;
 mod digest_info;
 mod encrypted_data;
@@ -17,22 +19,29 @@ mod mac_data;
 mod opening;
 mod password;
 mod pfx;
+mod place;
 mod safe_bag;
+mod sealing;
 pub mod uniqueness;
 
-pub use algorithm_identifier::{AlgorithmIdentifier, OtherAlgorithmIdentifier, Pkcs12PbeParams};
+pub use algorithm_identifier::{
+    AlgorithmIdentifier, AlgorithmView, OtherAlgorithmIdentifier, Pkcs12PbeParams,
+};
 pub use attribute::{OtherAttribute, PKCS12Attribute};
+pub use bags_view::BagsView;
 pub use cert_bag::CertBag;
-pub use content_info::{ContentInfo, OtherContext};
+pub use content_info::{ContentInfo, ContentView, OtherContext};
+pub use contents_view::ContentsView;
 pub use derivation::{pbepkcs12, pbepkcs12sha1};
 pub use digest_info::DigestInfo;
 pub use encrypted_data::{EncryptedContentInfo, EncryptedData};
 pub use encrypted_private_key_info::EncryptedPrivateKeyInfo;
 pub use error::Error;
-pub use mac_data::MacData;
+pub use mac_data::{MacData, MacView};
 pub use password::bmp_string;
-pub use pfx::PFX;
-pub use safe_bag::{OtherBag, SafeBag, SafeBagKind};
+pub use pfx::{PFX, StoreView};
+pub use place::Place;
+pub use safe_bag::{BagView, OtherBag, SafeBag, SafeBagKind};
 
 #[cfg(test)]
 mod tests;

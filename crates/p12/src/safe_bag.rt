@@ -1,17 +1,21 @@
 //! Bags.
-ghost use Rattle.std.specs.Prelude.{◌+◌, ◌≡◌, ◌<◌, ◌^◌, length, OnOk, IfOk, IfErr};
-ghost use Rattle.asn1_core.specs.Gives.{ReadsIn, GivesIn};
+ghost use Rattle.std.specs.Prelude.{◌+◌, ◌≡◌, ◌-◌, ◌<◌, ◌≤◌, ◌^◌, ℕ, length, OnOk, IfOk, IfErr};
+ghost use Rattle.asn1_core.specs.Gives.{Gives, GivesIn, ReadsAs, ReadsIn};
 ghost use Rattle.asn1_core.specs.Reading.{many, whole};
 ghost use Rattle.p12.specs.SafeBag.{BagText, KindText, kind_oid, KindFits, key_of, x509_of, sdsi_of, first_name, first_key_id, IsBags, NoBags};
 ghost use Rattle.p12.specs.Error.{MalformedOnly, Reads};
 ghost use Rattle.p12.specs.Reading.{cert_kind_all, shrouded_all, other_kind_all, kind_all, kind_at, bag_at, bags_at};
 ghost use Rattle.asn1_core.specs.Oid.{oid_octets};
+ghost use Rattle.p12.specs.BagView.{AreParts, BagEndsAt, BagLies, IsBagView, seen_bag, seen_parts};
+ghost use Rattle.asn1_core.specs.declared.error.Error.TheVariants as asn1;
 
-use crate::attribute::{PKCS12Attribute, attributes};
-use crate::cert_bag::{CertBag, certificate_in_front};
-use crate::encrypted_private_key_info::{EncryptedPrivateKeyInfo, encrypted_key_in_front};
+use crate::algorithm_identifier::AlgorithmView;
+use crate::attribute::{PKCS12Attribute, attribute_list, attributes_view};
+use crate::cert_bag::{CertBag, CertView, certificate_view};
+use crate::encrypted_private_key_info::{EncryptedPrivateKeyInfo, encrypted_key_view};
 use crate::error::Error;
 use crate::identifiers::{CERT_BAG, SHROUDED_KEY_BAG};
+use crate::place::Place;
 use asn1_core::{
     Items, ObjectIdentifier, Octets, Reader, SliceReader, Tag, Text, read_identifier, read_inner,
     read_raw,
@@ -46,52 +50,144 @@ pub struct SafeBag {
     pub attributes: Items<PKCS12Attribute>,
 }
 
-fn certificate_kind(
-    alloc: Global,
-    mut body: SliceReader<'_>,
-) -> Result<SafeBagKind, asn1_core::Error>
-    ensures { GivesIn (λ x. x) result (cert_kind_all body.entry.rest.now) }
-{
-    let certificate = certificate_in_front(alloc, &mut body)?;
-    body.finish()?;
-    Ok(SafeBagKind::CertBag(certificate))
+/// A bag, which it lends from the octets that were parsed; `at` says where the encrypted octets of a key stand in them. A contract
+/// sees the bag in memory of its own.
+#[derive(Clone, Copy, Debug, Drop)]
+pub enum BagView<'a> {
+    X509(&'a [u8]),
+    Sdsi(&'a [u8]),
+    Shrouded {
+        algorithm: AlgorithmView<'a>,
+        content: &'a [u8],
+        at: Place,
+    },
+    Other {
+        bag_id: ObjectIdentifier,
+        bag_value: &'a [u8],
+    },
 }
 
-fn shrouded_kind(alloc: Global, mut body: SliceReader<'_>) -> Result<SafeBagKind, asn1_core::Error>
-    ensures { GivesIn (λ x. x) result (shrouded_all body.entry.rest.now) }
-{
-    let key = encrypted_key_in_front(alloc, &mut body)?;
-    body.finish()?;
-    Ok(SafeBagKind::Pkcs8ShroudedKeyBag(key))
+/// A bag, and the octets in which its attributes stand.
+#[derive(Clone, Copy, Drop)]
+pub(crate) struct BagParts<'a> {
+    pub(crate) bag: BagView<'a>,
+    pub(crate) attributes: &'a [u8],
 }
 
-fn other_kind(
-    alloc: Global,
+fn certificate_kind<'a>(mut body: SliceReader<'a>) -> Result<BagView<'a>, asn1_core::Error>
+    ensures exact { Gives seen_bag result (cert_kind_all body.entry.rest.now) }
+    ensures lawful { IfOk result IsBagView }
+    ensures ends { IfOk result (λ v. (n : ℕ) → BagEndsAt n v) }
+{
+    let certificate = certificate_view(&mut body)?;
+    body.finish()?;
+    match certificate {
+        CertView::X509(octets) => Ok(BagView::X509(octets)),
+        CertView::Sdsi(text) => Ok(BagView::Sdsi(text)),
+    }
+}
+
+fn shrouded_kind<'a>(mut body: SliceReader<'a>, end: usize) -> Result<BagView<'a>, asn1_core::Error>
+    requires { length body.rest.now ≤ end }
+    ensures exact { Gives seen_bag result (shrouded_all body.entry.rest.now) }
+    ensures lawful { IfOk result IsBagView }
+    ensures ends { IfOk result (BagEndsAt end) }
+{
+    let key = match encrypted_key_view(&mut body) {
+        Ok(key) => key,
+        Err(error) => return Err(error),
+    };
+    body.finish()?;
+    let at = Place::ending_at(end, key.content);
+    Ok(BagView::Shrouded {
+        algorithm: key.algorithm,
+        content: key.content,
+        at,
+    })
+}
+
+fn other_kind<'a>(
     bag_id: ObjectIdentifier,
-    mut body: SliceReader<'_>,
-) -> Result<SafeBagKind, asn1_core::Error>
-    ensures { GivesIn (λ x. x) result (other_kind_all bag_id body.entry.rest.now) }
+    mut body: SliceReader<'a>,
+) -> Result<BagView<'a>, asn1_core::Error>
+    ensures exact { Gives seen_bag result (other_kind_all bag_id body.entry.rest.now) }
+    ensures lawful { IfOk result IsBagView }
+    ensures ends { IfOk result (λ v. (n : ℕ) → BagEndsAt n v) }
 {
-    let value = read_raw(&mut body)?;
+    let bag_value = read_raw(&mut body)?;
     body.finish()?;
-    let bag_value = Octets::from_slice(alloc, value)?;
-    Ok(SafeBagKind::OtherBagKind(OtherBag { bag_id, bag_value }))
+    Ok(BagView::Other { bag_id, bag_value })
 }
 
-/// The kind of a bag, whose value is all that is left.
-fn kind_of(
-    alloc: Global,
+fn kind_view<'a>(
     bag_id: ObjectIdentifier,
-    body: SliceReader<'_>,
-) -> Result<SafeBagKind, asn1_core::Error>
-    ensures { GivesIn (λ x. x) result (kind_all bag_id body.entry.rest.now) }
+    body: SliceReader<'a>,
+    end: usize,
+) -> Result<BagView<'a>, asn1_core::Error>
+    requires { length body.rest.now ≤ end }
+    ensures exact { Gives seen_bag result (kind_all bag_id body.entry.rest.now) }
+    ensures lawful { IfOk result IsBagView }
+    ensures ends { IfOk result (BagEndsAt end) }
 {
     if bag_id == CERT_BAG {
-        certificate_kind(alloc, body)
+        certificate_kind(body)
     } else if bag_id == SHROUDED_KEY_BAG {
-        shrouded_kind(alloc, body)
+        shrouded_kind(body, end)
     } else {
-        other_kind(alloc, bag_id, body)
+        other_kind(bag_id, body)
+    }
+}
+
+/// The bag that stands next in what is left of `total` octets, in which its place is counted.
+#[tactic(auto, unfolding(crate::specs::Reading::bag_at))]
+pub(crate) fn bag_view<'a>(
+    r: &mut SliceReader<'a>,
+    total: usize,
+) -> Result<BagParts<'a>, asn1_core::Error>
+    requires { length r.old.rest.now ≤ total }
+    ensures exact { ReadsAs bag_at seen_parts r.old.rest.now r.new.rest.now result }
+    ensures lawful { IfOk result AreParts }
+    ensures place { r.new.read + length r.new.rest.now ≡ r.old.read + length r.old.rest.now }
+    ensures shorter { OnOk result (length r.new.rest.now < length r.old.rest.now) }
+    ensures lies { IfOk result (λ p. BagLies total r.old.rest.now r.new.rest.now p.bag) }
+{
+    let mut ahead = *r;
+    let mut body = read_inner(&mut ahead, Tag::SEQUENCE)?;
+    let bag_id = read_identifier(&mut body)?;
+    let value = read_inner(&mut body, Tag::CONTEXT_0)?;
+    let end = total - ahead.rest.len() - body.rest.len();
+    let bag = match kind_view(bag_id, value, end) {
+        Ok(bag) => bag,
+        Err(error) => return Err(error),
+    };
+    let attributes = attributes_view(body)?;
+    *r = ahead;
+    Ok(BagParts { bag, attributes })
+}
+
+impl<'a> BagView<'a> {
+    /// The same in memory of its own. The only refusal is `Memory`.
+    fn owned(&self, alloc: Global) -> Result<SafeBagKind, asn1_core::Error>
+        requires { IsBagView self.now }
+        ensures ok { IfOk result (λ b. b ≡ seen_bag self.now) }
+        ensures err { IfErr result (λ e. e ≡ asn1.Memory) }
+    {
+        Ok(match self {
+            BagView::X509(octets) => SafeBagKind::CertBag(CertView::X509(octets).owned(alloc)?),
+            BagView::Sdsi(text) => SafeBagKind::CertBag(CertView::Sdsi(text).owned(alloc)?),
+            BagView::Shrouded {
+                algorithm,
+                content,
+                ..
+            } => SafeBagKind::Pkcs8ShroudedKeyBag(EncryptedPrivateKeyInfo {
+                encryption_algorithm: algorithm.owned(alloc)?,
+                encrypted_data: Octets::from_slice(alloc, content)?,
+            }),
+            BagView::Other { bag_id, bag_value } => SafeBagKind::OtherBagKind(OtherBag {
+                bag_id: *bag_id,
+                bag_value: Octets::from_slice(alloc, bag_value)?,
+            }),
+        })
     }
 }
 
@@ -106,26 +202,28 @@ fn kind_in_front(
 {
     let mut ahead = *r;
     let element = read_raw(&mut ahead)?;
-    let bag = kind_of(alloc, bag_id, SliceReader::new(element))?;
+    let view = match kind_view(bag_id, SliceReader::new(element), element.len()) {
+        Ok(view) => view,
+        Err(error) => return Err(error),
+    };
+    let bag = view.owned(alloc)?;
     *r = ahead;
     Ok(bag)
 }
 
-#[tactic(auto, unfolding(crate::specs::Reading::bag_at))]
-pub(crate) fn bag_in_front(
-    alloc: Global,
-    r: &mut SliceReader<'_>,
-) -> Result<SafeBag, asn1_core::Error>
+#[tactic(auto, using(crate::proofs::Refusals::only_memory))]
+fn bag_in_front(alloc: Global, r: &mut SliceReader<'_>) -> Result<SafeBag, asn1_core::Error>
     ensures exact { ReadsIn bag_at (λ x. x) r.old.rest.now r.new.rest.now result }
     ensures place { r.new.read + length r.new.rest.now ≡ r.old.read + length r.old.rest.now }
     ensures shorter { OnOk result (length r.new.rest.now < length r.old.rest.now) }
 {
     let mut ahead = *r;
-    let mut body = read_inner(&mut ahead, Tag::SEQUENCE)?;
-    let bag_id = read_identifier(&mut body)?;
-    let value = read_inner(&mut body, Tag::CONTEXT_0)?;
-    let bag = kind_of(alloc, bag_id, value)?;
-    let attributes = attributes(alloc, body)?;
+    let view = match bag_view(&mut ahead, r.rest.len()) {
+        Ok(view) => view,
+        Err(error) => return Err(error),
+    };
+    let bag = view.bag.owned(alloc)?;
+    let attributes = attribute_list(alloc, SliceReader::new(view.attributes))?;
     *r = ahead;
     Ok(SafeBag { bag, attributes })
 }

@@ -1,158 +1,175 @@
 //! Stores, their parts and their derivation, with octets that other programs made: the derivation and the MACs by Python's `hashlib`
-//! and `hmac`, Triple DES by OpenSSL.
+//! and `hmac`, Triple DES, PBES2 and keys by OpenSSL.
+
 use crate::{
-    AlgorithmIdentifier, CertBag, ContentInfo, Error, MacData, PFX, PKCS12Attribute, SafeBag,
-    SafeBagKind, bmp_string, pbepkcs12, pbepkcs12sha1,
+    AlgorithmIdentifier, BagView, BagsView, CertBag, ContentInfo, ContentView, ContentsView,
+    EncryptedData, EncryptedPrivateKeyInfo, Error, MacData, PFX, PKCS12Attribute, Pkcs12PbeParams,
+    SafeBag, SafeBagKind, StoreView, bmp_string, pbepkcs12, pbepkcs12sha1,
 };
-use asn1_core::{ObjectIdentifier, Octets, Reader, SliceReader};
+use asn1_core::{ObjectIdentifier, Reader, SliceReader};
 use mac_modes::Sha256;
 use std::alloc::Global;
-use std::process::Abort;
+use std::test::Fail;
 
 /// A store of one X.509 certificate `3000` in a plain content, under the password `p`, one round and the salt 01 to 08.
-const STORE: &str =
-    "308180020103304906092a864886f70d010701a03c043a3038303606092a864886f70d010701a029042730253023060b2a864886f70d010c0a0103a0143012060a2a864886f70d01091601a0040402300030303021300906052b0e03021a050004147da6cea4c0b8de69aea926d01f9ee8c88cc45d2b04080102030405060708020101";
+const STORE: &[u8] =
+    b"\x30\x81\x80\x02\x01\x03\x30\x49\x06\x09\x2a\x86\x48\x86\xf7\x0d\x01\x07\x01\xa0\
+    \x3c\x04\x3a\x30\x38\x30\x36\x06\x09\x2a\x86\x48\x86\xf7\x0d\x01\x07\x01\xa0\x29\
+    \x04\x27\x30\x25\x30\x23\x06\x0b\x2a\x86\x48\x86\xf7\x0d\x01\x0c\x0a\x01\x03\xa0\
+    \x14\x30\x12\x06\x0a\x2a\x86\x48\x86\xf7\x0d\x01\x09\x16\x01\xa0\x04\x04\x02\x30\
+    \x00\x30\x30\x30\x21\x30\x09\x06\x05\x2b\x0e\x03\x02\x1a\x05\x00\x04\x14\x7d\xa6\
+    \xce\xa4\xc0\xb8\xde\x69\xae\xa9\x26\xd0\x1f\x9e\xe8\xc8\x8c\xc4\x5d\x2b\x04\x08\
+    \x01\x02\x03\x04\x05\x06\x07\x08\x02\x01\x01";
 
 /// The same bag in a content under Triple DES with two rounds and the salt 08 to 01.
-const SEALED_STORE: &str =
-    "3081b0020103307906092a864886f70d010701a06c046a3068306606092a864886f70d010706a0593057020100305206092a864886f70d010701301b060a2a864886f70d010c0103300d0408080706050403020102010280287873788e8e3e60877e5037817e5579ae4a00be95da2efe4da705e184f285071b846962c79482f0c630303021300906052b0e03021a050004145f7379ade122642977f123ae10f9f15cdeb0bcc304080102030405060708020101";
+const SEALED_STORE: &[u8] =
+    b"\x30\x81\xb0\x02\x01\x03\x30\x79\x06\x09\x2a\x86\x48\x86\xf7\x0d\x01\x07\x01\xa0\
+    \x6c\x04\x6a\x30\x68\x30\x66\x06\x09\x2a\x86\x48\x86\xf7\x0d\x01\x07\x06\xa0\x59\
+    \x30\x57\x02\x01\x00\x30\x52\x06\x09\x2a\x86\x48\x86\xf7\x0d\x01\x07\x01\x30\x1b\
+    \x06\x0a\x2a\x86\x48\x86\xf7\x0d\x01\x0c\x01\x03\x30\x0d\x04\x08\x08\x07\x06\x05\
+    \x04\x03\x02\x01\x02\x01\x02\x80\x28\x78\x73\x78\x8e\x8e\x3e\x60\x87\x7e\x50\x37\
+    \x81\x7e\x55\x79\xae\x4a\x00\xbe\x95\xda\x2e\xfe\x4d\xa7\x05\xe1\x84\xf2\x85\x07\
+    \x1b\x84\x69\x62\xc7\x94\x82\xf0\xc6\x30\x30\x30\x21\x30\x09\x06\x05\x2b\x0e\x03\
+    \x02\x1a\x05\x00\x04\x14\x5f\x73\x79\xad\xe1\x22\x64\x29\x77\xf1\x23\xae\x10\xf9\
+    \xf1\x5c\xde\xb0\xbc\xc3\x04\x08\x01\x02\x03\x04\x05\x06\x07\x08\x02\x01\x01";
 
 /// The bag of both stores, in its list.
-const BAGS: &str = "30253023060b2a864886f70d010c0a0103a0143012060a2a864886f70d01091601a00404023000";
+const BAGS: &[u8] =
+    b"\x30\x25\x30\x23\x06\x0b\x2a\x86\x48\x86\xf7\x0d\x01\x0c\x0a\x01\x03\xa0\x14\x30\
+    \x12\x06\x0a\x2a\x86\x48\x86\xf7\x0d\x01\x09\x16\x01\xa0\x04\x04\x02\x30\x00";
 
-fn octets(rt: &impl Abort, alloc: Global, digits: &str) -> Vec<u8> {
-    hex::decode(alloc, digits.as_bytes()).expect(rt, "hexadecimal digits")
-}
+/// A private key of OpenSSL.
+const KEY: &[u8] =
+    b"\x30\x2e\x02\x01\x00\x30\x05\x06\x03\x2b\x65\x70\x04\x22\x04\x20\x34\x50\x10\x42\
+    \x3a\x87\xc0\x11\xc2\x56\x1f\x62\x3f\x4e\x81\x32\x59\x0a\xc5\x4b\x0c\x4b\xe3\x28\
+    \x4d\xb6\xfc\xb9\xc5\x34\xff\x85";
 
-fn is(found: &Octets, rt: &impl Abort, alloc: Global, digits: &str) -> bool {
-    found.as_slice() == octets(rt, alloc, digits).as_slice()
+/// Its EncryptedPrivateKeyInfo under the password `p` (`openssl pkcs8 -topk8 -v1 PBE-SHA1-3DES -iter 1`).
+const ENCRYPTED_KEY: &[u8] =
+    b"\x30\x57\x30\x1b\x06\x0a\x2a\x86\x48\x86\xf7\x0d\x01\x0c\x01\x03\x30\x0d\x04\x08\
+    \x26\xe0\x1c\xe8\xa9\xfe\x34\x83\x02\x01\x01\x04\x38\xb6\x30\x4f\x1c\xdd\xfc\xda\
+    \xc1\x69\x8f\xd1\xe0\xf2\x44\x4f\xf5\xbc\x3b\x33\xdb\x65\x25\xc7\xeb\x41\x13\x12\
+    \x44\xe0\xb9\xb3\xdf\x54\xb3\xdc\x4b\x06\x03\x4c\x59\x7d\x22\x83\x73\x55\x70\xaf\
+    \x9d\x5c\xe5\xc2\xe1\x8a\xdf\x3c\xb8";
+
+/// The same under the password `p\u{e4}` by PBES2 (`-v2 aes-256-cbc -iter 3`).
+const PBES2_KEY: &[u8] =
+    b"\x30\x81\x9a\x30\x56\x06\x09\x2a\x86\x48\x86\xf7\x0d\x01\x05\x0d\x30\x49\x30\x28\
+    \x06\x09\x2a\x86\x48\x86\xf7\x0d\x01\x05\x0c\x30\x1b\x04\x08\x55\x1c\xf0\xc1\x3e\
+    \xd5\x42\x71\x02\x01\x03\x30\x0c\x06\x08\x2a\x86\x48\x86\xf7\x0d\x02\x09\x05\x00\
+    \x30\x1d\x06\x09\x60\x86\x48\x01\x65\x03\x04\x01\x2a\x04\x10\x89\x22\x07\x2b\xae\
+    \x5b\xb5\xa5\x30\x65\xc1\xb3\x8e\xae\x3f\x82\x04\x40\x04\x3f\xc3\x66\xdc\x94\x86\
+    \x46\x9b\x27\x0f\x3c\x63\x27\xc2\x33\x23\xa4\xd6\xd4\x57\xa7\xb2\x33\x24\x17\x40\
+    \x6b\x9d\x3d\xff\x6a\x2a\x6a\xc2\xcd\x75\x66\x85\x65\x78\x2d\xa4\x2c\x29\xd8\xdc\
+    \x94\x36\x71\xa3\x0b\x3d\x08\x88\xeb\xc9\xfa\x28\xe7\x39\x88\xbf\x79";
+
+/// The password `p` in UTF-16 (RFC 7292 appendix B.1).
+const PASSWORD: [u8; 4] = [0, 0x70, 0, 0];
+
+const SALT: [u8; 8] = [1, 2, 3, 4, 5, 6, 7, 8];
+
+#[test]
+fn a_password_is_utf16_and_two_zeros(rt: HostRuntime) -> Result<(), Fail> {
+    let password = bmp_string(rt.alloc(), "\u{1d11e}b")?;
+    assert!(rt; password.as_slice() == b"\xd8\x34\xdd\x1e\x00\x62\x00\x00".as_slice());
+    Ok(())
 }
 
 #[test]
-fn a_password_is_utf16_and_two_zeros(rt: HostRuntime) {
-    let alloc = rt.alloc();
-    let beavis = bmp_string(alloc, "Beavis").expect(&rt, "memory");
-    assert!(rt; is(&beavis, &rt, alloc, "0042006500610076006900730000"));
-    let empty = bmp_string(alloc, "").expect(&rt, "memory");
-    assert!(rt; is(&empty, &rt, alloc, "0000"));
-    let clef = bmp_string(alloc, "\u{1d11e}").expect(&rt, "memory");
-    assert!(rt; is(&clef, &rt, alloc, "d834dd1e0000"));
-}
-
-#[test]
-fn keys_and_initial_values_are_derived(rt: HostRuntime) {
-    let alloc = rt.alloc();
-    let salt = [0x9a, 0xf4, 0x70, 0x29, 0x58, 0xa8, 0xe9, 0x5c];
-    let key = pbepkcs12sha1(alloc, &[0, 0], &salt, 2048, 1, 24).expect(&rt, "memory");
+fn keys_are_derived(rt: HostRuntime) -> Result<(), Fail> {
+    let key = pbepkcs12sha1(
+        rt.alloc(),
+        &[0, 0],
+        b"\x9a\xf4\x70\x29\x58\xa8\xe9\x5c",
+        3,
+        1,
+        25,
+    )?;
     assert!(rt;
-        is(
-            &key,
-            &rt,
-            alloc,
-            "c2294aa6d02930eb5ce9c329eccb9aee1cb136baea746557"
-        )
+        key.as_slice()
+            == b"\xd7\xfd\x31\x6b\x90\x8c\xe1\xea\x92\x22\x1a\x54\x10\x37\x41\xe0\xd8\xaa\x82\xc6\
+    \x75\x50\xc5\xba\x3b"
+                .as_slice()
     );
-    let iv = pbepkcs12sha1(alloc, &[0, 0], &salt, 2048, 2, 8).expect(&rt, "memory");
-    assert!(rt; is(&iv, &rt, alloc, "8e9f8fc7664378bc"));
-    let none = pbepkcs12sha1(alloc, &[0, 0], &salt, 1, 3, 0).expect(&rt, "memory");
-    assert!(rt; none.is_empty());
+    let key = pbepkcs12::<Sha256>(rt.alloc(), &PASSWORD, &SALT, 3, 3, 32)?;
+    assert!(rt;
+        key.as_slice()
+            == b"\xd0\x4c\x49\x26\x50\xaa\x7f\x7b\xae\xf9\xa5\xd0\x4b\xa4\x61\x32\x71\x47\x09\x38\
+    \x27\xb5\xf7\xc9\x2f\x70\xf7\xae\x62\x99\xe8\xf4"
+                .as_slice()
+    );
+    Ok(())
 }
 
 #[test]
-fn a_plain_store_is_read(rt: HostRuntime) {
+fn macs_are_made_and_agree(rt: HostRuntime) -> Result<(), Fail> {
     let alloc = rt.alloc();
-    let store = PFX::parse(alloc, &octets(&rt, alloc, STORE)).expect(&rt, "a store");
-    assert!(rt; store.version == 3);
+    let mac = MacData::with_salt(alloc, &[0x30, 0], &[0, 0], &SALT, 1)?.try_clone(alloc)?;
+    assert!(rt;
+        mac.mac.digest.as_slice()
+            == b"\xa4\xa4\xaf\x5b\xf3\x0c\x0e\xd0\xd0\x79\xc4\xd2\xa5\x7f\xdc\xd2\x30\x14\x9e\xc9".as_slice()
+    );
+    assert!(rt; mac.salt.len() == 8);
+    assert!(rt; mac.verify_mac(alloc, &[0x30, 0], &[0, 0])?);
+    assert!(rt; !mac.verify_mac(alloc, &[0x30, 0], &PASSWORD)?);
+    let mac = MacData::with_salt_sha256(alloc, b"abc", &PASSWORD, &SALT, 3)?;
+    assert!(rt;
+        mac.mac.digest.as_slice()
+            == b"\x18\xa7\x25\xd3\x47\x07\xec\x5b\x4e\xd6\xca\xd4\xd8\xdd\xc6\x01\x55\xb0\x1f\x58\
+    \x71\xf8\x5a\xf4\xc1\x6a\x68\x3d\x09\xdc\x58\x0b"
+                .as_slice()
+    );
+    assert!(rt; mac.salt.len() == 8);
+    assert!(rt; mac.verify_mac(alloc, b"abc", &PASSWORD)?);
+    Ok(())
+}
+
+#[test]
+fn a_plain_store_is_read(rt: HostRuntime) -> Result<(), Fail> {
+    let alloc = rt.alloc();
+    let store = PFX::parse(alloc, STORE)?.try_clone(alloc)?;
+    assert!(rt; store.version == 3 && store.mac_data.is_some());
     let ContentInfo::Data(contents) = &store.auth_safe else {
         panic!(rt; "another variant");
     };
-    let Some(mac) = &store.mac_data else {
-        panic!(rt; "no MAC");
-    };
-    assert!(rt; mac.iterations == 1);
-    let password = bmp_string(alloc, "p").expect(&rt, "memory");
-    let other = bmp_string(alloc, "x").expect(&rt, "memory");
-    assert!(rt; contents.len() < 100 && mac.salt.len() == 8);
-    assert!(rt; password.len() == 4 && other.len() == 4);
-    let (content, right, wrong) = (contents.as_slice(), password.as_slice(), other.as_slice());
-    assert!(rt; mac.verify_mac(alloc, content, right) == Ok(true));
-    assert!(rt; mac.verify_mac(alloc, content, wrong) == Ok(false));
-    let list = ContentInfo::parse_all(alloc, content).expect(&rt, "contents");
-    assert!(rt; list.len() == 1);
+    let list = ContentInfo::parse_all(alloc, contents.as_slice())?;
     let ContentInfo::Data(inner) = list.get(0).expect(&rt, "a content") else {
         panic!(rt; "another variant");
     };
-    assert!(rt; is(inner, &rt, alloc, BAGS));
-    let bags = SafeBag::parse_all(alloc, inner.as_slice()).expect(&rt, "bags");
-    let bag = bags.get(0).expect(&rt, "a bag");
-    let certificate = bag.bag.get_x509_cert(alloc).expect(&rt, "memory");
-    assert!(rt;
-        is(
-            &certificate.expect(&rt, "a certificate"),
-            &rt,
-            alloc,
-            "3000"
-        )
-    );
+    assert!(rt; inner.as_slice() == BAGS);
+    let bags = SafeBag::parse_all(alloc, BAGS)?;
+    let certificate = bags.get(0).expect(&rt, "a bag").bag.get_x509_cert(alloc)?;
+    assert!(rt; certificate.expect(&rt, "a certificate").as_slice() == b"\x30\x00".as_slice());
+    Ok(())
 }
 
 #[test]
-fn a_sealed_content_opens(rt: HostRuntime) {
+fn a_sealed_content_opens(rt: HostRuntime) -> Result<(), Fail> {
     let alloc = rt.alloc();
-    let store = PFX::parse(alloc, &octets(&rt, alloc, SEALED_STORE)).expect(&rt, "a store");
-    let ContentInfo::Data(outer) = &store.auth_safe else {
-        panic!(rt; "another variant");
-    };
-    let list = ContentInfo::parse_all(alloc, outer.as_slice()).expect(&rt, "contents");
-    let password = bmp_string(alloc, "p").expect(&rt, "memory");
-    let copy = list
-        .get(0)
-        .expect(&rt, "a content")
-        .try_clone(alloc)
-        .expect(&rt, "memory");
-    let ContentInfo::EncryptedData(encrypted) = &copy else {
+    let contents = SEALED_STORE.get(25..).expect(&rt, "contents");
+    let content = ContentInfo::parse(alloc, &mut SliceReader::new(contents))?.try_clone(alloc)?;
+    let ContentInfo::EncryptedData(encrypted) = &content else {
         panic!(rt; "another variant");
     };
     let info = &encrypted.encrypted_content_info;
+    assert!(rt; info.encrypted_content.len() == 40);
     let AlgorithmIdentifier::PbeWithSHAAnd3KeyTripleDESCBC(params) =
         &info.content_encryption_algorithm
     else {
         panic!(rt; "another variant");
     };
-    assert!(rt; params.salt.len() == 8 && password.len() == 4);
-    assert!(rt; info.encrypted_content.len() == 40);
-    let bags = copy.data(alloc, password.as_slice()).expect(&rt, "memory");
-    assert!(rt; is(&bags.expect(&rt, "bags"), &rt, alloc, BAGS));
-    let algorithm = &info.content_encryption_algorithm;
-    let empty = algorithm
-        .decrypt_pbe(alloc, &[], password.as_slice())
-        .expect(&rt, "memory");
-    assert!(rt; empty.is_none());
-    let odd = algorithm
-        .decrypt_pbe(alloc, &[0; 7], password.as_slice())
-        .expect(&rt, "memory");
-    assert!(rt; odd.is_none());
-    let unpadded = algorithm
-        .decrypt_pbe(alloc, &[0; 8], password.as_slice())
-        .expect(&rt, "memory");
-    assert!(rt; unpadded.is_none());
+    assert!(rt; params.salt.len() == 8);
+    let bags = content.data(alloc, &PASSWORD)?;
+    assert!(rt; bags.expect(&rt, "bags").as_slice() == BAGS);
+    assert!(rt; content.data(alloc, &[0, 0])?.is_none());
+    Ok(())
 }
 
-/// A private key of OpenSSL, and its EncryptedPrivateKeyInfo under the password `p` (`openssl pkcs8 -topk8 -v1 PBE-SHA1-3DES -iter 1`).
-const KEY: &str =
-    "302e020100300506032b657004220420345010423a87c011c2561f623f4e8132590ac54b0c4be3284db6fcb9c534ff85";
-
-const ENCRYPTED_KEY: &str =
-    "3057301b060a2a864886f70d010c0103300d040826e01ce8a9fe34830201010438b6304f1cddfcdac1698fd1e0f2444ff5bc3b33db6525c7eb41131244e0b9b3df54b3dc4b06034c597d2283735570af9d5ce5c2e18adf3cb8";
-
 #[test]
-fn an_encrypted_key_opens(rt: HostRuntime) {
+fn an_encrypted_key_opens(rt: HostRuntime) -> Result<(), Fail> {
     let alloc = rt.alloc();
-    let identifier = octets(&rt, alloc, "2a864886f70d010c0a0102");
-    let identifier = ObjectIdentifier::from_bytes(&identifier).expect(&rt, "an identifier");
-    let text = octets(&rt, alloc, ENCRYPTED_KEY);
-    let mut r = SliceReader::new(&text);
-    let bag = SafeBagKind::parse(alloc, &mut r, identifier).expect(&rt, "a bag");
+    let identifier = ObjectIdentifier::from_bytes(b"\x2a\x86\x48\x86\xf7\x0d\x01\x0c\x0a\x01\x02")?;
+    let bag = SafeBagKind::parse(alloc, &mut SliceReader::new(ENCRYPTED_KEY), identifier)?;
     let SafeBagKind::Pkcs8ShroudedKeyBag(key) = &bag else {
         panic!(rt; "another variant");
     };
@@ -160,262 +177,226 @@ fn an_encrypted_key_opens(rt: HostRuntime) {
     else {
         panic!(rt; "another variant");
     };
-    assert!(rt; params.salt.len() == 8 && key.encrypted_data.len() == 56);
-    let password = bmp_string(alloc, "p").expect(&rt, "memory");
-    assert!(rt; password.len() == 4);
-    let plain = bag
-        .get_key(alloc, password.as_slice())
-        .expect(&rt, "memory");
-    assert!(rt; is(&plain.expect(&rt, "a key"), &rt, alloc, KEY));
-    let other = key.decrypt(alloc, &[0, 0]).expect(&rt, "memory");
-    assert!(rt; other.is_none());
+    assert!(rt; params.salt.len() == 8 && params.iterations == 1);
+    assert!(rt; key.encrypted_data.len() == 56);
+    let plain = bag.get_key(alloc, &PASSWORD)?;
+    assert!(rt; plain.expect(&rt, "a key").as_slice() == KEY);
+    assert!(rt; key.decrypt(alloc, &[0, 0])?.is_none());
+    let sealed = key.encryption_algorithm.encrypt_pbe(alloc, KEY, &PASSWORD)?;
+    assert!(rt; sealed == key.encrypted_data);
+    Ok(())
 }
 
 #[test]
-fn a_mac_is_made_with_a_salt(rt: HostRuntime) {
+fn a_key_is_sealed_under_pbes2(rt: HostRuntime) -> Result<(), Fail> {
     let alloc = rt.alloc();
-    let salt = [1, 2, 3, 4, 5, 6, 7, 8];
-    let mac = MacData::with_salt(alloc, &[0x30, 0], &[0, 0], &salt, 1).expect(&rt, "memory");
-    assert!(rt;
-        is(
-            &mac.mac.digest,
-            &rt,
-            alloc,
-            "a4a4af5bf30c0ed0d079c4d2a57fdcd230149ec9"
-        )
-    );
-    let copy = mac.try_clone(alloc).expect(&rt, "memory");
-    assert!(rt; copy.salt.as_slice() == &salt[..]);
-    assert!(rt; copy.salt.len() == 8);
-    assert!(rt; copy.verify_mac(alloc, &[0x30, 0], &[0, 0]) == Ok(true));
-}
-
-fn algorithm(alloc: Global, text: &[u8]) -> Result<AlgorithmIdentifier, Error> {
-    let mut r = SliceReader::new(text);
-    AlgorithmIdentifier::parse(alloc, &mut r)
-}
-
-#[test]
-fn algorithms_are_read(rt: HostRuntime) {
-    let alloc = rt.alloc();
-    let rc2 = octets(
-        &rt,
-        alloc,
-        "301c060a2a864886f70d010c0106300e0408000102030405060702020800",
-    );
-    let read = algorithm(alloc, &rc2).expect(&rt, "an algorithm");
-    let AlgorithmIdentifier::PbewithSHAAnd40BitRC2CBC(params) = &read else {
+    let key = EncryptedPrivateKeyInfo::parse(alloc, &mut SliceReader::new(PBES2_KEY))?;
+    let algorithm = &key.encryption_algorithm;
+    let AlgorithmIdentifier::Pbes2(parameters) = algorithm else {
         panic!(rt; "another variant");
     };
-    assert!(rt; params.iterations == 2048);
-    assert!(rt; is(&params.salt, &rt, alloc, "0001020304050607"));
-    assert!(rt; params.salt.len() == 8);
-    assert!(rt; read.decrypt_pbe(alloc, &[0; 8], &[0, 0]) == Ok(None));
-    assert!(rt; read.try_clone(alloc) == Ok(read));
-    for sha1 in ["300706052b0e03021a", "300906052b0e03021a0500"] {
-        assert!(rt; algorithm(alloc, &octets(&rt, alloc, sha1)) == Ok(AlgorithmIdentifier::Sha1));
+    let pkcs5::pbes2::EncryptionScheme::Aes256Cbc { .. } = parameters.encryption else {
+        panic!(rt; "another cipher");
+    };
+    assert!(rt; algorithm.is_openable() && algorithm.count() == 3 && algorithm.cost() == 3);
+    let sealed = algorithm.encrypt_text(alloc, KEY, "p\u{e4}")?;
+    assert!(rt; sealed == key.encrypted_data);
+    Ok(())
+}
+
+/// An algorithm under RC2 with 40 bits, and its parameters.
+const RC2: &[u8] =
+    b"\x30\x1c\x06\x0a\x2a\x86\x48\x86\xf7\x0d\x01\x0c\x01\x06\x30\x0e\x04\x08\x00\x01\
+    \x02\x03\x04\x05\x06\x07\x02\x02\x08\x00";
+
+#[test]
+fn algorithms_are_read(rt: HostRuntime) -> Result<(), Fail> {
+    let alloc = rt.alloc();
+    let rc2 = AlgorithmIdentifier::parse(alloc, &mut SliceReader::new(RC2))?.try_clone(alloc)?;
+    let AlgorithmIdentifier::PbewithSHAAnd40BitRC2CBC(params) = &rc2 else {
+        panic!(rt; "another variant");
+    };
+    assert!(rt; params.salt.len() == 8 && params.iterations == 2048);
+    assert!(rt; rc2.decrypt_pbe(alloc, &[0; 8], &[0, 0])?.is_none());
+    let mut r = SliceReader::new(&RC2[14..]);
+    assert!(rt; &Pkcs12PbeParams::parse(alloc, &mut r)?.try_clone(alloc)? == params);
+    Ok(())
+}
+
+#[test]
+fn digests_are_read(rt: HostRuntime) -> Result<(), Fail> {
+    let alloc = rt.alloc();
+    for sha1 in [
+        b"\x30\x07\x06\x05\x2b\x0e\x03\x02\x1a".as_slice(),
+        b"\x30\x09\x06\x05\x2b\x0e\x03\x02\x1a\x05\x00".as_slice(),
+    ] {
+        let read = AlgorithmIdentifier::parse(alloc, &mut SliceReader::new(sha1))?;
+        assert!(rt; matches!(read, AlgorithmIdentifier::Sha1));
     }
     // a NULL more, an OCTET STRING for the NULL, a length in too many octets
     for bad in [
-        "300b06052b0e03021a05000500",
-        "300906052b0e03021a0400",
-        "30810706052b0e03021a",
+        b"\x30\x0b\x06\x05\x2b\x0e\x03\x02\x1a\x05\x00\x05\x00".as_slice(),
+        b"\x30\x09\x06\x05\x2b\x0e\x03\x02\x1a\x04\x00".as_slice(),
+        b"\x30\x81\x07\x06\x05\x2b\x0e\x03\x02\x1a".as_slice(),
     ] {
-        assert!(rt; algorithm(alloc, &octets(&rt, alloc, bad)).is_err());
+        assert!(rt; AlgorithmIdentifier::parse(alloc, &mut SliceReader::new(bad)).is_err());
     }
+    let other = AlgorithmIdentifier::parse(
+        alloc,
+        &mut SliceReader::new(b"\x30\x05\x06\x01\x2a\x05\x00"),
+    )?;
+    assert!(rt; matches!(other.try_clone(alloc)?, AlgorithmIdentifier::OtherAlg(_)));
+    Ok(())
 }
 
-fn name(rt: &impl Abort, alloc: Global, digits: &str) -> Result<PKCS12Attribute, Error> {
-    let text = octets(rt, alloc, digits);
-    let mut r = SliceReader::new(&text);
-    PKCS12Attribute::parse(alloc, &mut r)
+fn attribute(alloc: Global, text: &[u8]) -> Result<PKCS12Attribute, Error> {
+    PKCS12Attribute::parse(alloc, &mut SliceReader::new(text))?.try_clone(alloc)
 }
 
 #[test]
-fn the_last_name_of_a_set_counts(rt: HostRuntime) {
+fn the_last_name_of_a_set_counts(rt: HostRuntime) -> Result<(), Fail> {
     let alloc = rt.alloc();
-    let two = name(&rt, alloc, "301506092a864886f70d01091431081e0200611e020062").expect(
-        &rt,
-        "an attribute",
-    );
+    let two = attribute(
+        alloc,
+        b"\x30\x15\x06\x09\x2a\x86\x48\x86\xf7\x0d\x01\x09\x14\x31\x08\x1e\x02\x00\x61\x1e\
+    \x02\x00\x62",
+    )?;
     let PKCS12Attribute::FriendlyName(text) = &two else {
         panic!(rt; "another variant");
     };
     assert!(rt; text.as_str() == "b");
     // an empty set, an odd number of octets, a lone surrogate
     for bad in [
-        "300d06092a864886f70d0109143100",
-        "301206092a864886f70d01091431051e03006100",
-        "301106092a864886f70d01091431041e02d834",
+        b"\x30\x0d\x06\x09\x2a\x86\x48\x86\xf7\x0d\x01\x09\x14\x31\x00".as_slice(),
+        b"\x30\x12\x06\x09\x2a\x86\x48\x86\xf7\x0d\x01\x09\x14\x31\x05\x1e\x03\x00\x61\x00".as_slice(),
+        b"\x30\x11\x06\x09\x2a\x86\x48\x86\xf7\x0d\x01\x09\x14\x31\x04\x1e\x02\xd8\x34".as_slice(),
     ] {
-        assert!(rt; name(&rt, alloc, bad).is_err());
+        assert!(rt; attribute(alloc, bad).is_err());
     }
-    let key_id = name(&rt, alloc, "301206092a864886f70d010915310504030a0b0c").expect(
-        &rt,
-        "an attribute",
-    );
+    Ok(())
+}
+
+#[test]
+fn a_key_id_and_other_attributes_are_read(rt: HostRuntime) -> Result<(), Fail> {
+    let alloc = rt.alloc();
+    let key_id = attribute(
+        alloc,
+        b"\x30\x12\x06\x09\x2a\x86\x48\x86\xf7\x0d\x01\x09\x15\x31\x05\x04\x03\x0a\x0b\x0c",
+    )?;
     let PKCS12Attribute::LocalKeyId(octets) = &key_id else {
         panic!(rt; "another variant");
     };
     assert!(rt; octets.as_slice() == &[10, 11, 12][..]);
-}
-
-#[test]
-fn bags_are_read_with_their_attributes(rt: HostRuntime) {
-    let alloc = rt.alloc();
-    // an empty set of attributes
-    let text = octets(
-        &rt,
-        alloc,
-        "3025060b2a864886f70d010c0a0103a0143012060a2a864886f70d01091601a004040230003100",
-    );
-    let mut r = SliceReader::new(&text);
-    let bag = SafeBag::parse(alloc, &mut r).expect(&rt, "a bag");
-    assert!(rt; r.is_finished());
-    assert!(rt; bag.attributes.is_empty());
-    assert!(rt; bag.friendly_name(alloc).expect(&rt, "memory").is_none());
-    // a name and a key id
-    let text = octets(
-        &rt,
-        alloc,
-        "304a060b2a864886f70d010c0a0103a0143012060a2a864886f70d01091601a004040230003125301106092a864886f70d01091431041e020062301006092a864886f70d0109153103040107",
-    );
-    let mut r = SliceReader::new(&text);
-    let bag = SafeBag::parse(alloc, &mut r).expect(&rt, "a bag");
-    let copy = bag.try_clone(alloc).expect(&rt, "memory");
-    let name = copy
-        .friendly_name(alloc)
-        .expect(&rt, "memory")
-        .expect(&rt, "a name");
-    assert!(rt; name.as_str() == "b");
-    let key_id = copy
-        .local_key_id(alloc)
-        .expect(&rt, "memory")
-        .expect(&rt, "a key id");
-    assert!(rt; key_id.as_slice() == &[7][..]);
-    assert!(rt;
-        copy.bag
-            .get_sdsi_cert(alloc)
-            .expect(&rt, "memory")
-            .is_none()
-    );
-    assert!(rt;
-        copy.bag.oid().as_bytes() == octets(&rt, alloc, "2a864886f70d010c0a0103").as_slice()
-    );
-}
-
-#[test]
-fn certificates_have_two_kinds(rt: HostRuntime) {
-    let alloc = rt.alloc();
-    let sdsi = octets(&rt, alloc, "3012060a2a864886f70d01091602a00416026162");
-    let mut r = SliceReader::new(&sdsi);
-    let CertBag::SDSI(text) = CertBag::parse(alloc, &mut r).expect(&rt, "a certificate") else {
+    let other = attribute(alloc, b"\x30\x07\x06\x01\x2a\x31\x02\x05\x00")?;
+    let PKCS12Attribute::Other(other) = &other else {
         panic!(rt; "another variant");
     };
-    assert!(rt; text.as_str() == "ab");
+    assert!(rt; other.values.len() == 1);
+    Ok(())
+}
+
+/// A certificate bag with the name `b` and the key id 7.
+const NAMED_BAG: &[u8] =
+    b"\x30\x4a\x06\x0b\x2a\x86\x48\x86\xf7\x0d\x01\x0c\x0a\x01\x03\xa0\x14\x30\x12\x06\
+    \x0a\x2a\x86\x48\x86\xf7\x0d\x01\x09\x16\x01\xa0\x04\x04\x02\x30\x00\x31\x25\x30\
+    \x11\x06\x09\x2a\x86\x48\x86\xf7\x0d\x01\x09\x14\x31\x04\x1e\x02\x00\x62\x30\x10\
+    \x06\x09\x2a\x86\x48\x86\xf7\x0d\x01\x09\x15\x31\x03\x04\x01\x07";
+
+#[test]
+fn bags_are_read_with_their_attributes(rt: HostRuntime) -> Result<(), Fail> {
+    let alloc = rt.alloc();
+    let bag = SafeBag::parse(alloc, &mut SliceReader::new(NAMED_BAG))?.try_clone(alloc)?;
+    assert!(rt; bag.friendly_name(alloc)?.expect(&rt, "a name").as_str() == "b");
+    assert!(rt; bag.local_key_id(alloc)?.expect(&rt, "a key id").as_slice() == &[7][..]);
+    assert!(rt; bag.bag.get_sdsi_cert(alloc)?.is_none());
+    assert!(rt;
+        bag.bag.oid().as_bytes() == b"\x2a\x86\x48\x86\xf7\x0d\x01\x0c\x0a\x01\x03".as_slice()
+    );
+    Ok(())
+}
+
+/// The SDSI certificate `ab`.
+const SDSI: &[u8] =
+    b"\x30\x12\x06\x0a\x2a\x86\x48\x86\xf7\x0d\x01\x09\x16\x02\xa0\x04\x16\x02\x61\x62";
+
+#[test]
+fn sdsi_certificates_are_read(rt: HostRuntime) -> Result<(), Fail> {
+    let alloc = rt.alloc();
+    let certificate = CertBag::parse(alloc, &mut SliceReader::new(SDSI))?;
+    let kind = SafeBagKind::CertBag(certificate.try_clone(alloc)?).try_clone(alloc)?;
+    assert!(rt; kind.get_sdsi_cert(alloc)?.expect(&rt, "a text").as_str() == "ab");
     // a character over 127, a third kind
     for bad in [
-        "3012060a2a864886f70d01091602a004160261ff",
-        "3012060a2a864886f70d01091603a00416026162",
+        b"\x30\x12\x06\x0a\x2a\x86\x48\x86\xf7\x0d\x01\x09\x16\x02\xa0\x04\x16\x02\x61\xff".as_slice(),
+        b"\x30\x12\x06\x0a\x2a\x86\x48\x86\xf7\x0d\x01\x09\x16\x03\xa0\x04\x16\x02\x61\x62".as_slice(),
     ] {
-        let text = octets(&rt, alloc, bad);
-        let mut r = SliceReader::new(&text);
+        let mut r = SliceReader::new(bad);
         assert!(rt; CertBag::parse(alloc, &mut r).is_err());
         assert!(rt; r.position() == 0);
     }
-    let shrouded = octets(&rt, alloc, "3010300906052b0e03021a05000403666f6f");
-    let id = asn1_core::ObjectIdentifier::constant(&[
-        0x2a, 0x86, 0x48, 0x86, 0xf7, 0x0d, 1, 0x0c, 0x0a, 1, 2,
-    ]);
-    let mut r = SliceReader::new(&shrouded);
-    let kind = SafeBagKind::parse(alloc, &mut r, id).expect(&rt, "a key");
-    let SafeBagKind::Pkcs8ShroudedKeyBag(key) = &kind else {
+    Ok(())
+}
+
+#[test]
+fn faulty_stores_are_refused(rt: HostRuntime) -> Result<(), Fail> {
+    let alloc = rt.alloc();
+    // no octets, one octet more, one less, a long length, an indefinite one, a version of 256
+    for bad in [
+        b"".as_slice(),
+        b"\x30\x16\x02\x01\x03\x30\x11\x06\x09\x2a\x86\x48\x86\xf7\x0d\x01\x07\x01\xa0\x04\
+    \x04\x02\x30\x00\x00"
+            .as_slice(),
+        b"\x30\x16\x02\x01\x03\x30\x11\x06\x09\x2a\x86\x48\x86\xf7\x0d\x01\x07\x01\xa0\x04\
+    \x04\x02\x30"
+            .as_slice(),
+        b"\x30\x81\x16\x02\x01\x03\x30\x11\x06\x09\x2a\x86\x48\x86\xf7\x0d\x01\x07\x01\xa0\
+    \x04\x04\x02\x30\x00"
+            .as_slice(),
+        b"\x30\x80\x02\x01\x03\x30\x11\x06\x09\x2a\x86\x48\x86\xf7\x0d\x01\x07\x01\xa0\x04\
+    \x04\x02\x30\x00\x00\x00"
+            .as_slice(),
+        b"\x30\x17\x02\x02\x01\x00\x30\x11\x06\x09\x2a\x86\x48\x86\xf7\x0d\x01\x07\x01\xa0\
+    \x04\x04\x02\x30\x00"
+            .as_slice(),
+    ] {
+        assert!(rt; PFX::parse(alloc, bad).is_err());
+        assert!(rt; StoreView::parse(bad).is_err());
+    }
+    let plain = PFX::parse(
+        alloc,
+        b"\x30\x16\x02\x01\x03\x30\x11\x06\x09\x2a\x86\x48\x86\xf7\x0d\x01\x07\x01\xa0\x04\
+    \x04\x02\x30\x00",
+    )?;
+    assert!(rt; plain.mac_data.is_none());
+    Ok(())
+}
+
+#[test]
+fn a_store_lends_its_contents(rt: HostRuntime) -> Result<(), Fail> {
+    let Ok(store) = StoreView::parse(SEALED_STORE) else {
+        panic!(rt; "no store");
+    };
+    let ContentView::Plain { content, at } = &store.auth_safe else {
         panic!(rt; "another variant");
     };
-    assert!(rt; key.encryption_algorithm == AlgorithmIdentifier::Sha1);
-    assert!(rt; key.encrypted_data.as_slice() == "foo".as_bytes());
+    assert!(rt; at.start == 23 && at.len == 106);
+    let mut contents = ContentsView::parse(content)?;
+    let Some(ContentView::Encrypted { at, .. }) = contents.next() else {
+        panic!(rt; "another variant");
+    };
+    assert!(rt; at.start == 66 && at.len == 40);
+    assert!(rt; contents.next().is_none());
+    Ok(())
 }
 
 #[test]
-fn faulty_stores_are_refused(rt: HostRuntime) {
-    let alloc = rt.alloc();
-    // row by row: no octets, one octet more, one less, a long length, an indefinite one, a version of 256, a count of 2^32
-    for bad in [
-        "",
-        "3016020103301106092a864886f70d010701a0040402300000",
-        "3016020103301106092a864886f70d010701a004040230",
-        "308116020103301106092a864886f70d010701a00404023000",
-        "3080020103301106092a864886f70d010701a004040230000000",
-        "301702020100301106092a864886f70d010701a00404023000",
-        "3044020103301106092a864886f70d010701a00404023000302c3021300906052b0e03021a050004140000000000000000000000000000000000000000040002050100000000",
-    ] {
-        assert!(rt; PFX::parse(alloc, &octets(&rt, alloc, bad)).is_err());
-    }
-    let plain = octets(
-        &rt,
-        alloc,
-        "3016020103301106092a864886f70d010701a00404023000",
-    );
-    let store = PFX::parse(alloc, &plain).expect(&rt, "a store");
-    assert!(rt; store.mac_data.is_none());
-    let copy = store.try_clone(alloc).expect(&rt, "memory");
-    assert!(rt; copy.version == 3);
-}
-
-/// A scheme of PBES2 with PBKDF2 over HMAC-SHA256 and AES-256 in CBC mode, and one with scrypt (RFC 7914 section 7), of OpenSSL.
-const PBES2: &str =
-    "305706092a864886f70d01050d304a302906092a864886f70d01050c301c040879d982e70df91a8802020800300c06082a864886f70d02090500301d060960864801650304012a0410b2d02d78b2efd9dff694cf8e0af40925";
-
-const UNDER_SCRYPT: &str =
-    "304f06092a864886f70d01050d3042302106092b06010401da47040b30140408e6211e2348ad69e002024000020108020101301d060960864801650304012a04109bd0a6251f2254f9fd5963887c27cf01";
-
-#[test]
-fn pbes2_is_read_where_it_is_one_of_its_schemes(rt: HostRuntime) {
-    let alloc = rt.alloc();
-    let digits = octets(&rt, alloc, PBES2);
-    let scheme = AlgorithmIdentifier::parse(alloc, &mut SliceReader::new(&digits));
-    let scheme = scheme.expect(&rt, "an algorithm");
-    assert!(rt; matches!(&scheme, AlgorithmIdentifier::Pbes2(_)));
-    assert!(rt; scheme.is_openable() && scheme.count() == 2048 && scheme.cost() == 2048);
-    let digits = octets(&rt, alloc, UNDER_SCRYPT);
-    let scheme = AlgorithmIdentifier::parse(alloc, &mut SliceReader::new(&digits));
-    let scheme = scheme.expect(&rt, "an algorithm");
-    assert!(rt; matches!(&scheme, AlgorithmIdentifier::OtherAlg(_)));
-    assert!(rt; !scheme.is_openable() && scheme.cost() == 0);
-}
-
-/// The password p in UTF-16 (RFC 7292 appendix B.1).
-const PASSWORD: [u8; 4] = [0, 0x70, 0, 0];
-
-#[test]
-fn a_key_is_derived_over_sha_256(rt: HostRuntime) {
-    let alloc = rt.alloc();
-    let salt = [1, 2, 3, 4, 5, 6, 7, 8];
-    let key = pbepkcs12::<Sha256>(alloc, &PASSWORD, &salt, 3, 3, 32).expect(&rt, "memory");
-    assert!(rt;
-        is(
-            &key,
-            &rt,
-            alloc,
-            "d04c492650aa7f7baef9a5d04ba461327147093827b5f7c92f70f7ae6299e8f4"
-        )
-    );
-}
-
-#[test]
-fn a_mac_under_sha_256_is_made(rt: HostRuntime) {
-    let alloc = rt.alloc();
-    let salt = [1, 2, 3, 4, 5, 6, 7, 8];
-    let mac = MacData::with_salt_sha256(alloc, b"abc", &PASSWORD, &salt, 3).expect(&rt, "memory");
-    assert!(rt;
-        is(
-            &mac.mac.digest,
-            &rt,
-            alloc,
-            "18a725d34707ec5b4ed6cad4d8ddc60155b01f5871f85af4c16a683d09dc580b"
-        )
-    );
-    let copy = mac.try_clone(alloc).expect(&rt, "memory");
-    assert!(rt; copy.salt.len() == 8);
-    assert!(rt; copy.verify_mac(alloc, b"abc", &PASSWORD) == Ok(true));
+fn a_list_lends_its_bags(rt: HostRuntime) -> Result<(), Fail> {
+    let mut bags = BagsView::parse(BAGS)?;
+    let Some(BagView::X509(certificate)) = bags.next() else {
+        panic!(rt; "another variant");
+    };
+    assert!(rt; certificate == b"\x30\x00".as_slice());
+    assert!(rt; bags.next().is_none());
+    assert!(rt; bags.next().is_none());
+    Ok(())
 }

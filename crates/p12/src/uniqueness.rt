@@ -1,10 +1,19 @@
 //! Laws of the definitions, each the contract of a function that does nothing.
-ghost use Rattle.std.specs.Prelude.{◌≡◌, ◌↔◌, ◌<◌, ℕ, List, Some};
+ghost use Rattle.std.specs.Prelude.{◌≡◌, ◌↔◌, ◌<◌, ℕ, List, All, Some};
 ghost use Rattle.mac_modes.specs.Padding.{padded};
-ghost use Rattle.p12.specs.AlgorithmIdentifier.{unpadded};
+ghost use Rattle.p12.specs.AlgorithmIdentifier.{AlgorithmText, ParamsText, unlock_pbe, unpadded};
+ghost use Rattle.p12.specs.declared.algorithm_identifier.Pkcs12PbeParams.{Pkcs12PbeParams};
+ghost use Rattle.p12.specs.declared.algorithm_identifier.AlgorithmIdentifier.TheVariants.{PbeWithSHAAnd3KeyTripleDESCBC};
+ghost use Rattle.p12.specs.Attribute.{AttributeText};
+ghost use Rattle.p12.specs.CertBag.{CertBagText};
+ghost use Rattle.p12.specs.DigestInfo.{DigestText};
+ghost use Rattle.p12.specs.EncryptedData.{EncryptedContentText, EncryptedDataText};
+ghost use Rattle.p12.specs.EncryptedPrivateKeyInfo.{EncryptedKeyText};
+ghost use Rattle.p12.specs.MacData.{MacText};
+ghost use Rattle.p12.specs.Sole.{IsSole};
 ghost use Rattle.p12.specs.Pfx.{IsStore};
-ghost use Rattle.p12.specs.ContentInfo.{IsContents};
-ghost use Rattle.p12.specs.SafeBag.{IsBags};
+ghost use Rattle.p12.specs.ContentInfo.{ContentText, IsContents};
+ghost use Rattle.p12.specs.SafeBag.{BagText, IsBags};
 ghost use Rattle.p12.specs.declared.pfx.PFX.{PFX};
 ghost use Rattle.p12.specs.declared.content_info.ContentInfo.{ContentInfo};
 ghost use Rattle.p12.specs.declared.safe_bag.SafeBag.{SafeBag};
@@ -28,4 +37,28 @@ pub fn one_text_lists_contents_once()
 /// One text lists bags in one way.
 pub fn one_text_lists_bags_once()
     ensures { (b : List ℕ) (s t : List SafeBag) → IsBags b s → IsBags b t → s ≡ t }
+{}
+
+/// One text has at most one value of each row.
+pub fn one_text_has_one_value()
+    ensures params { IsSole ParamsText }
+    ensures algorithm { IsSole AlgorithmText }
+    ensures digest { IsSole DigestText }
+    ensures mac { IsSole MacText }
+    ensures encrypted_content { IsSole EncryptedContentText }
+    ensures encrypted_data { IsSole EncryptedDataText }
+    ensures content { IsSole ContentText }
+    ensures encrypted_key { IsSole EncryptedKeyText }
+    ensures certificate { IsSole CertBagText }
+    ensures attribute { IsSole AttributeText }
+    ensures bag { IsSole BagText }
+{}
+
+/// Two ciphertexts that open to the same text under Triple DES and a password in UTF-16 are the same: so what `encrypt_pbe`
+/// answers is the only ciphertext of its text. Of PBES2 `pkcs5::opening_laws` says the same.
+pub fn one_ciphertext_opens_to_a_text()
+    ensures { (p : Pkcs12PbeParams) (q c d m : List ℕ) → All (λ octet. octet < 256) c
+        → All (λ octet. octet < 256) d
+        → unlock_pbe (PbeWithSHAAnd3KeyTripleDESCBC p) q c ≡ Some m
+        → unlock_pbe (PbeWithSHAAnd3KeyTripleDESCBC p) q d ≡ Some m → c ≡ d }
 {}

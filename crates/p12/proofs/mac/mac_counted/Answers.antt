@@ -1,4 +1,4 @@
-use Rattle.std.proofs.Common.{◌≡◌, ℕ, ◌+◌, ◌*◌, take, ap, ◌∙◌, arith}
+use Rattle.std.proofs.Common.{ℕ, ◌+◌, ◌*◌, take, ap, ◌∙◌, arith}
 use Rattle.mac_modes.specs.Hmac.{hmac}
 use Rattle.p12.specs.Derivation.{derive12, turns}
 use Rattle.p12.specs.MacData.{mac_under}

@@ -1,0 +1,6 @@
+use Rattle.std.proofs.Common.{arith}
+use Rattle.p12.proofs.Ends.{inside_within}
+use Rattle.p12.proofs.content_info.plain_view.Goals as goal
+
+pub ending_at-at-requires : goal.ending_at-at-requires
+ending_at-at-requires c = omega (arith, c.requires, inside_within 0xa0 _ _ _ c.in_ok-explicit.ensures.stands, inside_within 0x04 _ _ _ c.in_ok-content.ensures.stands)

@@ -1,0 +1,19 @@
+-- Places in octets, and parts of octets with what stands behind them.
+use Rattle.std.specs.Prelude.{◌≡◌, ℕ, ◌+◌, ◌≤◌, List, ◌++◌, length, take, drop}
+use Rattle.p12.specs.declared.place.Place.{Place}
+
+-- the octets at a place
+abbrev pub at_place : Place → List ℕ → List ℕ
+at_place p b = take p.len (drop p.start b)
+
+-- v stands there, up to the end
+abbrev pub UpTo : ℕ → List ℕ → Place → Type 0
+UpTo end v p = (p.len ≡ length v) × (p.start + length v ≡ end)
+
+-- it lies between two numbers of octets
+abbrev pub Between : ℕ → ℕ → Place → Type 0
+Between from to p = (from ≤ p.start) × (p.start + p.len ≤ to)
+
+-- y stands in x, and behind it stands what is called after
+abbrev pub Part : List ℕ → List ℕ → List ℕ → Type 0
+Part y x after = (front : List ℕ) × (x ≡ front ++ (y ++ after))
