@@ -5,8 +5,9 @@ use Rattle.std.specs.Io.KnownBytes.{Consumes}
 use Rattle.std.proofs.lemmas.List.{append_assoc, append-nil, length-append}
 use Rattle.pkcs5.specs.declared.pbes2.parameters.Parameters.{Parameters}
 use Rattle.pkcs8.specs.Sealing.{IsSealed}
-use Rattle.transfer.specs.declared.error.TransferError.{TransferError}
-use Rattle.transfer.specs.Sealing.{AreDrawn, IsDocument, IsDrawn, Seals, SealsAll}
+use Rattle.transfer.specs.declared.store.error.TransferError.{TransferError}
+use Rattle.transfer.specs.Document.{IsDocument}
+use Rattle.transfer.specs.Sealing.{AreDrawn, IsDrawn, Seals, SealsAll}
 use Rattle.transfer.proofs.Faults.{take_one}
 
 pub consumes_more : (a b c : Option (List ℕ)) (xs ys : List ℕ) → Consumes a b xs → Consumes b c ys → Consumes a c (xs ++ ys)

@@ -18,11 +18,11 @@ use Rattle.p12.specs.AlgorithmIdentifier.{cost, unlock}
 use Rattle.p12.specs.Error.{MalformedOnly}
 use Rattle.p12.specs.SafeBag.{NoBags}
 use Rattle.p12.proofs.Laws.{unlock_opened}
-use Rattle.transfer.specs.declared.error.TransferError.{TransferError}
-use Rattle.transfer.specs.declared.error.TransferError.TheVariants.{TooLong, Malformed, Unsupported, MacMissing, MacUnsupported, ZeroIterations, WorkLimit, MacMismatch, ContentMalformed, DecryptFailed, KeyMalformed, Rng, Memory}
+use Rattle.transfer.specs.declared.store.error.TransferError.{TransferError}
+use Rattle.transfer.specs.declared.store.error.TransferError.TheVariants.{TooLong, Malformed, Unsupported, MacMissing, MacUnsupported, ZeroIterations, WorkLimit, MacMismatch, ContentMalformed, DecryptFailed, KeyMalformed, Rng, Memory}
 use Rattle.transfer.specs.TransferError.{RefusedBy}
-use Rattle.transfer.specs.Parts.{AreOpen, IsFirstFault, Kind, OpensMore}
-use Rattle.transfer.specs.Opening.{ContentFault, KeyFault, LockFault, NoKeyText, Stops, of_keys, shrouded_in}
+use Rattle.transfer.specs.Parts.{AreOpen, IsFirstFault, PartKind, OpensMore}
+use Rattle.transfer.specs.Opening.{ContentFault, KeyFault, LockFault, NoKeyText, RefusedAfter, of_keys, shrouded_in}
 use Rattle.transfer.proofs.Lists.{each_append}
 
 -- ---- Causes
@@ -44,12 +44,12 @@ refused_as P Q R S f g Rng h = g h
 refused_as P Q R S f g Memory h = tt
 
 -- A cause behind k more steps.
-pub stops : (F G : TransferError → ℕ → Type 0) (old mid new k : ℕ) → mid ≡ old + k → ((e : TransferError) (n : ℕ) → F e n → G e (k + n)) → (e : TransferError) → Stops F mid new e → Stops G old new e
-stops F G old mid new k is f e h =
+pub refused_later : (F G : TransferError → ℕ → Type 0) (old mid new k : ℕ) → mid ≡ old + k → ((e : TransferError) (n : ℕ) → F e n → G e (k + n)) → (e : TransferError) → RefusedAfter F mid new e → RefusedAfter G old new e
+refused_later F G old mid new k is f e h =
     refused_as (λ e. (n : ℕ) × F e n × (new ≡ mid + n)) (λ e. (n : ℕ) × G e n × (new ≡ old + n)) ⊥ ⊥ (λ e h. (k + h.0, f e h.0 h.1, omega (arith, is, h.2))) (λ h. h) e h
 
-pub stops_as : (F G : TransferError → ℕ → Type 0) (old new : ℕ) → ((e : TransferError) (n : ℕ) → F e n → G e n) → (e : TransferError) → Stops F old new e → Stops G old new e
-stops_as F G old new f e h =
+pub refused_after_as : (F G : TransferError → ℕ → Type 0) (old new : ℕ) → ((e : TransferError) (n : ℕ) → F e n → G e n) → (e : TransferError) → RefusedAfter F old new e → RefusedAfter G old new e
+refused_after_as F G old new f e h =
     refused_as (λ e. (n : ℕ) × F e n × (new ≡ old + n)) (λ e. (n : ℕ) × G e n × (new ≡ old + n)) ⊥ ⊥ (λ e h. (h.0, f e h.0 h.1, h.2)) (λ h. h) e h
 
 pub malformed_only : (e : Error) (P : Type 0) → e ≡ errors.Malformed → MalformedOnly e P → P
@@ -91,7 +91,7 @@ pub take_one : {X : Type 0} (xs : List X) (i : ℕ) (x : X) → i < length xs �
 take_one xs i x lt at = take_more xs i x lt ∙ ap (λ y. take i xs ++ y ∷ []) (sym at)
 
 -- The part at a place has the first fault.
-fault_at : {A B : Type 0} (K : Kind A B TransferError) (limit sum now : ℕ) (xs : List A) (i : ℕ) (x : A) (ys : List B) (e : TransferError) (n k : ℕ)
+fault_at : {A B : Type 0} (K : PartKind A B TransferError) (limit sum now : ℕ) (xs : List A) (i : ℕ) (x : A) (ys : List B) (e : TransferError) (n k : ℕ)
     → i < length xs → x ≡ get_or xs i x → AreOpen K limit sum (take i xs) ys → now ≡ sum + sum_by K.share (take i xs) → K.Fault now x e n
     → k ≡ sum_by K.share (take i xs) + n → IsFirstFault K limit sum xs e k
 fault_at K limit sum now xs i x ys e n k lt at opened sums fault steps = record {
@@ -106,24 +106,24 @@ fault_at K limit sum now xs i x ys e n k lt at opened sums fault steps = record 
   steps = steps;
 }
 
-pub part_stops : {A B : Type 0} (K : Kind A B TransferError) (limit sum now : ℕ) (xs : List A) (i : ℕ) (x : A) (ys : List B) (old mid new : ℕ) (e : TransferError)
+pub part_refused : {A B : Type 0} (K : PartKind A B TransferError) (limit sum now : ℕ) (xs : List A) (i : ℕ) (x : A) (ys : List B) (old mid new : ℕ) (e : TransferError)
     → i < length xs → x ≡ get_or xs i x → AreOpen K limit sum (take i xs) ys → now ≡ sum + sum_by K.share (take i xs) → mid ≡ old + sum_by K.share (take i xs)
-    → Stops (K.Fault now x) mid new e → Stops (IsFirstFault K limit sum xs) old new e
-part_stops K limit sum now xs i x ys old mid new e lt at opened sums is h =
-    stops (K.Fault now x) (IsFirstFault K limit sum xs) old mid new (sum_by K.share (take i xs)) is (λ e n f. fault_at K limit sum now xs i x ys e n _ lt at opened sums f refl) e h
+    → RefusedAfter (K.Fault now x) mid new e → RefusedAfter (IsFirstFault K limit sum xs) old new e
+part_refused K limit sum now xs i x ys old mid new e lt at opened sums is h =
+    refused_later (K.Fault now x) (IsFirstFault K limit sum xs) old mid new (sum_by K.share (take i xs)) is (λ e n f. fault_at K limit sum now xs i x ys e n _ lt at opened sums f refl) e h
 
-open_one : {A B : Type 0} (K : Kind A B TransferError) (limit sum : ℕ) (x : A) (y : B) → K.Opens x y → sum + K.share x ≤ limit → AreOpen K limit sum (x ∷ []) (y ∷ [])
+open_one : {A B : Type 0} (K : PartKind A B TransferError) (limit sum : ℕ) (x : A) (y : B) → K.OpensTo x y → sum + K.share x ≤ limit → AreOpen K limit sum (x ∷ []) (y ∷ [])
 open_one K limit sum x y h le = record { each = (h, tt); within = omega (arith, le, sum_by-append K.share (x ∷ []) []) }
 
 -- What lies behind parts that are open.
-pub open_append : {A B : Type 0} (K : Kind A B TransferError) (limit sum now : ℕ) (xs : List A) (ys : List B) (zs : List A) (ws : List B)
+pub open_append : {A B : Type 0} (K : PartKind A B TransferError) (limit sum now : ℕ) (xs : List A) (ys : List B) (zs : List A) (ws : List B)
     → AreOpen K limit sum xs ys → now ≡ sum + sum_by K.share xs → AreOpen K limit now zs ws → AreOpen K limit sum (xs ++ zs) (ys ++ ws)
 open_append K limit sum now xs ys zs ws a sums b =
-    record { each = each_append K.Opens xs ys zs ws a.each b.each; within = omega (arith, sums, b.within, sum_by-append K.share xs zs) }
+    record { each = each_append K.OpensTo xs ys zs ws a.each b.each; within = omega (arith, sums, b.within, sum_by-append K.share xs zs) }
 
 -- One part more is open.
-pub open_more : {A B : Type 0} (K : Kind A B TransferError) (limit sum now next : ℕ) (xs : List A) (i : ℕ) (x : A) (ys : List B) (y : B)
-    → i < length xs → x ≡ get_or xs i x → AreOpen K limit sum (take i xs) ys → now ≡ sum + sum_by K.share (take i xs) → K.Opens x y → next ≡ now + K.share x → next ≤ limit
+pub open_more : {A B : Type 0} (K : PartKind A B TransferError) (limit sum now next : ℕ) (xs : List A) (i : ℕ) (x : A) (ys : List B) (y : B)
+    → i < length xs → x ≡ get_or xs i x → AreOpen K limit sum (take i xs) ys → now ≡ sum + sum_by K.share (take i xs) → K.OpensTo x y → next ≡ now + K.share x → next ≤ limit
     → AreOpen K limit sum (take (i + 1) xs) (ys ++ y ∷ [])
 open_more K limit sum now next xs i x ys y lt at opened sums more is le =
     subst (λ t. AreOpen K limit sum t (ys ++ y ∷ [])) (sym (take_one xs i x lt at))
@@ -141,13 +141,13 @@ pub flat_share : {X A : Type 0} (s : A → ℕ) (f : X → List A) (xs : List X)
     → sum_by s (flat_map f (take (i + 1) xs)) ≡ sum_by s (flat_map f (take i xs)) + sum_by s (f x)
 flat_share s f xs i x lt at = ap (sum_by s) (flat_one f xs i x lt at) ∙ sum_by-append s (flat_map f (take i xs)) (f x)
 
-pub flat_more : {X A B : Type 0} (K : Kind A B TransferError) (f : X → List A) (limit sum now : ℕ) (xs : List X) (i : ℕ) (x : X) (ys ws : List B)
+pub flat_more : {X A B : Type 0} (K : PartKind A B TransferError) (f : X → List A) (limit sum now : ℕ) (xs : List X) (i : ℕ) (x : X) (ys ws : List B)
     → i < length xs → x ≡ get_or xs i x → AreOpen K limit sum (flat_map f (take i xs)) ys → now ≡ sum + sum_by K.share (flat_map f (take i xs)) → AreOpen K limit now (f x) ws
     → AreOpen K limit sum (flat_map f (take (i + 1) xs)) (ys ++ ws)
 flat_more K f limit sum now xs i x ys ws lt at opened sums more =
     subst (λ t. AreOpen K limit sum t (ys ++ ws)) (sym (flat_one f xs i x lt at)) (open_append K limit sum now (flat_map f (take i xs)) ys (f x) ws opened sums more)
 
-pub flat_fault : {X A B : Type 0} (K : Kind A B TransferError) (f : X → List A) (limit sum now : ℕ) (xs : List X) (i : ℕ) (x : X) (ys : List B) (e : TransferError) (n k : ℕ)
+pub flat_fault : {X A B : Type 0} (K : PartKind A B TransferError) (f : X → List A) (limit sum now : ℕ) (xs : List X) (i : ℕ) (x : X) (ys : List B) (e : TransferError) (n k : ℕ)
     → i < length xs → x ≡ get_or xs i x → AreOpen K limit sum (flat_map f (take i xs)) ys → now ≡ sum + sum_by K.share (flat_map f (take i xs))
     → IsFirstFault K limit now (f x) e n → k ≡ sum_by K.share (flat_map f (take i xs)) + n → IsFirstFault K limit sum (flat_map f xs) e k
 flat_fault K f limit sum now xs i x ys e n k lt at opened sums fault steps =
@@ -167,14 +167,14 @@ flat_fault K f limit sum now xs i x ys e n k lt at opened sums fault steps =
       steps = omega (arith, steps, fault.steps, sum_by-append K.share front fault.before);
     }
 
-pub flat_stops : {X A B : Type 0} (K : Kind A B TransferError) (f : X → List A) (limit sum now : ℕ) (xs : List X) (i : ℕ) (x : X) (ys : List B) (old mid new : ℕ) (e : TransferError)
+pub flat_refused : {X A B : Type 0} (K : PartKind A B TransferError) (f : X → List A) (limit sum now : ℕ) (xs : List X) (i : ℕ) (x : X) (ys : List B) (old mid new : ℕ) (e : TransferError)
     → i < length xs → x ≡ get_or xs i x → AreOpen K limit sum (flat_map f (take i xs)) ys → now ≡ sum + sum_by K.share (flat_map f (take i xs))
-    → mid ≡ old + sum_by K.share (flat_map f (take i xs)) → Stops (IsFirstFault K limit now (f x)) mid new e → Stops (IsFirstFault K limit sum (flat_map f xs)) old new e
-flat_stops K f limit sum now xs i x ys old mid new e lt at opened sums is h =
-    stops (IsFirstFault K limit now (f x)) (IsFirstFault K limit sum (flat_map f xs)) old mid new (sum_by K.share (flat_map f (take i xs))) is
+    → mid ≡ old + sum_by K.share (flat_map f (take i xs)) → RefusedAfter (IsFirstFault K limit now (f x)) mid new e → RefusedAfter (IsFirstFault K limit sum (flat_map f xs)) old new e
+flat_refused K f limit sum now xs i x ys old mid new e lt at opened sums is h =
+    refused_later (IsFirstFault K limit now (f x)) (IsFirstFault K limit sum (flat_map f xs)) old mid new (sum_by K.share (flat_map f (take i xs))) is
     (λ e n g. flat_fault K f limit sum now xs i x ys e n _ lt at opened sums g refl) e h
 
-pub flat_opens : {X A B : Type 0} (K : Kind A B TransferError) (f : X → List A) (limit sum now : ℕ) (xs : List X) (i : ℕ) (x : X) (first old new : List B)
+pub flat_opens : {X A B : Type 0} (K : PartKind A B TransferError) (f : X → List A) (limit sum now : ℕ) (xs : List X) (i : ℕ) (x : X) (first old new : List B)
     → i < length xs → x ≡ get_or xs i x → OpensMore K limit sum (flat_map f (take i xs)) first old → now ≡ sum + sum_by K.share (flat_map f (take i xs)) → OpensMore K limit now (f x) old new
     → OpensMore K limit sum (flat_map f (take (i + 1) xs)) first new
 flat_opens K f limit sum now xs i x first old new lt at a sums b = record {
@@ -183,8 +183,8 @@ flat_opens K f limit sum now xs i x first old new lt at a sums b = record {
   opened = flat_more K f limit sum now xs i x a.made b.made lt at a.opened sums b.opened;
 }
 
-pub bag_stops : (p : List ℕ) (limit sum : ℕ) (b : SafeBagKind) (k : EncryptedPrivateKeyInfo) (old new : ℕ) (e : TransferError) → b ≡ bag.Pkcs8ShroudedKeyBag k
-    → sum ≤ limit → Stops (KeyFault p limit sum k) old new e → Stops (IsFirstFault (of_keys p limit) limit sum (shrouded_in b)) old new e
-bag_stops p limit sum b k old new e is le h =
-    subst (λ b. Stops (IsFirstFault (of_keys p limit) limit sum (shrouded_in b)) old new e) (sym is)
-    (part_stops (of_keys p limit) limit sum sum (k ∷ []) 0 k [] old old new e (omega arith) refl (record { each = tt; within = omega (arith, le) }) (omega arith) (omega arith) h)
+pub bag_refused : (p : List ℕ) (limit sum : ℕ) (b : SafeBagKind) (k : EncryptedPrivateKeyInfo) (old new : ℕ) (e : TransferError) → b ≡ bag.Pkcs8ShroudedKeyBag k
+    → sum ≤ limit → RefusedAfter (KeyFault p limit sum k) old new e → RefusedAfter (IsFirstFault (of_keys p limit) limit sum (shrouded_in b)) old new e
+bag_refused p limit sum b k old new e is le h =
+    subst (λ b. RefusedAfter (IsFirstFault (of_keys p limit) limit sum (shrouded_in b)) old new e) (sym is)
+    (part_refused (of_keys p limit) limit sum sum (k ∷ []) 0 k [] old old new e (omega arith) refl (record { each = tt; within = omega (arith, le) }) (omega arith) (omega arith) h)

@@ -6,6 +6,7 @@ use Rattle.std.specs.Cmp.Lexicographic.{pointwise}
 use Rattle.std.proofs.lemmas.Slice.Eq.{bytes_eq-Decides}
 use Rattle.std.proofs.lemmas.Bool.{not-false}
 use Rattle.std.proofs.lemmas.Fmt.{decimal_injective}
+use Rattle.transfer.specs.Limits.{rounds_limit}
 use Rattle.transfer.specs.Words.{IsNoCommand}
 
 -- A list of five items, mapped.
@@ -37,7 +38,7 @@ no_limit words a b c d e w none asked is =
 
 -- Nor rounds out of bounds.
 pub no_such_rounds : (words : List (List ℕ)) (a b c d e : List ℕ) (n : ℕ) → words ≡ a ∷ b ∷ c ∷ d ∷ e ∷ [] → d ≡ decimal n → n < 2 ^ 64
-    → (1 ≤ n → n ≤ 100000000 → ⊥) → IsNoCommand words
+    → (1 ≤ n → n ≤ rounds_limit → ⊥) → IsNoCommand words
 no_such_rounds words a b c d e n w number small out asked is =
     let s = is.spelled in
     let spelled : decimal n ≡ decimal asked.rounds = cc in

@@ -10,22 +10,22 @@ use Rattle.p12.specs.ContentInfo.{ContentFits, IsContents}
 use Rattle.p12.specs.Pfx.{IsStore}
 use Rattle.p12.specs.SafeBag.{BagFits}
 use Rattle.p12.proofs.Laws.{bags_fit, contents_fit, store_fits}
-use Rattle.transfer.specs.Parts.{Each}
-use Rattle.transfer.specs.Opening.{ContentOpens, IsKeyText, KeyOpens}
-use Rattle.p12.specs.declared.encrypted_private_key_info.EncryptedPrivateKeyInfo.{EncryptedPrivateKeyInfo}
+use Rattle.transfer.specs.Limits.{store_limit}
+use Rattle.asn1_core.specs.Sets.{Each}
+use Rattle.transfer.specs.Opening.{ContentOpens}
 
 at_some : (P : MacData → Type 0) (o : Option MacData) (m : MacData) → o ≡ Some m → IfSome o P → P m
 at_some P o m is h = let Q : Option MacData → Type 0 = λ o. IfSome o P in subst Q is h
 
-pub text_fits : (b : List ℕ) (s : PFX) (v : List ℕ) → length b ≤ 16777215 → IsStore b s → s.auth_safe ≡ content.Data v → length v ≤ 16777215
+pub text_fits : (b : List ℕ) (s : PFX) (v : List ℕ) → length b ≤ store_limit → IsStore b s → s.auth_safe ≡ content.Data v → length v ≤ store_limit
 text_fits b s v le is at =
     let Q : ContentInfo → Type 0 = λ c. ContentFits (length b) c in
     omega (arith, le, (subst Q at (store_fits b s is).0).0)
 
-pub salt_fits : (b : List ℕ) (s : PFX) (m : MacData) → length b ≤ 16777215 → IsStore b s → s.mac_data ≡ Some m → length m.salt ≤ 16777215
+pub salt_fits : (b : List ℕ) (s : PFX) (m : MacData) → length b ≤ store_limit → IsStore b s → s.mac_data ≡ Some m → length m.salt ≤ store_limit
 salt_fits b s m le is has = omega (arith, le, at_some (λ m. length m.salt ≤ length b) s.mac_data m has (store_fits b s is).1)
 
-pub contents_within : (v : List ℕ) (cs : List ContentInfo) → length v ≤ 16777215 → IsContents v cs → All (ContentFits 16777215) cs
+pub contents_within : (v : List ℕ) (cs : List ContentInfo) → length v ≤ store_limit → IsContents v cs → All (ContentFits store_limit) cs
 contents_within v cs le is = λ k d lt. let f = contents_fit v cs is k d lt in (omega (arith, f.0, le), omega (arith, f.1, le))
 
 -- ---- What opened
@@ -40,14 +40,3 @@ opened_fit p [] [] h = λ k d lt. absurd (omega (arith, lt))
 opened_fit p [] (g ∷ gss) h = absurd h
 opened_fit p (c ∷ cs) [] h = absurd h
 opened_fit p (c ∷ cs) (g ∷ gss) h = bags_first g gss (bags_fit h.0.0 g h.0.2) (opened_fit p cs gss h.1)
-
-text_first : (m : List ℕ) (ms : List (List ℕ)) → IsKeyText m → All IsKeyText ms → All IsKeyText (m ∷ ms)
-text_first m ms f h zero d lt = f
-text_first m ms f h (suc k) d lt = h k d (omega (arith, lt))
-
--- What opened keys hold is the text of a private key each.
-pub key_texts : (p : List ℕ) (ks : List EncryptedPrivateKeyInfo) (ms : List (List ℕ)) → Each (KeyOpens p) ks ms → All IsKeyText ms
-key_texts p [] [] h = λ k d lt. absurd (omega (arith, lt))
-key_texts p [] (m ∷ ms) h = absurd h
-key_texts p (k ∷ ks) [] h = absurd h
-key_texts p (k ∷ ks) (m ∷ ms) h = text_first m ms h.0.1 (key_texts p ks ms h.1)

@@ -8,6 +8,7 @@ mod Faults
 mod Rows
 pub mod Sole
 pub mod Valid
+mod Documents
 mod Drawn
 mod Places
 mod Settling

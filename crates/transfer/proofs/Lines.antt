@@ -5,8 +5,8 @@ use Rattle.std.proofs.lemmas.List.{length-append, get_or_at, append_cancel_right
 use Rattle.hex.specs.Hex.{decode_of, decode_pairs, is_hex_digit}
 use Rattle.hex.specs.declared.error.FromHexError.TheVariants.{OddLength}
 use Rattle.hex.proofs.HexLemmas.{decode_pairs-ok}
-use Rattle.transfer.specs.declared.input_text.TextError.{TextError}
-use Rattle.transfer.specs.declared.input_text.TextError.TheVariants.{Malformed, Memory}
+use Rattle.transfer.specs.declared.program.input_text.TextError.{TextError}
+use Rattle.transfer.specs.declared.program.input_text.TextError.TheVariants.{Malformed, Memory}
 use Rattle.transfer.specs.TextCause.{MalformedOnly}
 use Rattle.transfer.specs.InputText.{Ends, IsHex, IsInput, IsNoInput, bare, fed}
 use Rattle.transfer.specs.TwoLines.{IsSplit, IsUnsplit}

@@ -2,7 +2,8 @@
 use Rattle.std.proofs.Common.{ℕ, zero, suc, ◌≡◌, ◌+◌, ◌*◌, ◌<◌, List, [], ◌∷◌, ◌++◌, length, sym, ap, ◌∙◌, arith, take, drop, get_or}
 use Rattle.std.proofs.lemmas.List.{append_assoc}
 use Rattle.std.proofs.Math.Seq.{drop-append-add, take-append_seam}
-use Rattle.transfer.specs.Sealing.{AreDrawn, IsDocument}
+use Rattle.transfer.specs.Document.{IsDocument}
+use Rattle.transfer.specs.Sealing.{AreDrawn}
 use Rattle.transfer.proofs.Drawn.{sealed_length}
 
 cut : (d first rest : List ℕ) (n m : ℕ) → d ≡ first ++ rest → length first ≡ m → drop (m + n) d ≡ drop n rest

@@ -11,12 +11,13 @@ use Rattle.p12.specs.ContentInfo.{IsContents, NoContents}
 use Rattle.p12.specs.MacData.{is_mac_digest, mac_agrees, mac_steps}
 use Rattle.p12.specs.Password.{bmp_password}
 use Rattle.p12.specs.Pfx.{IsStore, NoStore}
-use Rattle.transfer.specs.declared.error.TransferError.{TransferError}
-use Rattle.transfer.specs.declared.error.TransferError.TheVariants.{TooLong, Malformed, Unsupported, MacMissing, MacUnsupported, ZeroIterations, WorkLimit, MacMismatch, ContentMalformed}
+use Rattle.transfer.specs.Limits.{store_limit}
+use Rattle.transfer.specs.declared.store.error.TransferError.{TransferError}
+use Rattle.transfer.specs.declared.store.error.TransferError.TheVariants.{TooLong, Malformed, Unsupported, MacMissing, MacUnsupported, ZeroIterations, WorkLimit, MacMismatch, ContentMalformed}
 use Rattle.transfer.specs.Parts.{AreOpen, IsFirstFault}
-use Rattle.transfer.specs.Opening.{Comes, ContentsTable, MacTable, Stops, StoreTable, Verdict, all_shrouded, content_share, key_share, of_contents, of_keys, opened, refused}
+use Rattle.transfer.specs.Opening.{HasVerdict, ContentsTable, MacTable, RefusedAfter, StoreTable, Verdict, all_shrouded, content_share, key_share, of_contents, of_keys, opened, refused}
 use Rattle.transfer.specs.Verdicts.{IsMacOk}
-use Rattle.transfer.proofs.Faults.{stops, stops_as, true_false}
+use Rattle.transfer.proofs.Faults.{refused_later, refused_after_as, true_false}
 
 mac_none : {P : Type 0} (r : Option MacData) (m : MacData) → r ≡ Some m → r ≡ None → P
 mac_none r m h k = grind (arith, h, k)
@@ -77,16 +78,16 @@ has_contents p limit v m cs w n ok l k t =
 
 -- ---- The store
 
-pub too_long : (b p : List ℕ) (limit : ℕ) → 16777215 < length b → Comes b p limit (refused TooLong) 0
-unfolding Comes
+pub too_long : (b p : List ℕ) (limit : ℕ) → store_limit < length b → HasVerdict b p limit (refused TooLong) 0
+unfolding HasVerdict
 too_long b p limit h = inl (h, refl, refl)
 
-pub no_store : (b p : List ℕ) (limit : ℕ) → length b ≤ 16777215 → NoStore b → Comes b p limit (refused Malformed) 0
-unfolding Comes
+pub no_store : (b p : List ℕ) (limit : ℕ) → length b ≤ store_limit → NoStore b → HasVerdict b p limit (refused Malformed) 0
+unfolding HasVerdict
 no_store b p limit h k = inr (λ z. omega (arith, z, h), inl (k, refl, refl))
 
-pub has_store : (b p : List ℕ) (limit : ℕ) (s : PFX) (w : Verdict) (n : ℕ) → length b ≤ 16777215 → IsStore b s → StoreTable p limit s w n → Comes b p limit w n
-unfolding Comes
+pub has_store : (b p : List ℕ) (limit : ℕ) (s : PFX) (w : Verdict) (n : ℕ) → length b ≤ store_limit → IsStore b s → StoreTable p limit s w n → HasVerdict b p limit w n
+unfolding HasVerdict
 has_store b p limit s w n h k t = inr (λ z. omega (arith, z, h), inr (λ none. none s k, (s, k, t)))
 
 pub no_data : (p : List ℕ) (limit : ℕ) (s : PFX) → ((v : List ℕ) → s.auth_safe ≡ content.Data v → ⊥) → StoreTable p limit s (refused Unsupported) 0
@@ -107,9 +108,9 @@ opened_as (Ok v) F G old mid new k is f h = (k + h.0, f v h.0 h.1, omega (arith,
 opened_as (Err e) F G old mid new k is f h = tt
 
 pub refused_by : {T : Type 0} (r : Result T TransferError) (F G : TransferError → ℕ → Type 0) (old mid new k : ℕ) → mid ≡ old + k → ((e : TransferError) (n : ℕ) → F e n → G e (k + n))
-    → IfErr r (Stops F mid new) → IfErr r (Stops G old new)
+    → IfErr r (RefusedAfter F mid new) → IfErr r (RefusedAfter G old new)
 refused_by (Ok v) F G old mid new k is f h = tt
-refused_by (Err e) F G old mid new k is f h = stops F G old mid new k is f e h
+refused_by (Err e) F G old mid new k is f h = refused_later F G old mid new k is f e h
 
 -- The same where no step was taken before.
 pub opened_still : {T : Type 0} (r : Result T TransferError) (F G : T → ℕ → Type 0) (old new : ℕ) → ((v : T) (n : ℕ) → F v n → G v n) → IfOk r (λ v. (n : ℕ) × F v n × (new ≡ old + n))
@@ -117,7 +118,7 @@ pub opened_still : {T : Type 0} (r : Result T TransferError) (F G : T → ℕ �
 opened_still (Ok v) F G old new f h = (h.0, f v h.0 h.1, h.2)
 opened_still (Err e) F G old new f h = tt
 
-pub refused_still : {T : Type 0} (r : Result T TransferError) (F G : TransferError → ℕ → Type 0) (old new : ℕ) → ((e : TransferError) (n : ℕ) → F e n → G e n) → IfErr r (Stops F old new)
-    → IfErr r (Stops G old new)
+pub refused_still : {T : Type 0} (r : Result T TransferError) (F G : TransferError → ℕ → Type 0) (old new : ℕ) → ((e : TransferError) (n : ℕ) → F e n → G e n) → IfErr r (RefusedAfter F old new)
+    → IfErr r (RefusedAfter G old new)
 refused_still (Ok v) F G old new f h = tt
-refused_still (Err e) F G old new f h = stops_as F G old new f e h
+refused_still (Err e) F G old new f h = refused_after_as F G old new f e h

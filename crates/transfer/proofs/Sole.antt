@@ -15,10 +15,11 @@ use Rattle.p12.specs.ContentInfo.{IsContents}
 use Rattle.p12.specs.Pfx.{IsStore}
 use Rattle.p12.specs.SafeBag.{IsBags, NoBags}
 use Rattle.p12.proofs.Laws.{bags_sole, contents_sole, store_sole, unlock_opened}
-use Rattle.transfer.specs.declared.error.TransferError.{TransferError}
-use Rattle.transfer.specs.declared.error.TransferError.TheVariants.{ContentMalformed, KeyMalformed}
-use Rattle.transfer.specs.Parts.{AreOpen, Each, IsFirstFault, Kind, Of, Row}
-use Rattle.transfer.specs.Opening.{Comes, ContentFault, ContentOpens, ContentsTable, KeyOpens, KeysTable, LockFault, MacTable, NoKeyText, Parts, StoreTable, Verdict, all_shrouded, content_share, key_share, of_contents, of_keys, opened, plain, refused}
+use Rattle.transfer.specs.declared.store.error.TransferError.{TransferError}
+use Rattle.transfer.specs.declared.store.error.TransferError.TheVariants.{ContentMalformed, KeyMalformed}
+use Rattle.asn1_core.specs.Sets.{Each}
+use Rattle.transfer.specs.Parts.{AreOpen, IsFirstFault, Of, PartKind, Row}
+use Rattle.transfer.specs.Opening.{HasVerdict, ContentFault, ContentOpens, ContentsTable, KeyOpens, KeysTable, LockFault, MacTable, NoKeyText, PartsTable, StoreTable, Verdict, all_shrouded, content_share, key_share, of_contents, of_keys, opened, plain, refused}
 use Rattle.transfer.specs.Verdicts.{Sole}
 use Rattle.transfer.proofs.Faults.{true_false}
 
@@ -45,10 +46,10 @@ tails : {X : Type 0} (x y : X) (xs ys : List X) → x ∷ xs ≡ y ∷ ys → xs
 tails x y xs ys h = grind (arith, h)
 
 -- A kind whose parts open to one thing, have one fault, and none where they open.
-pub record IsFair {A B : Type 0} (K : Kind A B TransferError) (limit : ℕ) : Type 0 where
-  pub one : (x : A) (y z : B) → K.Opens x y → K.Opens x z → y ≡ z
+pub record IsFair {A B : Type 0} (K : PartKind A B TransferError) (limit : ℕ) : Type 0 where
+  pub one : (x : A) (y z : B) → K.OpensTo x y → K.OpensTo x z → y ≡ z
   pub fault : (sum : ℕ) (x : A) → Sole (K.Fault sum x)
-  pub not_both : (sum : ℕ) (x : A) (y : B) (e : TransferError) (n : ℕ) → K.Opens x y → sum + K.share x ≤ limit → K.Fault sum x e n → ⊥
+  pub not_both : (sum : ℕ) (x : A) (y : B) (e : TransferError) (n : ℕ) → K.OpensTo x y → sum + K.share x ≤ limit → K.Fault sum x e n → ⊥
 
 pub each_sole : {A B : Type 0} (P : A → B → Type 0) (xs : List A) (ys zs : List B) → ((x : A) (y z : B) → P x y → P x z → y ≡ z) → Each P xs ys → Each P xs zs → ys ≡ zs
 each_sole P [] [] [] one h k = refl
@@ -73,59 +74,59 @@ sum_cons f x xs =
     omega (arith, e, one)
 
 -- A part in the midst of parts that are open has no fault.
-no_fault : {A B : Type 0} (K : Kind A B TransferError) (limit : ℕ) → IsFair K limit → (sum : ℕ) (before : List A) (x : A) (behind : List A) (ys : List B)
-    → Each K.Opens (before ++ x ∷ behind) ys → sum + sum_by K.share (before ++ x ∷ behind) ≤ limit → (e : TransferError) (n : ℕ) → K.Fault (sum + sum_by K.share before) x e n → ⊥
+no_fault : {A B : Type 0} (K : PartKind A B TransferError) (limit : ℕ) → IsFair K limit → (sum : ℕ) (before : List A) (x : A) (behind : List A) (ys : List B)
+    → Each K.OpensTo (before ++ x ∷ behind) ys → sum + sum_by K.share (before ++ x ∷ behind) ≤ limit → (e : TransferError) (n : ℕ) → K.Fault (sum + sum_by K.share before) x e n → ⊥
 no_fault K limit fair sum [] x behind ys h le e n f =
-    let y = each_head K.Opens x behind ys h in
+    let y = each_head K.OpensTo x behind ys h in
     fair.not_both (sum + 0) x y.0 e n y.1 (omega (arith, le, sum_cons K.share x behind)) f
 no_fault K limit fair sum (z ∷ before) x behind ys h le e n f =
-    let t = each_tail K.Opens z (before ++ x ∷ behind) ys h in
+    let t = each_tail K.OpensTo z (before ++ x ∷ behind) ys h in
     no_fault K limit fair (sum + K.share z) before x behind t.0 t.1 (omega (arith, le, sum_cons K.share z (before ++ x ∷ behind))) e n (subst (λ s. K.Fault s x e n) (omega (arith, sum_cons K.share z before)) f)
 
 -- Two first faults of one list are one.
-same_fault : {A B : Type 0} (K : Kind A B TransferError) (limit : ℕ) → IsFair K limit → (sum : ℕ) (b c : List A) (x y : A) (u v : List A) (ys zs : List B)
-    → b ++ x ∷ u ≡ c ++ y ∷ v → Each K.Opens b ys → sum + sum_by K.share b ≤ limit → Each K.Opens c zs → sum + sum_by K.share c ≤ limit → (e g : TransferError) (m n : ℕ)
+same_fault : {A B : Type 0} (K : PartKind A B TransferError) (limit : ℕ) → IsFair K limit → (sum : ℕ) (b c : List A) (x y : A) (u v : List A) (ys zs : List B)
+    → b ++ x ∷ u ≡ c ++ y ∷ v → Each K.OpensTo b ys → sum + sum_by K.share b ≤ limit → Each K.OpensTo c zs → sum + sum_by K.share c ≤ limit → (e g : TransferError) (m n : ℕ)
     → K.Fault (sum + sum_by K.share b) x e m → K.Fault (sum + sum_by K.share c) y g n → (e ≡ g) × (sum_by K.share b + m ≡ sum_by K.share c + n)
 same_fault K limit fair sum [] [] x y u v ys zs is p pl q ql e g m n f h =
     let one = fair.fault (sum + 0) x e g m n f (subst (λ t. K.Fault (sum + 0) t g n) (sym (heads x y u v is)) h) in
     (one.0, omega (arith, one.1))
 same_fault K limit fair sum [] (w ∷ c) x y u v ys zs is p pl q ql e g m n f h =
-    let o = each_head K.Opens w c zs q in
+    let o = each_head K.OpensTo w c zs q in
     absurd (fair.not_both (sum + 0) w o.0 e m o.1 (omega (arith, ql, sum_cons K.share w c)) (subst (λ t. K.Fault (sum + 0) t e m) (heads x w u (c ++ y ∷ v) is) f))
 same_fault K limit fair sum (z ∷ b) [] x y u v ys zs is p pl q ql e g m n f h =
-    let o = each_head K.Opens z b ys p in
+    let o = each_head K.OpensTo z b ys p in
     absurd (fair.not_both (sum + 0) z o.0 g n o.1 (omega (arith, pl, sum_cons K.share z b)) (subst (λ t. K.Fault (sum + 0) t g n) (sym (heads z y (b ++ x ∷ u) v is)) h))
 same_fault K limit fair sum (z ∷ b) (w ∷ c) x y u v ys zs is p pl q ql e g m n f h =
     let same = heads z w (b ++ x ∷ u) (c ++ y ∷ v) is in
     let share : K.share z ≡ K.share w = ap K.share same in
     let sz = sum_cons K.share z b in
     let sw = sum_cons K.share w c in
-    let i = each_tail K.Opens z b ys p in
-    let j = each_tail K.Opens w c zs q in
+    let i = each_tail K.OpensTo z b ys p in
+    let j = each_tail K.OpensTo w c zs q in
     let r = same_fault K limit fair (sum + K.share z) b c x y u v i.0 j.0 (tails z w (b ++ x ∷ u) (c ++ y ∷ v) is) i.1 (omega (arith, pl, sz)) j.1 (omega (arith, ql, share, sw)) e g m n
     (subst (λ s. K.Fault s x e m) (omega (arith, sz)) f) (subst (λ s. K.Fault s y g n) (omega (arith, share, sw)) h) in
     (r.0, omega (arith, r.1, share, sz, sw))
 
-pub first_sole : {A B : Type 0} (K : Kind A B TransferError) (limit : ℕ) → IsFair K limit → (sum : ℕ) (xs : List A) → Sole (IsFirstFault K limit sum xs)
+pub first_sole : {A B : Type 0} (K : PartKind A B TransferError) (limit : ℕ) → IsFair K limit → (sum : ℕ) (xs : List A) → Sole (IsFirstFault K limit sum xs)
 first_sole K limit fair sum xs e g m n p q =
     let r = same_fault K limit fair sum p.before q.before p.part q.part p.behind q.behind p.made q.made (sym p.split ∙ q.split) p.open_before.each p.open_before.within q.open_before.each q.open_before.within
     e g p.own q.own p.fault q.fault in
     (r.0, p.steps ∙ r.1 ∙ sym q.steps)
 
-pub open_or_fault : {A B : Type 0} (K : Kind A B TransferError) (limit : ℕ) → IsFair K limit → (sum : ℕ) (xs : List A) (ys : List B) (e : TransferError) (k : ℕ)
+pub open_or_fault : {A B : Type 0} (K : PartKind A B TransferError) (limit : ℕ) → IsFair K limit → (sum : ℕ) (xs : List A) (ys : List B) (e : TransferError) (k : ℕ)
     → AreOpen K limit sum xs ys → IsFirstFault K limit sum xs e k → ⊥
 open_or_fault K limit fair sum xs ys e k a f =
-    no_fault K limit fair sum f.before f.part f.behind ys (subst (λ t. Each K.Opens t ys) f.split a.each) (subst (λ t. sum + sum_by K.share t ≤ limit) f.split a.within) e f.own f.fault
+    no_fault K limit fair sum f.before f.part f.behind ys (subst (λ t. Each K.OpensTo t ys) f.split a.each) (subst (λ t. sum + sum_by K.share t ≤ limit) f.split a.within) e f.own f.fault
 
-pub parts_sole : {A B : Type 0} (K : Kind A B TransferError) (limit : ℕ) → IsFair K limit → (sum : ℕ) (xs : List A) (rest : List B → Verdict → ℕ → Type 0) → ((ys : List B) → Sole (rest ys))
-    → Sole (Parts K limit sum xs rest)
+pub parts_sole : {A B : Type 0} (K : PartKind A B TransferError) (limit : ℕ) → IsFair K limit → (sum : ℕ) (xs : List A) (rest : List B → Verdict → ℕ → Type 0) → ((ys : List B) → Sole (rest ys))
+    → Sole (PartsTable K limit sum xs rest)
 parts_sole K limit fair sum xs rest s v w m n (inl p) (inl q) =
     let r = first_sole K limit fair sum xs p.0 q.0 p.1 q.1 p.2 q.2 in
     (p.3 ∙ ap refused r.0 ∙ sym q.3, omega (arith, p.4, q.4, r.1))
 parts_sole K limit fair sum xs rest s v w m n (inl p) (inr q) = absurd (open_or_fault K limit fair sum xs q.0 p.0 p.1 q.1 p.2)
 parts_sole K limit fair sum xs rest s v w m n (inr p) (inl q) = absurd (open_or_fault K limit fair sum xs p.0 q.0 q.1 p.1 q.2)
 parts_sole K limit fair sum xs rest s v w m n (inr p) (inr q) =
-    s p.0 v w m n p.2 (subst (λ t. rest t w n) (each_sole K.Opens xs q.0 p.0 fair.one q.1.each p.1.each) q.2)
+    s p.0 v w m n p.2 (subst (λ t. rest t w n) (each_sole K.OpensTo xs q.0 p.0 fair.one q.1.each p.1.each) q.2)
 
 -- ---- Locked texts
 
@@ -206,7 +207,7 @@ store_table_sole p limit s =
     row_sole _ _ _ _ (of_sole (λ v. s.auth_safe ≡ content.Data v) _ (λ v w h k. data_same s.auth_safe v w h k) (λ v h.
     row_sole _ _ _ _ (of_sole (λ m. s.mac_data ≡ Some m) (λ m. MacTable p limit v m) (λ x y h k. some_same s.mac_data x y h k) (λ m h. mac_table_sole p limit v m))))
 
-pub comes_sole : (b p : List ℕ) (limit : ℕ) → Sole (Comes b p limit)
-unfolding Comes
-comes_sole b p limit =
+pub verdict_sole : (b p : List ℕ) (limit : ℕ) → Sole (HasVerdict b p limit)
+unfolding HasVerdict
+verdict_sole b p limit =
     row_sole _ _ _ _ (row_sole _ _ _ _ (of_sole (IsStore b) (λ s. StoreTable p limit s) (store_sole b) (λ s h. store_table_sole p limit s)))

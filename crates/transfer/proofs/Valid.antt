@@ -6,10 +6,10 @@ use Rattle.p12.specs.declared.mac_data.MacData.{MacData}
 use Rattle.p12.specs.declared.content_info.ContentInfo.{ContentInfo}
 use Rattle.p12.specs.declared.safe_bag.SafeBag.{SafeBag}
 use Rattle.p12.specs.ContentInfo.{IsContents}
-use Rattle.transfer.specs.declared.error.TransferError.{TransferError}
+use Rattle.transfer.specs.declared.store.error.TransferError.{TransferError}
 use Rattle.transfer.specs.Parts.{AreOpen}
-use Rattle.transfer.specs.Opening.{Comes, ContentsTable, FirstCause, MacTable, all_shrouded, content_share, key_share, of_contents, of_keys, opened, refused}
-use Rattle.transfer.specs.Verdicts.{IsMacOk, IsValid, Opens}
+use Rattle.transfer.specs.Opening.{HasVerdict, ContentsTable, FirstCause, MacTable, all_shrouded, content_share, key_share, of_contents, of_keys, opened, refused}
+use Rattle.transfer.specs.Verdicts.{IsMacOk, IsValid, StoreOpens}
 use Rattle.transfer.proofs.Rows.{all_open, has_contents, has_mac, has_store}
 
 pub not_refused : (gss : List (List SafeBag)) (ks : List (List ℕ)) (e : TransferError) → opened gss ks ≡ refused e → ⊥
@@ -73,13 +73,13 @@ mac_open p limit v m gss ks n (inr (a, inr (b, inr (c, inr (d, inr (e, (cs, is, 
   parts = contents_open p limit m.iterations cs gss ks n t;
 }
 
-pub comes_open : (b p : List ℕ) (limit : ℕ) (gss : List (List SafeBag)) (ks : List (List ℕ)) (n : ℕ) → Comes b p limit (opened gss ks) n → Opens b p gss ks n × (n ≤ limit)
-unfolding Comes
-comes_open b p limit gss ks n (inl h) = absurd (not_refused gss ks _ h.1)
-comes_open b p limit gss ks n (inr (long, inl h)) = absurd (not_refused gss ks _ h.1)
-comes_open b p limit gss ks n (inr (long, inr (none, (s, is, inl h)))) = absurd (not_refused gss ks _ h.1)
-comes_open b p limit gss ks n (inr (long, inr (none, (s, is, inr (other, (v, at, inl h)))))) = absurd (not_refused gss ks _ h.1)
-comes_open b p limit gss ks n (inr (long, inr (none, (s, is, inr (other, (v, at, inr (bare, (m, has, t)))))))) =
+pub verdict_open : (b p : List ℕ) (limit : ℕ) (gss : List (List SafeBag)) (ks : List (List ℕ)) (n : ℕ) → HasVerdict b p limit (opened gss ks) n → StoreOpens b p gss ks n × (n ≤ limit)
+unfolding HasVerdict
+verdict_open b p limit gss ks n (inl h) = absurd (not_refused gss ks _ h.1)
+verdict_open b p limit gss ks n (inr (long, inl h)) = absurd (not_refused gss ks _ h.1)
+verdict_open b p limit gss ks n (inr (long, inr (none, (s, is, inl h)))) = absurd (not_refused gss ks _ h.1)
+verdict_open b p limit gss ks n (inr (long, inr (none, (s, is, inr (other, (v, at, inl h)))))) = absurd (not_refused gss ks _ h.1)
+verdict_open b p limit gss ks n (inr (long, inr (none, (s, is, inr (other, (v, at, inr (bare, (m, has, t)))))))) =
     let o = mac_open p limit v m gss ks n t in (
       record {
         short = not_less _ _ long;
@@ -97,7 +97,7 @@ comes_open b p limit gss ks n (inr (long, inr (none, (s, is, inr (other, (v, at,
       omega (arith, o.parts.steps, o.parts.keys.within),
     )
 
-pub open_comes : (b p : List ℕ) (limit : ℕ) (gss : List (List SafeBag)) (ks : List (List ℕ)) (n : ℕ) → Opens b p gss ks n → n ≤ limit → Comes b p limit (opened gss ks) n
+pub open_comes : (b p : List ℕ) (limit : ℕ) (gss : List (List SafeBag)) (ks : List (List ℕ)) (n : ℕ) → StoreOpens b p gss ks n → n ≤ limit → HasVerdict b p limit (opened gss ks) n
 open_comes b p limit gss ks n o le =
     let m = o.mac in
     let cs = o.parts in
@@ -108,9 +108,9 @@ open_comes b p limit gss ks n o le =
     (has_contents p limit o.text m cs (opened gss ks) n o.mac_ok (omega (arith, o.work, le)) o.opening.contents
     (subst (λ n. ContentsTable p limit m.iterations cs (opened gss ks) n) (omega (arith, o.work)) t)))
 
-pub opened_exactly : (b p : List ℕ) (limit : ℕ) (gss : List (List SafeBag)) (ks : List (List ℕ)) (n : ℕ) → Comes b p limit (opened gss ks) n ↔ (Opens b p gss ks n × (n ≤ limit))
-opened_exactly b p limit gss ks n = (λ h. comes_open b p limit gss ks n h, λ h. open_comes b p limit gss ks n h.0 h.1)
+pub opened_exactly : (b p : List ℕ) (limit : ℕ) (gss : List (List SafeBag)) (ks : List (List ℕ)) (n : ℕ) → HasVerdict b p limit (opened gss ks) n ↔ (StoreOpens b p gss ks n × (n ≤ limit))
+opened_exactly b p limit gss ks n = (λ h. verdict_open b p limit gss ks n h, λ h. open_comes b p limit gss ks n h.0 h.1)
 
 pub valid_exactly : (b p : List ℕ) (limit : ℕ) → FirstCause b p limit None ↔ IsValid b p limit
 valid_exactly b p limit =
-    (λ h. let r = comes_open b p limit h.0 h.1 h.2 h.3 in (h.0, h.1, h.2, r.0, r.1), λ h. (h.0, h.1, h.2, open_comes b p limit h.0 h.1 h.2 h.3 h.4))
+    (λ h. let r = verdict_open b p limit h.0 h.1 h.2 h.3 in (h.0, h.1, h.2, r.0, r.1), λ h. (h.0, h.1, h.2, open_comes b p limit h.0 h.1 h.2 h.3 h.4))

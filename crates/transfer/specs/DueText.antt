@@ -12,6 +12,10 @@ digits_line label octets = label ++ encode_lower octets ++ codes "\n"
 abbrev pub out : List (List ℕ) → List (List ℕ) → List ℕ
 out certificates documents = flat_map (digits_line (codes "cert ")) certificates ++ flat_map (digits_line (codes "key ")) documents
 
+-- lines, one after the other
+abbrev pub joined : List (List ℕ) → List ℕ
+joined lines = flat_map (λ line. line) lines
+
 -- Known octets grow by a proper prefix of the text.
 abbrev pub AppendsPart : Option (List ℕ) → Option (List ℕ) → List ℕ → Type 0
 AppendsPart old new text = (part : List ℕ) × (rest : List ℕ) × (text ≡ part ++ rest) × (rest ≢ []) × Appends old new part

@@ -1,3 +1,6 @@
+pub mod Limits
+pub mod Budget
+pub mod Stream
 pub mod Input
 pub mod Words
 pub mod Asked
@@ -6,6 +9,7 @@ pub mod TwoLines
 pub mod TextCause
 pub mod DueText
 pub mod TransferError
+pub mod Document
 pub mod Sealing
 pub mod Status
 pub mod Parts

@@ -18,9 +18,10 @@ use Rattle.p12.specs.Password.{bmp_password}
 use Rattle.p12.specs.Pfx.{IsStore, NoStore}
 use Rattle.p12.specs.SafeBag.{IsBags, NoBags}
 use Rattle.pkcs8.specs.Seen.{AnyPrivateKey, IsPrivateKey}
-use Rattle.transfer.specs.declared.error.TransferError.{TransferError}
-use Rattle.transfer.specs.declared.error.TransferError.TheVariants.{TooLong, Malformed, Unsupported, MacMissing, MacUnsupported, ZeroIterations, WorkLimit, MacMismatch, ContentMalformed, DecryptFailed, KeyMalformed}
-use Rattle.transfer.specs.Parts.{AreOpen, IsFirstFault, Kind, Of, Row}
+use Rattle.transfer.specs.Limits.{store_limit}
+use Rattle.transfer.specs.declared.store.error.TransferError.{TransferError}
+use Rattle.transfer.specs.declared.store.error.TransferError.TheVariants.{TooLong, Malformed, Unsupported, MacMissing, MacUnsupported, ZeroIterations, WorkLimit, MacMismatch, ContentMalformed, DecryptFailed, KeyMalformed}
+use Rattle.transfer.specs.Parts.{AreOpen, IsFirstFault, PartKind, Of, Row}
 use Rattle.transfer.specs.TransferError.{RefusedBy}
 
 -- ---- Locked texts
@@ -61,8 +62,8 @@ ContentFault p limit sum (content.EncryptedData d) e n =
     LockFault p limit sum a d.encrypted_content_info.encrypted_content (λ m e n. NoBags m × (e ≡ ContentMalformed) × (n ≡ cost a)) e n
 ContentFault p limit sum (content.OtherContext o) e n = (e ≡ Unsupported) × (n ≡ 0)
 
-abbrev pub of_contents : List ℕ → ℕ → Kind ContentInfo (List SafeBag) TransferError
-of_contents p limit = record { share = content_share; Opens = ContentOpens p; Fault = ContentFault p limit }
+abbrev pub of_contents : List ℕ → ℕ → PartKind ContentInfo (List SafeBag) TransferError
+of_contents p limit = record { share = content_share; OpensTo = ContentOpens p; Fault = ContentFault p limit }
 
 -- ---- Bags
 
@@ -117,8 +118,8 @@ KeyFault p limit sum k e n =
     let a = k.encryption_algorithm in
     LockFault p limit sum a k.encrypted_data (λ m e n. NoKeyText m × (e ≡ KeyMalformed) × (n ≡ cost a)) e n
 
-abbrev pub of_keys : List ℕ → ℕ → Kind EncryptedPrivateKeyInfo (List ℕ) TransferError
-of_keys p limit = record { share = key_share; Opens = KeyOpens p; Fault = KeyFault p limit }
+abbrev pub of_keys : List ℕ → ℕ → PartKind EncryptedPrivateKeyInfo (List ℕ) TransferError
+of_keys p limit = record { share = key_share; OpensTo = KeyOpens p; Fault = KeyFault p limit }
 
 -- ---- Stores
 
@@ -128,17 +129,17 @@ pub data Verdict : Type 0 where
   opened : List (List SafeBag) → List (List ℕ) → Verdict
 
 -- The rows for parts in their order: the first that has a fault, or else what they open to decides further.
-abbrev pub Parts : {A B : Type 0} → Kind A B TransferError → ℕ → ℕ → List A → (List B → Verdict → ℕ → Type 0) → Verdict → ℕ → Type 0
-Parts {A} {B} K limit sum xs rest w n =
+abbrev pub PartsTable : {A B : Type 0} → PartKind A B TransferError → ℕ → ℕ → List A → (List B → Verdict → ℕ → Type 0) → Verdict → ℕ → Type 0
+PartsTable {A} {B} K limit sum xs rest w n =
     ((e : TransferError) × (k : ℕ) × IsFirstFault K limit sum xs e k × (w ≡ refused e) × (n ≡ sum + k))
     ⊎ ((ys : List B) × AreOpen K limit sum xs ys × rest ys w n)
 
 -- The encrypted keys among the bags, in store order, come after all contents.
 abbrev pub KeysTable : List ℕ → ℕ → ℕ → List (List SafeBag) → Verdict → ℕ → Type 0
-KeysTable p limit sum gss = Parts (of_keys p limit) limit sum (all_shrouded gss) (λ ks w n. (w ≡ opened gss ks) × (n ≡ sum + sum_by key_share (all_shrouded gss)))
+KeysTable p limit sum gss = PartsTable (of_keys p limit) limit sum (all_shrouded gss) (λ ks w n. (w ≡ opened gss ks) × (n ≡ sum + sum_by key_share (all_shrouded gss)))
 
 unfoldable pub ContentsTable : List ℕ → ℕ → ℕ → List ContentInfo → Verdict → ℕ → Type 0
-ContentsTable p limit sum cs = Parts (of_contents p limit) limit sum cs (KeysTable p limit (sum + sum_by content_share cs))
+ContentsTable p limit sum cs = PartsTable (of_contents p limit) limit sum cs (KeysTable p limit (sum + sum_by content_share cs))
 
 unfoldable pub MacTable : List ℕ → ℕ → List ℕ → MacData → Verdict → ℕ → Type 0
 MacTable p limit v m =
@@ -158,17 +159,17 @@ StoreTable p limit s =
 
 -- The octets b under the password p and the limit: the first row that holds decides what the store comes to, and the
 -- steps that were taken by then.
-unfoldable pub Comes : List ℕ → List ℕ → ℕ → Verdict → ℕ → Type 0
-Comes b p limit =
-    Row (16777215 < length b) (refused TooLong) 0
+unfoldable pub HasVerdict : List ℕ → List ℕ → ℕ → Verdict → ℕ → Type 0
+HasVerdict b p limit =
+    Row (store_limit < length b) (refused TooLong) 0
     (Row (NoStore b) (refused Malformed) 0
     (Of (IsStore b) (λ s. StoreTable p limit s)))
 
 -- The first cause to refuse the store, or none.
 abbrev pub FirstCause : List ℕ → List ℕ → ℕ → Option TransferError → Type 0
-FirstCause b p limit (Some e) = (n : ℕ) × Comes b p limit (refused e) n
-FirstCause b p limit None = (gss : List (List SafeBag)) × (ks : List (List ℕ)) × (n : ℕ) × Comes b p limit (opened gss ks) n
+FirstCause b p limit (Some e) = (n : ℕ) × HasVerdict b p limit (refused e) n
+FirstCause b p limit None = (gss : List (List SafeBag)) × (ks : List (List ℕ)) × (n : ℕ) × HasVerdict b p limit (opened gss ks) n
 
 -- A refusal other than for want of memory has F, with the steps that were taken.
-abbrev pub Stops : (TransferError → ℕ → Type 0) → ℕ → ℕ → TransferError → Type 0
-Stops F old new e = RefusedBy (λ e. (n : ℕ) × F e n × (new ≡ old + n)) ⊥ e
+abbrev pub RefusedAfter : (TransferError → ℕ → Type 0) → ℕ → ℕ → TransferError → Type 0
+RefusedAfter F old new e = RefusedBy (λ e. (n : ℕ) × F e n × (new ≡ old + n)) ⊥ e

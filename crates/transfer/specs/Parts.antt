@@ -1,6 +1,7 @@
 -- Tables of causes, and parts in their order with the first that has a fault.
-use Rattle.std.specs.Prelude.{◌⊎◌, ℕ, ◌+◌, ◌≤◌, ◌≡◌, List, [], ◌∷◌, ◌++◌, ⊤}
+use Rattle.std.specs.Prelude.{◌⊎◌, ℕ, ◌+◌, ◌≤◌, ◌≡◌, List, ◌∷◌, ◌++◌}
 use Rattle.std.specs.List.{sum_by}
+use Rattle.asn1_core.specs.Sets.{Each}
 
 -- A row of a table: where P holds the answer is v, after k steps, and else the further rows decide.
 abbrev pub Row : {V : Type 0} → Type 0 → V → ℕ → (V → ℕ → Type 0) → V → ℕ → Type 0
@@ -10,34 +11,27 @@ Row P v k rest w n = (P × (w ≡ v) × (n ≡ k)) ⊎ ((P → ⊥) × rest w n)
 abbrev pub Of : {X V : Type 0} → (X → Type 0) → (X → V → ℕ → Type 0) → V → ℕ → Type 0
 Of {X} R rest w n = (x : X) × R x × rest x w n
 
--- Each of the one list with the one at its place in the other.
-abbrev pub Each : {A B : Type 0} → (A → B → Type 0) → List A → List B → Type 0
-Each P [] [] = ⊤
-Each P [] (y ∷ ys) = ⊥
-Each P (x ∷ xs) [] = ⊥
-Each P (x ∷ xs) (y ∷ ys) = P x y × Each P xs ys
-
 -- What is done with a part: its share of the work, what it opens to, and what faults it has under a running sum, each with the
 -- steps that were taken at the part by then.
-pub record Kind (A B E : Type 0) : Type 1 where
+pub record PartKind (A B E : Type 0) : Type 1 where
   pub share : A → ℕ
-  pub Opens : A → B → Type 0
+  pub OpensTo : A → B → Type 0
   pub Fault : ℕ → A → E → ℕ → Type 0
 
 -- The parts were opened, and the running sum is within the limit behind the last of them.
-pub record AreOpen {A B E : Type 0} (K : Kind A B E) (limit sum : ℕ) (xs : List A) (ys : List B) : Type 0 where
-  pub each : Each K.Opens xs ys
+pub record AreOpen {A B E : Type 0} (K : PartKind A B E) (limit sum : ℕ) (xs : List A) (ys : List B) : Type 0 where
+  pub each : Each K.OpensTo xs ys
   pub within : sum + sum_by K.share xs ≤ limit
 
 -- Behind the things so far stand those that further parts open to.
-pub record OpensMore {A B E : Type 0} (K : Kind A B E) (limit sum : ℕ) (xs : List A) (old new : List B) : Type 0 where
+pub record OpensMore {A B E : Type 0} (K : PartKind A B E) (limit sum : ℕ) (xs : List A) (old new : List B) : Type 0 where
   pub made : List B
   pub grows : new ≡ old ++ made
   pub opened : AreOpen K limit sum xs made
 
 -- Of the parts `part` is the first that has a fault: those before it were opened within the limit, and its own fault is e. By
 -- then k steps were taken.
-pub record IsFirstFault {A B E : Type 0} (K : Kind A B E) (limit sum : ℕ) (xs : List A) (e : E) (k : ℕ) : Type 0 where
+pub record IsFirstFault {A B E : Type 0} (K : PartKind A B E) (limit sum : ℕ) (xs : List A) (e : E) (k : ℕ) : Type 0 where
   pub before : List A
   pub part : A
   pub behind : List A

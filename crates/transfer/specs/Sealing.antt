@@ -1,19 +1,10 @@
--- Documents that seal private keys anew under drawn octets (RFC 5958 section 3, RFC 8018 section 6.2).
+-- Documents under drawn octets, one for each private key.
 use Rattle.std.specs.Prelude.{ℕ, ◌+◌, ◌*◌, ◌<◌, ◌≡◌, List, [], ◌∷◌, ◌++◌, length, take, drop, get_or, Option, IfSome}
 use Rattle.std.specs.Io.KnownBytes.{Consumes}
-use Rattle.pkcs5.specs.Generation.{pbkdf2_sha256}
-use Rattle.pkcs5.specs.declared.pbes2.encryption_scheme.EncryptionScheme.TheVariants.{Aes256Cbc}
-use Rattle.pkcs8.specs.Seen.{AnyPrivateKey, IsPrivateKey}
-use Rattle.pkcs8.specs.Spelling.{private_key_text}
-use Rattle.pkcs8.specs.Sealing.{IsSealed}
+use Rattle.transfer.specs.Document.{IsDocument}
 use Rattle.outside.specs.Faults.{Rose}
 
--- The document seals the private key of this text: under the password q it opens to the key's canonical encoding. It states PBKDF2
--- over HMAC-SHA-256 with these rounds and this salt, no length of the key, and AES-256 in CBC mode with this IV.
-abbrev pub IsDocument : List ℕ → ℕ → List ℕ → List ℕ → List ℕ → List ℕ → Type 0
-IsDocument document rounds iv salt q text = (k : AnyPrivateKey) × IsPrivateKey text k × IsSealed (pbkdf2_sha256 rounds salt (Aes256Cbc iv)) q (private_key_text k) document
-
--- It does so under these 32 octets: the IV and then the salt.
+-- The document seals the private key of this text under these 32 octets: the IV and then the salt.
 pub record IsDrawn (rounds : ℕ) (q drawn text document : List ℕ) : Type 0 where
   pub iv : List ℕ
   pub salt : List ℕ

@@ -1,9 +1,9 @@
 -- The answers of the top call: their names, their numbers, and of what kind each is.
 use Rattle.std.specs.Prelude.{ℕ, List, ◌++◌, codes}
-use Rattle.transfer.specs.declared.error.TransferError.{TransferError}
-use Rattle.transfer.specs.declared.error.TransferError.TheVariants as refusals
-use Rattle.transfer.specs.declared.status.Status.{Status}
-use Rattle.transfer.specs.declared.status.Status.TheVariants.{Done, Usage, ReadFault, WriteFault, InputTooLong, InputMalformed, Memory, Malformed, Unsupported, MacMissing, MacUnsupported, ZeroIterations, WorkLimit, MacMismatch, ContentMalformed, DecryptFailed, KeyMalformed, Rng, TooLong}
+use Rattle.transfer.specs.declared.store.error.TransferError.{TransferError}
+use Rattle.transfer.specs.declared.store.error.TransferError.TheVariants as refusals
+use Rattle.transfer.specs.declared.program.status.Status.{Status}
+use Rattle.transfer.specs.declared.program.status.Status.TheVariants.{Done, Usage, ReadFault, WriteFault, InputTooLong, InputMalformed, Memory, Malformed, Unsupported, MacMissing, MacUnsupported, ZeroIterations, WorkLimit, MacMismatch, ContentMalformed, DecryptFailed, KeyMalformed, Rng, TooLong}
 
 -- the name of a status
 unfoldable pub status_name : Status → List ℕ
@@ -70,33 +70,33 @@ status_of refusals.Rng = Rng
 status_of refusals.Memory = Memory
 
 -- What kind of answer a status is: so the table of answers has one row for all refusals of the store.
-pub data Kind : Type 0 where
-  done : Kind
-  usage : Kind
-  read_fault : Kind
-  write_fault : Kind
-  too_long : Kind
-  malformed : Kind
-  memory : Kind
-  refused : TransferError → Kind
+pub data AnswerKind : Type 0 where
+  done : AnswerKind
+  usage : AnswerKind
+  read_fault : AnswerKind
+  write_fault : AnswerKind
+  input_too_long : AnswerKind
+  input_malformed : AnswerKind
+  memory : AnswerKind
+  store_refused : TransferError → AnswerKind
 
-abbrev pub kind_of : Status → Kind
+abbrev pub kind_of : Status → AnswerKind
 kind_of Done = done
 kind_of Usage = usage
 kind_of ReadFault = read_fault
 kind_of WriteFault = write_fault
-kind_of InputTooLong = too_long
-kind_of InputMalformed = malformed
+kind_of InputTooLong = input_too_long
+kind_of InputMalformed = input_malformed
 kind_of Memory = memory
-kind_of Malformed = refused refusals.Malformed
-kind_of Unsupported = refused refusals.Unsupported
-kind_of MacMissing = refused refusals.MacMissing
-kind_of MacUnsupported = refused refusals.MacUnsupported
-kind_of ZeroIterations = refused refusals.ZeroIterations
-kind_of WorkLimit = refused refusals.WorkLimit
-kind_of MacMismatch = refused refusals.MacMismatch
-kind_of ContentMalformed = refused refusals.ContentMalformed
-kind_of DecryptFailed = refused refusals.DecryptFailed
-kind_of KeyMalformed = refused refusals.KeyMalformed
-kind_of Rng = refused refusals.Rng
-kind_of TooLong = refused refusals.TooLong
+kind_of Malformed = store_refused refusals.Malformed
+kind_of Unsupported = store_refused refusals.Unsupported
+kind_of MacMissing = store_refused refusals.MacMissing
+kind_of MacUnsupported = store_refused refusals.MacUnsupported
+kind_of ZeroIterations = store_refused refusals.ZeroIterations
+kind_of WorkLimit = store_refused refusals.WorkLimit
+kind_of MacMismatch = store_refused refusals.MacMismatch
+kind_of ContentMalformed = store_refused refusals.ContentMalformed
+kind_of DecryptFailed = store_refused refusals.DecryptFailed
+kind_of KeyMalformed = store_refused refusals.KeyMalformed
+kind_of Rng = store_refused refusals.Rng
+kind_of TooLong = store_refused refusals.TooLong

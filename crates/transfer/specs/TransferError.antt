@@ -1,7 +1,7 @@
 -- The refusals of a store.
 use Rattle.std.specs.Prelude.{ℕ, List, codes, ⊤}
-use Rattle.transfer.specs.declared.error.TransferError.{TransferError}
-use Rattle.transfer.specs.declared.error.TransferError.TheVariants.{TooLong, Malformed, Unsupported, MacMissing, MacUnsupported, ZeroIterations, WorkLimit, MacMismatch, ContentMalformed, DecryptFailed, KeyMalformed, Rng, Memory}
+use Rattle.transfer.specs.declared.store.error.TransferError.{TransferError}
+use Rattle.transfer.specs.declared.store.error.TransferError.TheVariants.{TooLong, Malformed, Unsupported, MacMissing, MacUnsupported, ZeroIterations, WorkLimit, MacMismatch, ContentMalformed, DecryptFailed, KeyMalformed, Rng, Memory}
 
 -- the name of a refusal
 unfoldable pub error_name : TransferError → List ℕ

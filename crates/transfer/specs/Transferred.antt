@@ -1,9 +1,9 @@
 -- What the transfer of a store comes to.
 use Rattle.std.specs.Prelude.{ℕ, ◌+◌, ◌*◌, ◌<◌, ◌≤◌, ◌≡◌, ◌⊎◌, List, length, Option, Some, None, Result, Err, IfSome, IsOk}
 use Rattle.p12.specs.declared.safe_bag.SafeBag.{SafeBag}
-use Rattle.transfer.specs.declared.error.TransferError.{TransferError}
-use Rattle.transfer.specs.declared.error.TransferError.TheVariants.{Memory, Rng}
-use Rattle.transfer.specs.Opening.{Comes, FirstCause, all_certificates, opened, refused}
+use Rattle.transfer.specs.declared.store.error.TransferError.{TransferError}
+use Rattle.transfer.specs.declared.store.error.TransferError.TheVariants.{Memory, Rng}
+use Rattle.transfer.specs.Opening.{HasVerdict, FirstCause, all_certificates, opened, refused}
 use Rattle.transfer.specs.Sealing.{Fails, SealsAll}
 
 -- The store is opened, its certificates stand in order, each of its keys is sealed anew in rounds under the password q by the octets that
@@ -12,7 +12,7 @@ pub record Transfers (b p : List ℕ) (limit rounds : ℕ) (q : List ℕ) (left 
   pub bags : List (List SafeBag)
   pub keys : List (List ℕ)
   pub work : ℕ
-  pub comes : Comes b p limit (opened bags keys) work
+  pub verdict : HasVerdict b p limit (opened bags keys) work
   pub in_order : certificates ≡ all_certificates bags
   pub sealed : SealsAll rounds q left left_after keys documents
   pub counted : steps_after ≡ steps + work
@@ -22,17 +22,22 @@ pub record RunsShort (b p : List ℕ) (limit : ℕ) (left : Option (List ℕ)) (
   pub bags : List (List SafeBag)
   pub keys : List (List ℕ)
   pub work : ℕ
-  pub comes : Comes b p limit (opened bags keys) work
+  pub verdict : HasVerdict b p limit (opened bags keys) work
   pub short : Fails faults faults_after left (length keys)
   pub counted : steps_after ≡ steps + work
 
 -- The store is refused for e, after the steps that were taken.
 abbrev pub IsRefused : List ℕ → List ℕ → ℕ → ℕ → ℕ → TransferError → Type 0
-IsRefused b p limit steps steps_after e = (n : ℕ) × Comes b p limit (refused e) n × (steps_after ≡ steps + n)
+IsRefused b p limit steps steps_after e = (n : ℕ) × HasVerdict b p limit (refused e) n × (steps_after ≡ steps + n)
 
 -- The answer is this refusal, or want of memory.
 abbrev pub IsRefusal : {T : Type 0} → Result T TransferError → TransferError → Type 0
 IsRefusal r e = (r ≡ Err Memory) ⊎ (r ≡ Err e)
+
+-- A store that a cause refuses is refused for that cause, and one that no cause refuses is opened, want of memory apart.
+pub record IsDecided {T : Type 0} (b p : List ℕ) (limit : ℕ) (r : Result T TransferError) : Type 0 where
+  pub refuses : (e : TransferError) → FirstCause b p limit (Some e) → IsRefusal r e
+  pub completes : FirstCause b p limit None → IsOk r ⊎ (r ≡ Err Memory)
 
 -- Each answer comes where its cause holds, want of memory apart.
 pub record IsSettled {T : Type 0} (b p : List ℕ) (limit : ℕ) (left : Option (List ℕ)) (r : Result T TransferError) : Type 0 where
@@ -41,7 +46,7 @@ pub record IsSettled {T : Type 0} (b p : List ℕ) (limit : ℕ) (left : Option 
   -- a store that no cause refuses is transferred, unless the draw fails
   pub completes : FirstCause b p limit None → IsOk r ⊎ IsRefusal r Rng
   -- and, where the draw tells its octets, exactly where it has enough
-  pub draws : (bags : List (List SafeBag)) (keys : List (List ℕ)) (n : ℕ) → Comes b p limit (opened bags keys) n
+  pub draws : (bags : List (List SafeBag)) (keys : List (List ℕ)) (n : ℕ) → HasVerdict b p limit (opened bags keys) n
       → IfSome left (λ d. (length d < 32 * length keys → IsRefusal r Rng) × (32 * length keys ≤ length d → (r ≡ Err Memory) ⊎ IsOk r))
 
 unfoldable pub Settles : {T : Type 0} → List ℕ → List ℕ → ℕ → Option (List ℕ) → Result T TransferError → Type 0

@@ -11,9 +11,10 @@ use Rattle.p12.specs.ContentInfo.{IsContents}
 use Rattle.p12.specs.MacData.{mac_agrees}
 use Rattle.p12.specs.Password.{bmp_password}
 use Rattle.p12.specs.Pfx.{IsStore}
-use Rattle.transfer.specs.declared.error.TransferError.{TransferError}
-use Rattle.transfer.specs.Parts.{Each}
-use Rattle.transfer.specs.Opening.{Comes, ContentOpens, FirstCause, KeyOpens, Verdict, all_shrouded, content_share, key_share, opened}
+use Rattle.transfer.specs.Limits.{store_limit}
+use Rattle.transfer.specs.declared.store.error.TransferError.{TransferError}
+use Rattle.asn1_core.specs.Sets.{Each}
+use Rattle.transfer.specs.Opening.{HasVerdict, ContentOpens, FirstCause, KeyOpens, Verdict, all_shrouded, content_share, key_share, opened}
 
 -- The MAC of a store agrees under a password.
 pub record IsMacOk (p v : List ℕ) (m : MacData) : Type 0 where
@@ -32,8 +33,8 @@ abbrev pub work : MacData → List ContentInfo → List (List SafeBag) → ℕ
 work m cs gss = m.iterations + sum_by content_share cs + sum_by key_share (all_shrouded gss)
 
 -- A store opens to these bags and keys, by so much work, whatever the limit.
-pub record Opens (b p : List ℕ) (gss : List (List SafeBag)) (ks : List (List ℕ)) (n : ℕ) : Type 0 where
-  pub short : length b ≤ 16777215
+pub record StoreOpens (b p : List ℕ) (gss : List (List SafeBag)) (ks : List (List ℕ)) (n : ℕ) : Type 0 where
+  pub short : length b ≤ store_limit
   pub store : PFX
   pub is : IsStore b store
   pub text : List ℕ
@@ -47,7 +48,7 @@ pub record Opens (b p : List ℕ) (gss : List (List SafeBag)) (ks : List (List �
 
 -- A store is valid under a password and a limit.
 abbrev pub IsValid : List ℕ → List ℕ → ℕ → Type 0
-IsValid b p limit = (gss : List (List SafeBag)) × (ks : List (List ℕ)) × (n : ℕ) × Opens b p gss ks n × (n ≤ limit)
+IsValid b p limit = (gss : List (List SafeBag)) × (ks : List (List ℕ)) × (n : ℕ) × StoreOpens b p gss ks n × (n ≤ limit)
 
 -- A table gives at most one answer and one number of steps.
 abbrev pub Sole : {V : Type 0} → (V → ℕ → Type 0) → Type 0
@@ -55,15 +56,15 @@ Sole {V} T = (v w : V) (m n : ℕ) → T v m → T w n → (v ≡ w) × (m ≡ n
 
 -- One store has one verdict, after one number of steps.
 abbrev pub OneVerdict : Type 0
-OneVerdict = (b p : List ℕ) (limit : ℕ) → Sole (Comes b p limit)
+OneVerdict = (b p : List ℕ) (limit : ℕ) → Sole (HasVerdict b p limit)
 
 -- Each list of octets has a verdict, after a number of steps, under each password and each limit.
 abbrev pub EachHasVerdict : Type 0
-EachHasVerdict = (b p : List ℕ) (limit : ℕ) → (w : Verdict) × (n : ℕ) × Comes b p limit w n
+EachHasVerdict = (b p : List ℕ) (limit : ℕ) → (w : Verdict) × (n : ℕ) × HasVerdict b p limit w n
 
 -- A store comes to be opened exactly where it opens within the limit, and then its work is the number of steps.
 abbrev pub OpenedExactly : Type 0
-OpenedExactly = (b p : List ℕ) (limit : ℕ) (gss : List (List SafeBag)) (ks : List (List ℕ)) (n : ℕ) → Comes b p limit (opened gss ks) n ↔ (Opens b p gss ks n × (n ≤ limit))
+OpenedExactly = (b p : List ℕ) (limit : ℕ) (gss : List (List SafeBag)) (ks : List (List ℕ)) (n : ℕ) → HasVerdict b p limit (opened gss ks) n ↔ (StoreOpens b p gss ks n × (n ≤ limit))
 
 -- No cause refuses a store exactly where it is valid.
 abbrev pub ValidExactly : Type 0

@@ -5,30 +5,19 @@
 //! order in `specs/Opening.antt`.
 #![tactic(auto)]
 
-mod certificates;
-mod decision;
-mod digits;
-mod due_text;
-mod error;
-mod input;
-mod input_text;
-mod keys;
 pub mod laws;
-mod lock;
-mod mac;
-mod opening;
-mod password;
-mod sealing;
-mod status;
+mod program;
+mod store;
 #[cfg(test)]
 mod tests;
-mod top_call;
-mod transferred;
-mod words;
 
-pub use error::TransferError;
-pub use laws::{drawn_in_place, each_has_verdict, one_verdict, opened_exactly, valid_exactly};
+pub use laws::{
+    documents_are_canonical, documents_are_sealed, drawn_in_place, each_has_verdict, one_document,
+    one_verdict, opened_exactly, valid_exactly,
+};
 pub use outside::{Failed, MemorySink, MemorySource, ReadSource, Sink, Source, WriteSink};
-pub use status::Status;
-pub use top_call::run;
-pub use transferred::{Transferred, transfer};
+pub use program::status::Status;
+pub use program::top_call::run;
+pub use store::error::TransferError;
+pub use store::opened::{Opened, open_store};
+pub use store::transfer::{Transferred, transfer};

@@ -3,7 +3,9 @@ ghost use Rattle.std.specs.Prelude.{◌≡◌, ◌<◌};
 
 mod key_rows;
 
-use crate::{MemorySink, MemorySource, Status, run};
+use crate::program::due_text::write_lines;
+use crate::program::input_text::read_text;
+use crate::{MemorySink, MemorySource, Opened, Status, TransferError, open_store, run};
 use asn1_core::{Items, Octets};
 use key_rows::{KEY_ROWS, ONE_DOCUMENT, ONE_KEY};
 use mac_modes::{Draw, DrawnBytes, FailingDraw};
@@ -158,6 +160,17 @@ fn a_failed_read_and_a_failed_write_are_named(rt: HostRuntime) -> Result<(), Fai
         words.as_slice(),
         b"3000",
         1,
+        NEVER,
+        Status::ReadFault,
+        b"error: ReadFault\n",
+        Blank::new(1),
+    )?;
+    ran::<Brand, _>(
+        &rt,
+        alloc,
+        words.as_slice(),
+        b"3000",
+        0,
         NEVER,
         Status::ReadFault,
         b"error: ReadFault\n",
@@ -513,4 +526,131 @@ fn a_failed_draw_is_named(rt: HostRuntime) -> Result<(), Fail> {
         b"error: Rng\n",
         Blank::new(1),
     )
+}
+
+#[test]
+fn a_long_line_is_offered_in_one_write(rt: HostRuntime) -> Result<(), Fail> {
+    let alloc = rt.alloc();
+    let mut lines = Items::new(alloc);
+    lines.push(Octets::from_vec(vec![in alloc; b'a'; 100_000]?))?;
+    lines.push(Octets::from_slice(alloc, b"b")?)?;
+    let mut failing = Items::new(alloc);
+    failing.push(1)?;
+    let mut sink = MemorySink::new(alloc, 200_000, failing)?;
+    assert!(rt; write_lines(&mut sink, lines.as_slice()).is_err());
+    assert_eq!(rt; sink.octets().len(), 100_000);
+    Ok(())
+}
+
+/// The private key of `KEY_ROWS`.
+const KEY: [u8; 48] = [
+    0x30, 0x2e, 0x02, 0x01, 0x00, 0x30, 0x05, 0x06, 0x03, 0x2b, 0x65, 0x70, 0x04, 0x22, 0x04, 0x20,
+    0x17, 0xed, 0x9c, 0x73, 0xe9, 0xdb, 0x64, 0x9e, 0xc1, 0x89, 0xa6, 0x12, 0x83, 0x1c, 0x5f, 0xc5,
+    0x70, 0x23, 0x82, 0x07, 0xc1, 0xaa, 0x9d, 0xfb, 0xd2, 0xc5, 0x3e, 0x3f, 0xf5, 0xe5, 0xea, 0x85,
+];
+
+/// Opens the store that an input spells.
+fn opened<L: Ledger>(
+    alloc: Global,
+    input: &[u8],
+    password: &String,
+    limit: u64,
+    blank: Blank,
+) -> Result<Opened, TransferError>
+    requires name { blank.name ≡ L.name }
+    requires parts { blank.parts ≡ L.parts }
+    requires some { 0 < blank.parts }
+{
+    let mut steps = Steps::<L>::open(blank);
+    let Ok(spelled) = read_text(alloc, input) else {
+        return Err(TransferError::Memory);
+    };
+    if password.len() > 1024 {
+        return Err(TransferError::Memory);
+    }
+    open_store(
+        alloc,
+        spelled.store.as_slice(),
+        password.as_str(),
+        limit,
+        &mut steps,
+    )
+}
+
+/// The store in today's format of `KEY_ROWS`: its three counts are 2,048.
+const TODAY: &str =
+    "308201d90201033082018f06092a864886f70d010701a08201800482017c308201783081ad06092a864886f70d010706a0819f30819c02010030819606092a864886f70d010701305706092a864886f70d01050d304a302906092a864886f70d01050c301c040808090a0b0c0d0e0f02020800300c06082a864886f70d02090500301d060960864801650304012a04100f0e0d0c0b0a090808090a0b0c0d0e0f8030797eb97ea88b9daea4c759aadb22bf0292dca075b63dfa5d7c24b4abfffd1dd63726e3be8a2e1aab2382561e091284a93081c506092a864886f70d010701a081b70481b43081b13081ae060b2a864886f70d010c0a0102a0819e30819b305706092a864886f70d01050d304a302906092a864886f70d01050c301c0408000102030405060702020800300c06082a864886f70d02090500301d060960864801650304012a041007060504030201000001020304050607044096649aef5711958f0a0852af2802ed6b5eab6445a06b4693a9af84a27331684f8101e7980111dce6ea909c1bac9489ac322af32914f3008280d58e269abec81b30413031300d06096086480165030402010500042041e55f0ee52fb39a534553d3139b4cfcb8d98007503aa240c4b22e4c44747e8a0408101112131415161702020800";
+
+/// Whether a store was opened to two contents and `KEY`.
+fn has_the_key(store: &Opened) -> bool {
+    match store.keys.get(0) {
+        Some(key) => {
+            store.contents.len() == 2 && store.keys.len() == 1 && key.as_slice() == KEY.as_slice()
+        }
+        None => false,
+    }
+}
+
+/// Whether the store that an input spells is opened to them.
+fn opens_to_the_key<L: Ledger>(
+    alloc: Global,
+    input: &[u8],
+    password: &String,
+    limit: u64,
+    blank: Blank,
+) -> bool
+    requires name { blank.name ≡ L.name }
+    requires parts { blank.parts ≡ L.parts }
+    requires some { 0 < blank.parts }
+{
+    match opened::<L>(alloc, input, password, limit, blank) {
+        Ok(store) => has_the_key(&store),
+        Err(_) => false,
+    }
+}
+
+#[test]
+fn a_store_of_today_is_opened(rt: HostRuntime) -> Result<(), Fail> {
+    let alloc = rt.alloc();
+    let password = String::from_str(alloc, "changeit")?;
+    let opens = opens_to_the_key::<Brand>(alloc, TODAY.as_bytes(), &password, 6144, Blank::new(1));
+    assert!(rt; opens);
+    Ok(())
+}
+
+/// Why the store that an input spells is not opened; None where it is.
+fn refusal<L: Ledger>(
+    alloc: Global,
+    input: &[u8],
+    password: &String,
+    limit: u64,
+    blank: Blank,
+) -> Option<TransferError>
+    requires name { blank.name ≡ L.name }
+    requires parts { blank.parts ≡ L.parts }
+    requires some { 0 < blank.parts }
+{
+    match opened::<L>(alloc, input, password, limit, blank) {
+        Ok(_) => None,
+        Err(e) => Some(e),
+    }
+}
+
+#[test]
+fn stores_with_a_fault_are_not_opened(rt: HostRuntime) -> Result<(), Fail> {
+    let alloc = rt.alloc();
+    let password = String::from_str(alloc, "p")?;
+    for (digits, limit, refused) in [
+        (
+            "3016020103301106092a864886f70d010701a00404023000",
+            9,
+            TransferError::MacMissing,
+        ),
+        (ZERO_MAC_STORE, 0, TransferError::WorkLimit),
+        (ZERO_MAC_STORE, 1, TransferError::MacMismatch),
+    ] {
+        let answer = refusal::<Brand>(alloc, digits.as_bytes(), &password, limit, Blank::new(1));
+        assert_eq!(rt; answer, Some(refused));
+    }
+    Ok(())
 }

@@ -1,0 +1,58 @@
+//! Reading the whole input.
+ghost use Rattle.std.specs.Prelude.{◌≡◌, ◌<◌, ◌≤◌, length, IfOk, IfSome};
+ghost use Rattle.std.specs.Result.{IsErrOf};
+ghost use Rattle.outside.specs.Faults.{Rose};
+ghost use Rattle.transfer.specs.Input.{IsWhole, input_limit};
+ghost use Rattle.transfer.specs.declared.program.input.InputError.TheVariants.{Memory};
+
+use outside::Source;
+use std::alloc::{AllocError, Global};
+
+/// The most octets that the input may have.
+pub(crate) const INPUT_LIMIT: usize = 67_108_864;
+
+/// Why the input was not read whole.
+#[derive(Clone, Copy, Debug, PartialEq, Eq)]
+pub(crate) enum InputError {
+    /// A read failed.
+    ReadFault,
+    /// It has more octets than the limit.
+    InputTooLong,
+    /// There was no memory.
+    Memory,
+}
+
+impl From<AllocError> for InputError {
+    ghost from_gives = { λ _ e. e ≡ Memory };
+
+    fn from(_refused: AllocError) -> InputError {
+        InputError::Memory
+    }
+}
+
+/// Reads the source to its end.
+pub(crate) fn read_input<I: Source>(alloc: Global, input: &mut I) -> Result<Vec<u8>, InputError>
+    ensures count { I.faults input.old ≤ I.faults input.new }
+    ensures whole { IfOk result
+        (λ octets. IsWhole (I.left input.old) (I.left input.new) octets.items) }
+    ensures fault { IsErrOf result InputError.ReadFault
+        → Rose (I.faults input.old) (I.faults input.new) }
+    ensures too_long { IsErrOf result InputError.InputTooLong
+        → IfSome (I.left input.old) (λ x. input_limit < length x) }
+{
+    let mut octets = Vec::new(alloc);
+    let mut buffer = [0u8; 65536];
+    loop {
+        let count = match input.read(&mut buffer) {
+            Ok(count) => count,
+            Err(_) => return Err(InputError::ReadFault),
+        };
+        if count == 0 {
+            return Ok(octets);
+        }
+        if count > INPUT_LIMIT - octets.len() {
+            return Err(InputError::InputTooLong);
+        }
+        octets.extend_from_slice(&buffer[..count])?;
+    }
+}

@@ -1,0 +1,81 @@
+//! Why a store is refused.
+ghost use Rattle.std.specs.Prelude.{◌≡◌, Some};
+ghost use Rattle.transfer.specs.TransferError.{error_name};
+ghost use Rattle.transfer.specs.declared.store.error.TransferError.TheVariants.{Memory};
+
+use asn1_core::Error;
+use std::alloc::AllocError;
+use std::fmt;
+
+/// Why a store is refused: the first cause of this list, or want of memory, which may come at any point.
+#[derive(Clone, Copy, Debug, PartialEq, Eq)]
+pub enum TransferError {
+    /// It has more than 16,777,215 octets.
+    TooLong,
+    /// It is not in the grammar of PKCS#12.
+    Malformed,
+    /// Its outer content is not data; or a content is neither data nor encrypted by an algorithm that can be opened; or an
+    /// encrypted key is under another algorithm.
+    Unsupported,
+    /// It has no MAC.
+    MacMissing,
+    /// The MAC's algorithm is neither SHA-1 nor SHA-256.
+    MacUnsupported,
+    /// The count of the MAC, or of an encrypted content or key, is 0.
+    ZeroIterations,
+    /// The next share of the work would pass the limit.
+    WorkLimit,
+    /// The MAC does not agree under the password.
+    MacMismatch,
+    /// The outer octets are no list of contents, or the plain octets of a content no list of bags.
+    ContentMalformed,
+    /// An encrypted content or key does not open.
+    DecryptFailed,
+    /// The plain octets of an encrypted key are no private key.
+    KeyMalformed,
+    /// The draw failed.
+    Rng,
+    /// There was no memory.
+    Memory,
+}
+
+impl From<AllocError> for TransferError {
+    ghost from_gives = { λ _ e. e ≡ Memory };
+
+    fn from(_refused: AllocError) -> TransferError {
+        TransferError::Memory
+    }
+}
+
+impl From<Error> for TransferError {
+    ghost from_gives = { λ _ e. e ≡ Memory };
+
+    fn from(_refused: Error) -> TransferError {
+        TransferError::Memory
+    }
+}
+
+impl fmt::Display for TransferError {
+    ghost output = { λ e. Some (error_name e) };
+
+    #[tactic(auto, unfolding(crate::specs::TransferError::error_name))]
+    fn fmt<W: fmt::Write>(&self, f: &mut fmt::Formatter<W>) -> fmt::Result {
+        match self {
+            TransferError::TooLong => f.write_str("TooLong"),
+            TransferError::Malformed => f.write_str("Malformed"),
+            TransferError::Unsupported => f.write_str("Unsupported"),
+            TransferError::MacMissing => f.write_str("MacMissing"),
+            TransferError::MacUnsupported => f.write_str("MacUnsupported"),
+            TransferError::ZeroIterations => f.write_str("ZeroIterations"),
+            TransferError::WorkLimit => f.write_str("WorkLimit"),
+            TransferError::MacMismatch => f.write_str("MacMismatch"),
+            TransferError::ContentMalformed => f.write_str("ContentMalformed"),
+            TransferError::DecryptFailed => f.write_str("DecryptFailed"),
+            TransferError::KeyMalformed => f.write_str("KeyMalformed"),
+            TransferError::Rng => f.write_str("Rng"),
+            TransferError::Memory => f.write_str("Memory"),
+        }
+    }
+}
+
+impl std::error::Error for TransferError {}

@@ -1,0 +1,72 @@
+//! Opening a store for its bags and its keys.
+ghost use Rattle.std.specs.Prelude.{◌≡◌, ◌+◌, ◌≤◌, ◌<◌, ◌^◌, ℕ, length, IfOk, IfErr};
+ghost use Rattle.transfer.specs.Opening.{HasVerdict, RefusedAfter, refused};
+ghost use Rattle.transfer.specs.Transferred.{IsDecided};
+ghost use Rattle.transfer.specs.Verdicts.{StoreOpens};
+
+use crate::store::error::TransferError;
+use crate::store::key_text::KeyText;
+use crate::store::open::unlock_store;
+use asn1_core::{Error, Items, Octets};
+use p12::SafeBag;
+use std::alloc::Global;
+use std::sync::ledger::Ledger;
+use steps::Steps;
+
+/// An opened store.
+#[derive(Drop)]
+pub struct Opened {
+    /// The bags of each content, in store order.
+    pub contents: Items<Items<SafeBag>>,
+    /// The plain octets of each encrypted key among them, in store order: the text of a private key (RFC 5958 section 2).
+    pub keys: Items<Octets>,
+}
+
+/// The octets of each text. The only refusal is `Memory`.
+fn octets_of(alloc: Global, texts: &[KeyText]) -> Result<Items<Octets>, Error>
+    ensures ok { IfOk result (λ octets. octets ≡ texts.now) }
+    ensures err { IfErr result (λ e. e ≡ Error.Memory) }
+{
+    let mut octets = Items::new(alloc);
+    for text in texts {
+        octets.push(Octets::from_slice(alloc, text.as_slice())?)?;
+    }
+    Ok(octets)
+}
+
+/// Opens the store under the password: the bags of each content, and the octets of each encrypted private key.
+///
+/// `limit` is the most steps. A step is one digest of an iteration of RFC 7292 appendix B, or one answer of the keyed function
+/// of PBKDF2. The refusals are those of `TransferError` but `Rng`, in their order; each comes exactly where it is the first
+/// cause, but want of memory may come in its place.
+///
+/// Caller: the password has fewer than 2^57 octets.
+pub fn open_store<L: Ledger>(
+    alloc: Global,
+    store: &[u8],
+    password: &str,
+    limit: u64,
+    steps: &mut Steps<L>,
+) -> Result<Opened, TransferError>
+    requires { length password.now < 2 ^ 57 }
+    ensures opened { IfOk result
+        (λ o. (n : ℕ) × StoreOpens store.now password.now o.contents o.keys n
+        × (n ≤ limit) × (steps.new ≡ steps.old + n)) }
+    ensures refused { IfErr result
+        (RefusedAfter (λ e n. HasVerdict store.now password.now limit (refused e) n) steps.old
+        steps.new) }
+    ensures exact { IsDecided store.now password.now limit result }
+    ensures at_most { (steps.old ≤ steps.new) × (steps.new ≤ steps.old + limit) }
+{
+    let unlocked = match unlock_store(alloc, store, password, limit, steps) {
+        Ok(unlocked) => unlocked,
+        Err(e) => return Err(e),
+    };
+    match octets_of(alloc, unlocked.keys.as_slice()) {
+        Ok(keys) => Ok(Opened {
+            contents: unlocked.contents,
+            keys,
+        }),
+        Err(_) => Err(TransferError::Memory),
+    }
+}

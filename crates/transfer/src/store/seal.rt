@@ -1,0 +1,95 @@
+//! Sealing private keys anew, under octets that are drawn.
+ghost use Rattle.std.specs.Prelude.{◌≡◌, ◌≤◌, ◌<◌, ◌^◌, length, IfOk, IfErr};
+ghost use Rattle.transfer.specs.Limits.{rounds_limit};
+ghost use Rattle.transfer.specs.Document.{IsDocument};
+ghost use Rattle.transfer.specs.Sealing.{Fails, Seals, SealsAll};
+ghost use Rattle.transfer.specs.TransferError.{RefusedBy};
+
+use crate::store::error::TransferError;
+use crate::store::key_text::KeyText;
+use asn1_core::{Items, Octets};
+use mac_modes::Draw;
+use pkcs5::pbes2::Parameters;
+use pkcs8::private_keys_are_written;
+use std::alloc::Global;
+
+/// The document of a key with this IV and this salt. The only refusal is `Memory`.
+///
+/// A key out of a store of 16 MiB has no text that is too long, so no other refusal of its encryption comes.
+fn seal_key(
+    alloc: Global,
+    text: &KeyText,
+    new_password: &[u8],
+    rounds: u32,
+    iv: [u8; 16],
+    salt: &[u8],
+) -> Result<Octets, TransferError>
+    requires rounds { (1 ≤ rounds) × (rounds ≤ rounds_limit) }
+    requires salt { length salt.now ≡ 16 }
+    ensures ok { IfOk result
+        (λ document. IsDocument document rounds iv salt.now new_password.now text.now) }
+    ensures err { IfErr result (λ e. e ≡ TransferError.Memory) }
+{
+    let key = text.key();
+    private_keys_are_written(&key);
+    let Ok(parameters) = Parameters::generate_pbkdf2_sha256_aes256cbc(rounds, salt, iv) else {
+        unreachable!()
+    };
+    let Ok(document) = key.encrypt_with_params(alloc, parameters, new_password) else {
+        return Err(TransferError::Memory);
+    };
+    Ok(Octets::from_slice(alloc, document.as_bytes())?)
+}
+
+/// Seals one key under the next 16 octets drawn as IV, and the next 16 as salt.
+fn seal<D: Draw>(
+    alloc: Global,
+    text: &KeyText,
+    new_password: &[u8],
+    rounds: u32,
+    draw: &mut D,
+) -> Result<Octets, TransferError>
+    requires rounds { (1 ≤ rounds) × (rounds ≤ rounds_limit) }
+    ensures count { D.faults draw.old ≤ D.faults draw.new }
+    ensures sealed { IfOk result (λ document. Seals rounds new_password.now (D.left draw.old)
+        (D.left draw.new) text.now document) }
+    ensures cause { IfErr result
+        (RefusedBy (λ e. ⊥) (Fails (D.faults draw.old) (D.faults draw.new) (D.left draw.old) 1)) }
+{
+    let mut iv = [0u8; 16];
+    let mut salt = [0u8; 16];
+    match draw.fill(&mut iv) {
+        Ok(()) => {}
+        Err(_) => return Err(TransferError::Rng),
+    }
+    match draw.fill(&mut salt) {
+        Ok(()) => seal_key(alloc, text, new_password, rounds, iv, &salt),
+        Err(_) => Err(TransferError::Rng),
+    }
+}
+
+/// Seals each key in order under the octets of a draw, 32 for each.
+pub(crate) fn seal_all<D: Draw>(
+    alloc: Global,
+    keys: &[KeyText],
+    new_password: &[u8],
+    rounds: u32,
+    draw: &mut D,
+) -> Result<Items<Octets>, TransferError>
+    requires rounds { (1 ≤ rounds) × (rounds ≤ rounds_limit) }
+    ensures count { D.faults draw.old ≤ D.faults draw.new }
+    ensures sealed { IfOk result (λ documents. SealsAll rounds new_password.now (D.left draw.old)
+        (D.left draw.new) keys.now documents) }
+    ensures cause { IfErr result
+        (RefusedBy (λ e. ⊥) (Fails (D.faults draw.old) (D.faults draw.new) (D.left draw.old)
+        (length keys.now))) }
+{
+    let mut documents = Items::new(alloc);
+    for key in keys {
+        match seal(alloc, key, new_password, rounds, draw) {
+            Ok(document) => documents.push(document)?,
+            Err(e) => return Err(e),
+        }
+    }
+    Ok(documents)
+}

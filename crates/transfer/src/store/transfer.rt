@@ -1,0 +1,71 @@
+//! The transfer of one store.
+ghost use Rattle.std.specs.Prelude.{◌≡◌, ◌≤◌, ◌<◌, ◌+◌, ◌^◌, ℕ, length, IfOk, IfErr, ⊤};
+ghost use Rattle.transfer.specs.Limits.{rounds_limit};
+ghost use Rattle.transfer.specs.TransferError.{RefusedBy};
+ghost use Rattle.transfer.specs.Transferred.{IsRefused, RunsShort, Settles, Transfers};
+
+use crate::store::certificates::certificates_of;
+use crate::store::error::TransferError;
+use crate::store::open::unlock_store;
+use crate::store::seal::seal_all;
+use asn1_core::{Items, Octets};
+use mac_modes::Draw;
+use std::alloc::Global;
+use std::sync::ledger::Ledger;
+use steps::Steps;
+
+/// What a store was transferred to.
+#[derive(Drop)]
+pub struct Transferred {
+    /// The octets of the X.509 certificates, in store order.
+    pub certificates: Items<Octets>,
+    /// A document for each encrypted private key, in store order: an EncryptedPrivateKeyInfo in DER (RFC 5958 section 3).
+    pub documents: Items<Octets>,
+}
+
+/// Opens the store under the password, and answers its certificates and, for each encrypted private key, one document that
+/// seals the key's canonical encoding under the new password: by PBES2 with PBKDF2 over HMAC-SHA-256 in this number of rounds, and
+/// AES-256-CBC. For each key 16 octets of IV and then 16 of salt are drawn, after every other refusal is decided.
+///
+/// `limit` is the most steps. A step is one digest of an iteration of RFC 7292 appendix B, or one answer of the keyed function
+/// of PBKDF2 that opens a part; the rounds of a document are not counted. The refusals stand in `TransferError`, in their
+/// order; each comes exactly where it is the first cause, but want of memory may come in its place. After a refusal other than
+/// `Rng` and `Memory` the draw is as it was.
+///
+/// Caller: the password has fewer than 2^57 octets, and the rounds are 1 to 100,000,000.
+pub fn transfer<D: Draw, L: Ledger>(
+    alloc: Global,
+    store: &[u8],
+    password: &str,
+    new_password: &[u8],
+    rounds: u32,
+    draw: &mut D,
+    limit: u64,
+    steps: &mut Steps<L>,
+) -> Result<Transferred, TransferError>
+    requires password { length password.now < 2 ^ 57 }
+    requires rounds { (1 ≤ rounds) × (rounds ≤ rounds_limit) }
+    ensures opened { IfOk result
+        (λ t. Transfers store.now password.now limit rounds new_password.now (D.left draw.old)
+        (D.left draw.new) steps.old steps.new t.certificates t.documents) }
+    ensures refused { IfErr result
+        (RefusedBy (IsRefused store.now password.now limit steps.old steps.new)
+        (RunsShort store.now password.now limit (D.left draw.old) (D.faults draw.old) (D.faults draw.new) steps.old steps.new)) }
+    ensures exact { Settles store.now password.now limit (D.left draw.old) result }
+    ensures untouched { IfErr result (RefusedBy (λ e. draw.new ≡ draw.old) ⊤) }
+    ensures count { D.faults draw.old ≤ D.faults draw.new }
+    ensures at_most { (steps.old ≤ steps.new) × (steps.new ≤ steps.old + limit) }
+{
+    let opened = match unlock_store(alloc, store, password, limit, steps) {
+        Ok(opened) => opened,
+        Err(e) => return Err(e),
+    };
+    let certificates = certificates_of(alloc, opened.contents.as_slice())?;
+    match seal_all(alloc, opened.keys.as_slice(), new_password, rounds, draw) {
+        Ok(documents) => Ok(Transferred {
+            certificates,
+            documents,
+        }),
+        Err(e) => Err(e),
+    }
+}
