@@ -38,9 +38,33 @@ holds der_without_new_password der_is_written
 
 check_says() {
     ends 0 check "$keyed" --password-file "$keyed_password" || return 1
-    [ "$(cat "$work/said")" = "$(printf 'certificates: 1\nprivate keys: 1')" ]
+    [ "$(head -n 2 "$work/said")" = "$(printf 'certificates: 1\nprivate keys: 1')" ]
 }
 holds check_says_what_is_there check_says
+
+# The attributes of the store $1 as OpenSSL tells them, in the words of check: $2 stands before each line.
+labels() {
+    openssl pkcs12 -in "$1" -passin "file:$2" "$3" -nodes 2>"$work/told" | awk -v kind="$4" '
+        /^ *localKeyID:/ { sub(/^ *localKeyID: */, ""); gsub(/ /, ""); id = tolower($0) }
+        /^ *friendlyName:/ { sub(/^ *friendlyName: */, ""); name = $0 }
+        /^-----BEGIN/ {
+            if (name != "" || id != "") printf "%s-%d: %s%s%s\n", kind, n, name == "" ? "" : "friendly name \"" name "\"",
+                name != "" && id != "" ? ", " : "", id == "" ? "" : "local key id " id
+            n++; name = ""; id = ""
+        }'
+}
+# OpenSSL writes the server's certificate first, whose local key id the key has too.
+names_and_pairs() {
+    have_openssl names_and_pairs || return 0
+    for made_by in openssl-default bouncycastle cryptography-default; do
+        store=$home/examples/$made_by/store.p12 password=$home/examples/$made_by/password
+        ends 0 check "$store" --password-file "$password" || return 1
+        tail -n +3 "$work/said" >"$work/labels"
+        { labels "$store" "$password" -nokeys cert; labels "$store" "$password" -nocerts key | sed 's/$/, belongs to cert-0/'; } |
+            cmp - "$work/labels" || return 1
+    done
+}
+holds check_names_bags_and_pairs names_and_pairs
 
 # --- passwords ---
 
@@ -179,7 +203,13 @@ holds limit_has_bounds fails 2 Usage "0 to 18446744073709551615" check "$plain" 
 holds format_has_two_values fails 2 Usage "pem or der" export "$keyed" --out "$work/none" --format txt
 holds no_such_store fails 3 ReadFault "No such file" check "$work/no-such.p12"
 
-# Stores with a MAC of SHA-512, under PBES2 with Triple DES and under RC2, and as the recipe makes them anew; one of OpenSSL's default.
+# The store of the row $1 of tests/vectors/damaged_stores.txt.
+damaged_store() {
+    awk -v row="$1" '$1 == row { print toupper($NF) }' "$home/tests/vectors/damaged_stores.txt" | basenc --base16 --decode
+}
+
+# Stores with a MAC of SHA-512, under PBES2 with scrypt and with a stated length of the key that is not the cipher's, and under RC2; those
+# that open are one of OpenSSL's default and two under PBES2 with Triple DES.
 other_algorithms() {
     have_openssl other_algorithms || return 0
     openssl pkey -inform DER -in "$home/examples/openssl-key/key-0.der" -out "$work/key.pem" &&
@@ -192,9 +222,14 @@ other_algorithms() {
     echo p >"$work/p"
     ends 0 check "$work/default.p12" --password-file "$work/p" &&
         fails 13 MacUnsupported "SHA-512 (2.16.840.1.101.3.4.2.3)" check "$work/sha512.p12" --password-file "$work/p" &&
-        fails 11 Unsupported "a content is encrypted by PBES2 with" check "$work/triple.p12" --password-file "$work/p" &&
-        fails 11 Unsupported "Triple DES (1.2.840.113549.3.7)" check "$work/triple.p12" --password-file "$work/p" &&
-        fails 11 Unsupported "a private key is encrypted by PBES2 with" check "$work/triple-key.p12" --password-file "$work/p" || return 1
+        ends 0 check "$work/triple.p12" --password-file "$work/p" &&
+        ends 0 check "$work/triple-key.p12" --password-file "$work/p" || return 1
+    damaged_store pbes2_scrypt >"$work/scrypt.p12"
+    damaged_store pbes2_key_length_24 >"$work/key-length.p12"
+    fails 11 Unsupported "a content is encrypted by PBES2 with scrypt (1.3.6.1.4.1.11591.4.11) and AES-256-CBC" \
+        check "$work/scrypt.p12" --password-file "$work/p" &&
+        fails 11 Unsupported "a private key is encrypted by PBES2 with a key of 24 octets for AES-256-CBC (2.16.840.1.101.3.4.1.42), which takes 32" \
+            check "$work/key-length.p12" --password-file "$work/p" || return 1
     if ! openssl pkcs12 -export -legacy -inkey "$work/key.pem" -in "$work/cert.pem" -passout pass:p -out "$work/rc2.p12" 2>/dev/null; then
         echo "skipped RC2: this openssl does not write it"
         return 0
@@ -231,7 +266,7 @@ recipe_of_java() {
     sed -n '/^    keytool /p' "$home/README.md" | sed -e "s|STORE.p12|$work/java.p12 -srcstorepass password|" \
         -e "s|NEW.p12|$work/java-anew.p12 -deststorepass password|" >"$work/recipe.sh"
     sh -e "$work/recipe.sh" >"$work/told" 2>&1 && ends 0 check "$work/java-anew.p12" --password-file "$work/java-password" &&
-        [ "$(cat "$work/said")" = "$(printf 'certificates: 2\nprivate keys: 2')" ]
+        [ "$(head -n 2 "$work/said")" = "$(printf 'certificates: 2\nprivate keys: 2')" ]
 }
 holds the_recipe_of_java recipe_of_java
 

@@ -146,15 +146,18 @@ fn pbes2_named(alloc: Global, params: &[u8]) -> Result<String, AllocError> {
     }
 }
 
-/// PBES2 with a length of the key that may not be the cipher's.
-fn pbes2_key_length(alloc: Global, parameters: &Parameters) -> Result<String, AllocError> {
+/// PBES2 under which nothing is opened: with scrypt, or with a length of the key that is not the cipher's.
+fn pbes2_not_opened(alloc: Global, parameters: &Parameters) -> Result<String, AllocError> {
     let cipher = named(alloc, parameters.encryption.oid())?;
     let size = parameters.encryption.key_size();
     match parameters.kdf.key_length() {
-        Some(stated) => format!(in alloc;
+        Some(stated) if parameters.kdf.is_pbkdf2() => format!(in alloc;
             "PBES2 with a key of {stated} octets for {cipher}, which takes {size}"
         ),
-        None => format!(in alloc; "PBES2 with {cipher}"),
+        _ => {
+            let derivation = named(alloc, parameters.kdf.oid())?;
+            format!(in alloc; "PBES2 with {derivation} and {cipher}")
+        }
     }
 }
 
@@ -179,7 +182,7 @@ pub fn algorithm_name(
         AlgorithmIdentifier::PbeWithSHAAnd3KeyTripleDESCBC(_) => {
             format!(in alloc; "pbeWithSHAAnd3-KeyTripleDES-CBC (1.2.840.113549.1.12.1.3)")
         }
-        AlgorithmIdentifier::Pbes2(parameters) => pbes2_key_length(alloc, parameters),
+        AlgorithmIdentifier::Pbes2(parameters) => pbes2_not_opened(alloc, parameters),
         AlgorithmIdentifier::OtherAlg(other) => other_name(alloc, other),
     }
 }

@@ -4,6 +4,7 @@ ghost use Rattle.p12.specs.AlgorithmIdentifier.{salt_of};
 
 use crate::algorithm_name::{algorithm_name, named};
 use crate::ending::Failure;
+use crate::listing::{Label, Listing};
 use crate::password::Password;
 use asn1_core::{Items, ObjectIdentifier, Octets};
 use p12::{
@@ -147,27 +148,38 @@ fn plain_of(
     }
 }
 
-/// Adds those of the bags that are passed over.
-fn add_passed_over(bags: &[SafeBag], found: &mut Items<PassedOver>) -> Result<(), Failure> {
-    for bag in bags {
-        if let Some(kind) = PassedOver::of(&bag.bag) {
-            found.push(kind)?;
+/// Adds a bag to what was found.
+fn add_bag(alloc: Global, bag: &SafeBag, found: &mut Listing) -> Result<(), Failure> {
+    match PassedOver::of(&bag.bag) {
+        Some(kind) => found.passed_over.push(kind)?,
+        None => {
+            let label = Label::of(alloc, bag)?;
+            match &bag.bag {
+                SafeBagKind::Pkcs8ShroudedKeyBag(_) => found.keys.push(label)?,
+                SafeBagKind::CertBag(_) | SafeBagKind::OtherBagKind(_) => {
+                    found.certificates.push(label)?
+                }
+            }
         }
     }
     Ok(())
 }
 
-/// The bags of a store that are passed over, in store order. The store is one that was transferred under the password.
-pub fn passed_over(
-    alloc: Global,
-    store: &[u8],
-    password: &Password,
-) -> Result<Items<PassedOver>, Failure> {
+/// Adds the bags to what was found.
+fn add_bags(alloc: Global, bags: &[SafeBag], found: &mut Listing) -> Result<(), Failure> {
+    for bag in bags {
+        add_bag(alloc, bag, found)?;
+    }
+    Ok(())
+}
+
+/// What stands in a store that was transferred under the password.
+pub fn listing(alloc: Global, store: &[u8], password: &Password) -> Result<Listing, Failure> {
     let contents = contents_of(alloc, store)?;
-    let mut found = Items::new(alloc);
+    let mut found = Listing::new(alloc);
     for content in contents.as_slice() {
         let bags = bags_of(alloc, content, password)?;
-        add_passed_over(bags.as_slice(), &mut found)?;
+        add_bags(alloc, bags.as_slice(), &mut found)?;
     }
     Ok(found)
 }

@@ -7,6 +7,7 @@ mod command_line;
 mod ending;
 mod folder;
 mod inspection;
+mod listing;
 mod not_der;
 mod opening;
 mod origin;

@@ -3,7 +3,7 @@ use crate::advice::advice;
 use crate::command_line::command;
 use crate::ending::{Ending, Failure};
 use crate::folder::Folder;
-use crate::inspection::{passed_over, visible_work};
+use crate::inspection::{listing, visible_work};
 use crate::opening::{Order, check_store, export_certificates, open_store, read_store};
 use crate::origin::{Origin, read_password};
 use crate::password::{Password, as_new_password};
@@ -144,8 +144,8 @@ fn read_given<R: Runtime + AllocGlobal>(
 
 /// What there is to say of a store that was opened.
 fn summary_of(alloc: Global, given: &Given, counts: Counts) -> Result<String, Failure> {
-    let others = passed_over(alloc, given.store.as_slice(), &given.password)?;
-    Ok(summary(alloc, counts, others.as_slice())?)
+    let found = listing(alloc, given.store.as_slice(), &given.password)?;
+    Ok(summary(alloc, counts, &found)?)
 }
 
 /// Opens a store and keeps nothing of it.
