@@ -109,7 +109,7 @@ done
 
 # The work of each store is the limit that just suffices (examples/README.md).
 for pair in openssl:8192 openssl-unicode:8192 keytool:8192 gnutls:4200000 openssl-key:14336 openssl-default:6144 keytool-default:30000 \
-    gnutls-default:2400000 cryptography-default:42048; do
+    gnutls-default:2400000 cryptography-default:42048 bouncycastle:5120; do
     folder=$examples/${pair%:*}
     steps=${pair#*:}
     refuses "${pair%:*}-limit-too-low" "$folder/store.p12" "$folder/password" WorkLimit --limit "$((steps - 1))"

@@ -7,6 +7,7 @@ import hashlib
 
 from read_store import (
     CERT_BAG,
+    CIPHERS,
     DATA,
     ENCRYPTED_DATA,
     PBES2,
@@ -106,8 +107,11 @@ def encrypt(password, salt, count, blocks):
 
 
 def encrypt_pbes2(password, parameters, blocks):
-    """AES in CBC mode of whole blocks, under the derived key."""
-    encryptor = pbes2_cipher(password, parameters).encryptor()
+    """The cipher in CBC mode of whole blocks, or GCM of any octets with the tag behind them, under the derived key."""
+    cipher = pbes2_cipher(password, parameters)
+    if CIPHERS[parameters[4]][2] is None:
+        return cipher.encrypt(parameters[5], blocks, None)
+    encryptor = cipher.encryptor()
     return encryptor.update(blocks) + encryptor.finalize()
 
 

@@ -48,8 +48,17 @@ FUNCTIONS = {
     "1.2.840.113549.2.11": ("sha512", 64),
 }
 
-# The octets of the key of each cipher of PBES2: AES in CBC mode.
-CIPHERS = {"2.16.840.1.101.3.4.1.2": 16, "2.16.840.1.101.3.4.1.22": 24, "2.16.840.1.101.3.4.1.42": 32}
+# The ciphers of PBES2: the octets of the key, of the initial vector and of a block. AES, Triple DES and DES are in CBC mode; with no
+# block it is AES in GCM.
+CIPHERS = {
+    "2.16.840.1.101.3.4.1.2": (16, 16, 16),
+    "2.16.840.1.101.3.4.1.22": (24, 16, 16),
+    "2.16.840.1.101.3.4.1.42": (32, 16, 16),
+    "1.2.840.113549.3.7": (24, 8, 8),
+    "1.3.14.3.2.7": (8, 8, 8),
+    "2.16.840.1.101.3.4.1.6": (16, 12, None),
+    "2.16.840.1.101.3.4.1.46": (32, 12, None),
+}
 
 # The most octets of a salt of PBKDF2 that is read.
 LONGEST_SALT = 32
@@ -189,7 +198,7 @@ def read_pbes2(octets):
     cipher = scheme.identifier()
     expect(cipher in CIPHERS)
     vector = scheme.octet_string()
-    expect(len(vector) == 16)
+    expect(len(vector) == CIPHERS[cipher][1])
     scheme.end()
     return salt, count, length, function, cipher, vector
 
@@ -398,8 +407,8 @@ def mac_of(password, salt, count, content, algorithm=SHA1):
     return hmac.new(derive(password, salt, count, 3, size, digest), content, digest).digest()
 
 
-def triple_des(password, salt, count):
-    """Triple DES in CBC mode, without padding, under the derived key and initial vector."""
+def cbc_of_des(key, vector):
+    """Triple DES in CBC mode; a key of 8 octets is three times the same, which is DES."""
     with warnings.catch_warnings():
         warnings.simplefilter("ignore")
         from cryptography.hazmat.primitives.ciphers import Cipher, modes
@@ -408,8 +417,12 @@ def triple_des(password, salt, count):
             from cryptography.hazmat.decrepit.ciphers.algorithms import TripleDES
         except ImportError:
             from cryptography.hazmat.primitives.ciphers.algorithms import TripleDES
-        key, vector = derive(password, salt, count, 1, 24), derive(password, salt, count, 2, 8)
-        return Cipher(TripleDES(key), modes.CBC(vector))
+        return Cipher(TripleDES(key if len(key) == 24 else key * 3), modes.CBC(vector))
+
+
+def triple_des(password, salt, count):
+    """Triple DES in CBC mode, without padding, under the derived key and initial vector."""
+    return cbc_of_des(derive(password, salt, count, 1, 24), derive(password, salt, count, 2, 8))
 
 
 def unlock(password, salt, count, ciphertext):
@@ -424,23 +437,46 @@ def unlock(password, salt, count, ciphertext):
     return padded[:-size]
 
 
-def pbes2_cipher(password, parameters):
-    """AES in CBC mode, without padding, under the key that PBKDF2 derives from the password's UTF-8."""
-    from cryptography.hazmat.primitives.ciphers import Cipher, algorithms, modes
+def pbes2_key(password, parameters):
+    """The key that PBKDF2 derives from the password's UTF-8."""
+    salt, count, _, function, cipher, _ = parameters
+    return hashlib.pbkdf2_hmac(FUNCTIONS[function][0], password.encode(), salt, count, CIPHERS[cipher][0])
 
-    salt, count, _, function, cipher, vector = parameters
-    key = hashlib.pbkdf2_hmac(FUNCTIONS[function][0], password.encode(), salt, count, CIPHERS[cipher])
-    return Cipher(algorithms.AES(key), modes.CBC(vector))
+
+def pbes2_cipher(password, parameters):
+    """The cipher in CBC mode, without padding, or in GCM, under the derived key."""
+    from cryptography.hazmat.primitives.ciphers import Cipher, algorithms, modes
+    from cryptography.hazmat.primitives.ciphers.aead import AESGCM
+
+    key, vector, block = pbes2_key(password, parameters), parameters[5], CIPHERS[parameters[4]][2]
+    if block is None:
+        return AESGCM(key)
+    return cbc_of_des(key, vector) if block == 8 else Cipher(algorithms.AES(key), modes.CBC(vector))
+
+
+def unlock_gcm(password, parameters, ciphertext):
+    """The plaintext, or None where the tag behind the ciphertext is not its own."""
+    from cryptography.exceptions import InvalidTag
+
+    if len(ciphertext) < 16:
+        return None
+    try:
+        return pbes2_cipher(password, parameters).decrypt(parameters[5], ciphertext, None)
+    except InvalidTag:
+        return None
 
 
 def unlock_pbes2(password, parameters, ciphertext):
-    """The plaintext, or None where the ciphertext has no right length or padding."""
-    if not ciphertext or len(ciphertext) % 16:
+    """The plaintext, or None where the ciphertext has no right length or padding, or no right tag."""
+    block = CIPHERS[parameters[4]][2]
+    if block is None:
+        return unlock_gcm(password, parameters, ciphertext)
+    if not ciphertext or len(ciphertext) % block:
         return None
     decryptor = pbes2_cipher(password, parameters).decryptor()
     padded = decryptor.update(ciphertext) + decryptor.finalize()
     size = padded[-1]
-    if not 1 <= size <= 16 or padded[-size:] != bytes([size]) * size:
+    if not 1 <= size <= block or padded[-size:] != bytes([size]) * size:
         return None
     return padded[:-size]
 
@@ -514,7 +550,7 @@ class Opening:
 
     def unlock_pbes2(self, parameters, ciphertext):
         _, count, length, function, cipher, _ = parameters
-        size = CIPHERS[cipher]
+        size = CIPHERS[cipher][0]
         if length not in (None, size):
             raise Refused("Unsupported")
         if count == 0:

@@ -52,7 +52,8 @@ SECRET_BAG = "1.2.840.113549.1.12.10.1.5"
 UNSTRUCTURED_NAME = "1.2.840.113549.1.9.2"
 HMAC_MD5, HMAC_SHA1, HMAC_SHA224, HMAC_SHA256, HMAC_SHA384, HMAC_SHA512 = (f"1.2.840.113549.2.{arc}" for arc in range(6, 12))
 AES_128, AES_192, AES_256 = (f"2.16.840.1.101.3.4.1.{arc}" for arc in (2, 22, 42))
-TRIPLE_DES_CBC, AES_256_GCM = "1.2.840.113549.3.7", "2.16.840.1.101.3.4.1.46"
+TRIPLE_DES_CBC, DES_CBC = "1.2.840.113549.3.7", "1.3.14.3.2.7"
+AES_128_GCM, AES_256_GCM = "2.16.840.1.101.3.4.1.6", "2.16.840.1.101.3.4.1.46"
 ENVELOPED_DATA = "1.2.840.113549.1.7.3"
 
 rows = []
@@ -409,7 +410,8 @@ def under_pbes2(octets, parameters, password=PASSWORD):
     """The ciphertext of the octets, padded."""
     if parameters[3] is None:
         parameters = parameters[:3] + (HMAC_SHA1,) + parameters[4:]
-    return make.encrypt_pbes2(password, parameters, make.padded(octets, 16))
+    block = read.CIPHERS[parameters[4]][2]
+    return make.encrypt_pbes2(password, parameters, octets if block is None else make.padded(octets, block))
 
 
 def pbes2_content(parameters, octets=BAGS, password=PASSWORD):
@@ -466,6 +468,11 @@ def todays_contents():
         ("count_3", pbes2(count=3), 3),
         ("salt_of_32", pbes2(salt=bytes(32)), 2),
         ("salt_of_none", pbes2(salt=b""), 2),
+        ("triple_des", pbes2(cipher=TRIPLE_DES_CBC, vector=VECTOR[:8]), 2),
+        ("sha1_triple_des", pbes2(function=HMAC_SHA1, cipher=TRIPLE_DES_CBC, vector=VECTOR[:8]), 4),
+        ("des", pbes2(cipher=DES_CBC, vector=VECTOR[:8]), 2),
+        ("aes128_gcm", pbes2(cipher=AES_128_GCM, vector=VECTOR[:12]), 2),
+        ("aes256_gcm", pbes2(cipher=AES_256_GCM, vector=VECTOR[:12]), 2),
     ):
         row(f"pbes2_{name}", today(parameters), "Done", 1 + work, [CERTIFICATE])
     store = today(pbes2())
@@ -503,10 +510,14 @@ def todays_schemes():
         ("salt_of_33", pbes2(salt=bytes(33))),
         ("vector_of_15", pbes2(vector=VECTOR[:15])),
         ("under_hmac_md5", pbes2(function=HMAC_MD5)),
-        ("triple_des", pbes2(cipher=TRIPLE_DES_CBC, vector=VECTOR[:8])),
-        ("aes256_gcm", pbes2(cipher=AES_256_GCM)),
+        ("triple_des_vector_of_16", pbes2(cipher=TRIPLE_DES_CBC)),
+        ("aes256_gcm_nonce_of_16", pbes2(cipher=AES_256_GCM)),
     ):
         row(f"pbes2_{name}", named(parameters), "Unsupported", 1)
+    # The ciphertext of another cipher.
+    row("pbes2_cbc_as_gcm", named(pbes2(cipher=AES_256_GCM, vector=VECTOR[:12])), "DecryptFailed", 3)
+    row("pbes2_aes_as_triple_des", named(pbes2(cipher=TRIPLE_DES_CBC, vector=VECTOR[:8])), "DecryptFailed", 3)
+    row("pbes2_triple_des_key_length_32", named(pbes2(cipher=TRIPLE_DES_CBC, vector=VECTOR[:8], length=32)), "Unsupported", 1)
     row("pbes2_function_with_a_number", named(pbes2(), function_parameters=make.number(0)), "Unsupported", 1)
     costs = make.sequence(make.octet_string(PBKDF2_SALT), make.number(2), make.number(8), make.number(1))
     scrypt = make.sequence(make.identifier(SCRYPT), costs)
@@ -536,6 +547,15 @@ def todays_ciphertexts():
         certificate = bytes(range(1, size + 1))
         bags = make.sequence(make.certificate_bag(certificate))
         row(f"pbes2_padding_of_{16 - len(bags) % 16}", today(pbes2(), octets=bags), "Done", 3, [certificate])
+    gcm = pbes2(cipher=AES_256_GCM, vector=VECTOR[:12])
+    tagged = under_pbes2(BAGS, gcm)
+
+    def sealed(octets):
+        return with_sha256(make.sequence(make.encrypted_data(make.pbes2(gcm), octets)))
+
+    row("pbes2_gcm_last_bit_of_the_tag", sealed(flipped(tagged, len(tagged) - 1)), "DecryptFailed", 3)
+    row("pbes2_gcm_first_bit", sealed(flipped(tagged, 0)), "DecryptFailed", 3)
+    row("pbes2_gcm_of_15", sealed(tagged[:15]), "DecryptFailed", 3)
     fill = 16 - len(BAGS) % 16
     row("pbes2_padding_of_0", blocks(BAGS + bytes(fill)), "DecryptFailed", 3)
     row("pbes2_padding_of_17", blocks(BAGS + bytes([17]) * fill), "DecryptFailed", 3)
@@ -563,7 +583,8 @@ def todays_keys():
     row("pbes2_key_that_is_a_certificate", sealed(CERTIFICATE), "KeyMalformed", 5, drawn=DRAWN)
     row("pbes2_key_length_24", named(make.pbes2(pbes2(length=24))), "Unsupported", 3, drawn=DRAWN)
     row("pbes2_key_count_0", named(make.pbes2(pbes2(count=0))), "ZeroIterations", 3, drawn=DRAWN)
-    row("pbes2_key_triple_des", named(make.pbes2(pbes2(cipher=TRIPLE_DES_CBC))), "Unsupported", 3, drawn=DRAWN)
+    row("pbes2_key_triple_des", sealed(ED25519_KEY, pbes2(cipher=TRIPLE_DES_CBC, vector=VECTOR[:8])), "Done", 5, [CERTIFICATE], one, drawn=DRAWN)
+    row("pbes2_key_aes256_gcm", sealed(ED25519_KEY, pbes2(cipher=AES_256_GCM, vector=VECTOR[:12])), "Done", 5, [CERTIFICATE], one, drawn=DRAWN)
     row("pbes2_key_empty", named(make.pbes2(pbes2()), b""), "DecryptFailed", 5, drawn=DRAWN)
     # A key under Triple DES in a store of today.
     mixed = with_sha256(make.sequence(pbes2_content(pbes2()), make.data(make.sequence(KEY_BAG))))

@@ -14,6 +14,7 @@ import hashlib
 
 from cryptography.hazmat.primitives import padding
 from cryptography.hazmat.primitives.ciphers import Cipher, algorithms, modes
+from cryptography.hazmat.primitives.ciphers.aead import AESGCM
 
 FUNCTIONS = {"sha1": 7, "sha224": 8, "sha256": 9, "sha384": 10, "sha512": 11}
 CIPHERS = {16: 2, 24: 22, 32: 42}
@@ -145,10 +146,80 @@ for other in ({}, {"default": True}, {"default": True, "null": False}):
 parts = ("sha256", 2048, bytes(range(8)), 16, bytes(range(0xA0, 0xB0)))
 written(scheme(*parts, stated=16), scheme(*parts, stated=16))
 
-print("\n# schemes of Python's cryptography and OpenSSL that are not known: scrypt, Triple DES and DES")
-for digits, unknown in (
-    ("304f06092a864886f70d01050d3042302106092b06010401da47040b30140408e6211e2348ad69e002024000020108020101301d060960864801650304012a04109bd0a6251f2254f9fd5963887c27cf01", "1.3.6.1.4.1.11591.4.11"),
-    ("304e06092a864886f70d01050d3041302906092a864886f70d01050c301c040832a0ae2e01bbe32902020800300c06082a864886f70d02090500301406082a864886f70d0307040897e8f53ab0aca359", "1.2.840.113549.3.7"),
-    ("304b06092a864886f70d01050d303e302906092a864886f70d01050c301c040809e7edfbd9f21e2b02020800300c06082a864886f70d02090500301106052b0e0302070408f4aaf206a18de7ad", "1.3.14.3.2.7"),
-):
-    print(f"pkcs5-scheme {digits} = !OidUnknown {unknown}")
+# ---- other functions and ciphers
+
+HUNTER = b"hunter42"
+# a scheme of Python's cryptography or OpenSSL, and what it seals the key to
+OTHERS = [
+    ("304f06092a864886f70d01050d3042302106092b06010401da47040b30140408e6211e2348ad69e002024000020108020101301d060960864801650304012a04109bd0a6251f2254f9fd5963887c27cf01",
+     "cc62ba773c0f495fab3668e4fcefcdb08e78a0ee15e0a15013f62abe08daa742065eeb366d6e6c98cc3b0e7e69bdc861c88afeb8f03dba1e2c6d99d06d17360c"),
+    ("304e06092a864886f70d01050d3041302906092a864886f70d01050c301c040832a0ae2e01bbe32902020800300c06082a864886f70d02090500301406082a864886f70d0307040897e8f53ab0aca359",
+     "2d8e4cba271a1d33659426883bb7b405d5cffc64aee868ab0b5774b88c12056fec6cae1d9a12dde51140dfd799d825acd592172763866f93"),
+]
+BY_DES = ("304b06092a864886f70d01050d303e302906092a864886f70d01050c301c040809e7edfbd9f21e2b02020800300c06082a864886f70d02090500301106052b0e0302070408f4aaf206a18de7ad",
+          "fe9bb48dbeb61112a44cd9a20870caea642b4d3110ae7783022b4e3a84cc9f793e4e3893840181fbc63d75297b416a0b96cb7f9ab45ceaba")
+AES_256 = "60864801650304%02x%02x" % (1, 42)
+GCM = {16: "60864801650304%02x%02x" % (1, 6), 32: "60864801650304%02x%02x" % (1, 46)}
+NONCE = bytes(range(0xA0, 0xAC))
+
+
+def by_scrypt(salt, cost, block_size, pieces, cipher, iv, stated=None):
+    """A scheme's text under scrypt."""
+    length = number(stated) if stated else b""
+    params = element(0x30, element(4, salt), number(cost), number(block_size), number(pieces), length)
+    kdf = element(0x30, identifier("2b06010401da47040b"), params)
+    cipher = element(0x30, identifier(cipher), element(4, iv))
+    return element(0x30, identifier("2a864886f70d01050d"), element(0x30, kdf, cipher))
+
+
+def by_gcm(salt, rounds, size):
+    """A scheme's text under PBKDF2 with SHA-256, and AES in Galois counter mode."""
+    prf = element(0x30, identifier("2a864886f70d0209"), b"\x05\x00")
+    kdf = element(0x30, identifier("2a864886f70d01050c"), element(0x30, element(4, salt), number(rounds), prf))
+    cipher = element(0x30, identifier(GCM[size]), element(4, NONCE))
+    return element(0x30, identifier("2a864886f70d01050d"), element(0x30, kdf, cipher))
+
+
+def pbes1(last, salt, rounds):
+    parameters = element(0x30, element(4, salt), number(rounds))
+    return element(0x30, identifier("2a864886f70d0105%02x" % last), parameters)
+
+
+print("\n# the key under scrypt, Triple DES and DES, by Python's cryptography and OpenSSL; DES seals nothing")
+for digits, sealed_digits in OTHERS:
+    text, ciphertext = bytes.fromhex(digits), bytes.fromhex(sealed_digits)
+    written(text, text)
+    both(text, HUNTER, ciphertext, KEY)
+text, ciphertext = bytes.fromhex(BY_DES[0]), bytes.fromhex(BY_DES[1])
+written(text, text)
+opens(text, HUNTER, ciphertext, word(KEY))
+print(f"pkcs5-encrypt {word(text)} {word(HUNTER)} {word(KEY)} = !UnsupportedAlgorithm 1.3.14.3.2.7")
+
+print("\n# Galois counter mode, under PBKDF2 and scrypt, by Python's hashlib and cryptography")
+for size in (16, 32):
+    for plain in (b"", b"sixteen octets..", KEY):
+        text = by_gcm(b"saltSALT", 3, size)
+        ciphertext = AESGCM(hashlib.pbkdf2_hmac("sha256", HUNTER, b"saltSALT", 3, size)).encrypt(NONCE, plain, None)
+        both(text, HUNTER, ciphertext, plain)
+        opens(text, HUNTER, ciphertext[:-1] + bytes([ciphertext[-1] ^ 1]), "!DecryptFailed")
+        opens(text, HUNTER, ciphertext[:15], "!DecryptFailed")
+    text = by_scrypt(b"salt", 16, 1, 1, GCM[size], NONCE, stated=size)
+    key = hashlib.scrypt(HUNTER, salt=b"salt", n=16, r=1, p=1, dklen=size)
+    written(text, text)
+    both(text, HUNTER, AESGCM(key).encrypt(NONCE, b"a text", None), b"a text")
+
+print("\n# costs that scrypt refuses, and a stated length that is not the cipher's")
+for cost, block_size, pieces, stated in ((0, 8, 1, None), (1, 8, 1, None), (3, 8, 1, None), (2**16, 1, 1, None),
+                                         (16, 0, 1, None), (16, 1, 0, None), (16, 65_535, 16_385, None), (16, 1, 1, 16)):
+    text = by_scrypt(b"salt", cost, block_size, pieces, AES_256, IV, stated=stated)
+    written(text, text)
+    opens(text, HUNTER, bytes(16), "!AlgorithmParametersInvalid 1.3.6.1.4.1.11591.4.11")
+
+print("\n# schemes of PBES1 are read and written; nothing is opened or sealed under them")
+for last in (1, 3, 4, 6, 10, 11):
+    text = pbes1(last, bytes(range(8)), 2048)
+    written(text, text)
+    opens(text, HUNTER, bytes(16), "!NoPbes1CryptSupport")
+    print(f"pkcs5-encrypt {word(text)} {word(HUNTER)} {word(KEY)} = !NoPbes1CryptSupport")
+for text in (pbes1(2, bytes(range(8)), 2048), pbes1(3, bytes(range(7)), 1), pbes1(3, bytes(range(9)), 1), pbes1(3, bytes(range(8)), 65_536)):
+    print(f"pkcs5-scheme {word(text)} = !Malformed")

@@ -78,11 +78,14 @@ fn asn1_word(alloc: Global, refusal: &asn1_core::Error) -> Result<String, AllocE
     }
 }
 
-/// The word of a refusal of a scheme; with the identifier of the algorithm whose parameters do not fit.
+/// The word of a refusal of a scheme; with the identifier of the algorithm whose parameters do not fit, or that seals nothing.
 fn pkcs5_word(alloc: Global, refusal: &pkcs5::Error) -> Result<String, AllocError> {
     match refusal {
         pkcs5::Error::AlgorithmParametersInvalid { oid } => {
             format!(in alloc; "!AlgorithmParametersInvalid {oid}")
+        }
+        pkcs5::Error::UnsupportedAlgorithm { oid } => {
+            format!(in alloc; "!UnsupportedAlgorithm {oid}")
         }
         _ => format!(in alloc; "!{refusal:?}"),
     }
