@@ -1,13 +1,14 @@
 #!/bin/sh
 # Keys from passwords: 600,000 rounds of PBKDF2 over HMAC-SHA256 and ten keys of scrypt (log_n 14, r 8, p 1), beside Python's hashlib, and 3,000,000
-# iterations of PKCS#12's derivation (RFC 7292), beside OpenSSL's library.
+# iterations of PKCS#12's derivation (RFC 7292), beside OpenSSL's library. scrypt also beside libscrypt, whose code has no vector instructions,
+# where that is there (Debian's libscrypt0).
 set -eu
 # shellcheck source=bench/building.sh
 . "$(dirname "$0")/building.sh"
 
 # The same key by another program for the mode $1 and the number $2: the key, and the time without that of starting.
 others() {
-    python3 - "$1" "$2" <<'PYTHON'
+    python3 - "$1" "$2" "${scalar:-}" <<'PYTHON'
 import ctypes, hashlib, resource, sys
 
 
@@ -15,7 +16,10 @@ def user_time():
     return resource.getrusage(resource.RUSAGE_SELF).ru_utime
 
 
-mode, n = sys.argv[1], int(sys.argv[2])
+mode, n, scalar = sys.argv[1], int(sys.argv[2]), sys.argv[3] != ""
+if scalar:
+    libscrypt, derived = ctypes.CDLL("libscrypt.so.0"), ctypes.create_string_buffer(32)
+    costs = [ctypes.c_uint64(1 << n), ctypes.c_uint32(8), ctypes.c_uint32(1)]
 if mode == "pkcs12":
     crypto = ctypes.CDLL("libcrypto.so.3")
     crypto.EVP_sha1.restype = ctypes.c_void_p
@@ -26,6 +30,10 @@ if mode == "pbkdf2":
 elif mode == "scrypt":
     key = b"a password of thirty-two octets."
     for _ in range(10):
+        if scalar:
+            libscrypt.libscrypt_scrypt(key, len(key), b"salt", 4, *costs, derived, 32)
+            key = derived.raw
+            continue
         key = hashlib.scrypt(key, salt=b"salt", n=1 << n, r=8, p=1, dklen=32, maxmem=1 << 30)
 else:
     digest = ctypes.c_void_p(crypto.EVP_sha1())
@@ -65,4 +73,9 @@ build derivations "octet_core outside asn1_core der_core spki steps block_core m
 line "seconds of user time" "this program" other ratio
 row "PBKDF2-HMAC-SHA256, 600,000 rounds" pbkdf2 600000
 row "scrypt, log_n 14, r 8, p 1, ten keys" scrypt 14
+if python3 -c 'import ctypes; ctypes.CDLL("libscrypt.so.0")' 2>/dev/null; then
+    scalar=yes
+    row "the same, beside libscrypt" scrypt 14
+    scalar=
+fi
 row "PKCS#12 with SHA-1, 3,000,000 iterations" pkcs12 3000000
