@@ -65,4 +65,11 @@ impl<T> Items<T> {
     {
         self.items.as_slice()
     }
+
+    /// The items in a vector, which takes them over. This takes no memory.
+    pub fn into_vec(self) -> Vec<T>
+        ensures { result.items ≡ self }
+    {
+        self.items
+    }
 }

@@ -15,6 +15,3 @@ pub use octets::Octets;
 pub use padded::pad;
 pub use short_octets::ShortOctets;
 pub use text::Text;
-
-#[cfg(test)]
-mod tests;

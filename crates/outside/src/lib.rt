@@ -28,6 +28,3 @@ pub use sink::Sink;
 pub use source::Source;
 pub use try_rng_draw::TryRngDraw;
 pub use write_sink::WriteSink;
-
-#[cfg(test)]
-mod tests;

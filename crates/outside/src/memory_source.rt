@@ -1,5 +1,5 @@
 //! A source over octets in memory.
-ghost use Rattle.std.specs.Prelude.{◌≡◌, ◌<◌, length, Some, IfOk, is_err};
+ghost use Rattle.std.specs.Prelude.{◌≡◌, ◌<◌, length, Some, IfOk, OnOk, is_err};
 ghost use Rattle.std.specs.Io.{ReadsAtMost};
 ghost use Rattle.outside.specs.Faults.{HasCause};
 ghost use Rattle.outside.specs.Source.{Reads};
@@ -74,6 +74,7 @@ impl Source for MemorySource {
         ensures bound { ReadsAtMost result buf.new }
         ensures octets { Reads (Some self.old.rest) (Some self.new.rest) result buf.new }
         ensures cause { HasCause self.old.faults self.new.faults result }
+        ensures no_fault { OnOk result (self.new.faults ≡ self.old.faults) }
         ensures failed { is_err result ≡ read_fails self.old }
         ensures count { IfOk result (λ n. n ≡ read_count self.old (length buf.old)) }
         ensures after { self.new ≡ after_read self.old (length buf.old) }

@@ -1,5 +1,5 @@
 //! Where octets come from.
-ghost use Rattle.std.specs.Prelude.{ℕ, List};
+ghost use Rattle.std.specs.Prelude.{ℕ, List, ◌≡◌, OnOk};
 ghost use Rattle.std.specs.declared.option.Option.{Option};
 ghost use Rattle.std.specs.Io.{ReadsAtMost};
 ghost use Rattle.outside.specs.Faults.{HasCause};
@@ -8,7 +8,7 @@ ghost use Rattle.outside.specs.Source.{Reads};
 use crate::failed::Failed;
 
 /// Where octets come from. A source may tell which octets are to come, in `left`, or nothing, and it counts its faults:
-/// the count never falls, and stays at `u64::MAX` once it stands there.
+/// the count never falls, stays at `u64::MAX` once it stands there, and a read that does not fail leaves it as it is.
 pub trait Source {
     // the octets still to come, where the source tells them
     ghost left: { Self → Option (List ℕ) };
@@ -21,5 +21,6 @@ pub trait Source {
     fn read(&mut self, buf: &mut [u8]) -> Result<usize, Failed>
         ensures bound { ReadsAtMost result buf.new }
         ensures octets { Reads (left self.old) (left self.new) result buf.new }
-        ensures cause { HasCause (faults self.old) (faults self.new) result };
+        ensures cause { HasCause (faults self.old) (faults self.new) result }
+        ensures no_fault { OnOk result (faults self.new ≡ faults self.old) };
 }
