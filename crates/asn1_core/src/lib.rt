@@ -49,8 +49,3 @@ pub use write::{
 pub use write_set::write_set_of;
 pub use write_text::{write_bmp, write_ia5};
 pub use writer::Writer;
-
-#[cfg(test)]
-mod tests;
-#[cfg(test)]
-mod writing_tests;

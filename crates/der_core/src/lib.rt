@@ -40,6 +40,3 @@ pub use pair::{Pair, pair_len, write_pair};
 pub use secret_document::SecretDocument;
 pub use sequence::Sequence;
 pub use tagged::{FixedTag, Tagged};
-
-#[cfg(test)]
-mod tests;

@@ -101,7 +101,8 @@ pub fn read_case(alloc: Global, line: &str) -> Result<Option<Case<'_>>, AllocErr
 
 /// Whether the call of the case answers what is expected of it.
 pub fn holds(alloc: Global, case: &Case<'_>) -> Result<bool, AllocError>
-    ensures { IfOk result (λ held. held ≡ true → Meets case.now.call case.now.words.items case.now.expected) }
+    ensures { IfOk result
+        (λ held. held ≡ true → Meets case.now.call case.now.words.items case.now.expected) }
 {
     match (
         answer(alloc, case.call, case.words.as_slice()),

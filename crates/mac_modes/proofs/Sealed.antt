@@ -1,15 +1,10 @@
 -- A text under the stream in the front of a buffer, and its tag behind it.
-use Rattle.std.proofs.Common.{◌≡◌, ◌∙◌, sym, ap, ap₂, ℕ, suc, ◌+◌, ◌-◌, ◌≤◌, List, [], ◌∷◌, ◌++◌, length, take, drop, refl, arith, bit_xor}
+use Rattle.std.proofs.Common.{◌≡◌, ◌∙◌, sym, ap, ℕ, ◌+◌, ◌-◌, ◌≤◌, List, ◌++◌, length, take, drop, refl, arith}
 use borrow.Rule.Slice.PartMut.{put_mid}
-use Rattle.std.specs.Int.Bits.{xor_assoc, xor_self, xor_zero_r}
-use Rattle.std.proofs.lemmas.List.{take_at, length-append, drop-drop, drop_at}
+use Rattle.std.proofs.lemmas.List.{take_at, length-append, drop-drop, drop_at, length-take-le, take-append-drop}
 use Rattle.std.proofs.lemmas.Slice.{take-put_mid, drop-put_mid}
-use Rattle.std.specs.Int.{w128, to_be_bytes, from_be_bytes}
-use Rattle.std.proofs.lemmas.List.{length-take-le, take-append-drop}
-use Rattle.std.proofs.Common.{replicate, ◌*◌}
-use Rattle.mac_modes.specs.Gcm.{gcm, tag, under_stream, key_stream, counter, blocks_of, filled, lengths, ghash}
-use Rattle.mac_modes.proofs.Stream.{stream-length}
-use Rattle.block_core.specs.Bits.{xor_each}
+use Rattle.mac_modes.specs.Gcm.{gcm, tag, under_stream, counter}
+use Rattle.mac_modes.specs.GcmLaws.{under-length, under_twice, tag-length}
 
 pub sealed : (b t tag : List ℕ) (pos k : ℕ) → length t ≡ pos → k ≡ 16 → pos + 16 ≤ length b → length tag ≡ 16
     → take (pos + 16) (put_mid pos k (t ++ drop pos b) tag) ≡ t ++ tag
@@ -22,35 +17,6 @@ pub behind : (b t tag : List ℕ) (pos k : ℕ) → length t ≡ pos → k ≡ 1
 behind b t tag pos k lt ek room l =
     drop-put_mid pos k (t ++ drop pos b) tag (pos + 16) (omega arith) (omega (arith, length-append t (drop pos b), lt)) (omega arith)
     ∙ sym (drop-drop 16 pos (t ++ drop pos b)) ∙ ap (drop 16) (drop_at t (drop pos b) pos lt) ∙ drop-drop 16 pos b
-
-twice : (xs ys : List ℕ) → length xs ≤ length ys → xor_each (xor_each xs ys) ys ≡ xs
-unfolding xor_each
-twice [] ys l = refl
-twice (x ∷ xs) [] l = absurd (omega arith)
-twice (x ∷ xs) (y ∷ ys) l =
-    ap₂ (λ (a : ℕ) (b : List ℕ). a ∷ b) (xor_assoc x y y ∙ ap (bit_xor x) (xor_self y) ∙ xor_zero_r x) (twice xs ys (omega arith))
-
-as_long : (xs ys : List ℕ) → length xs ≤ length ys → length (xor_each xs ys) ≡ length xs
-unfolding xor_each
-as_long [] ys l = refl
-as_long (x ∷ xs) [] l = absurd (omega arith)
-as_long (x ∷ xs) (y ∷ ys) l = let h : length (xor_each xs ys) ≡ length xs = as_long xs ys (omega arith) in ap suc h
-
-enough : (n : ℕ) → n ≤ 16 * blocks_of n
-enough n = omega arith
-
-pub under-length : (E : List ℕ → List ℕ) (nonce : List ℕ) → ((n : ℕ) → length (E (counter nonce n)) ≡ 16) → (x : List ℕ) → length (under_stream E nonce x) ≡ length x
-under-length E nonce l x = as_long x (key_stream E nonce (blocks_of (length x))) (omega (arith, stream-length E nonce (λ n h. l n) (blocks_of (length x)), enough (length x)))
-
--- the stream undoes itself
-pub under_twice : (E : List ℕ → List ℕ) (nonce : List ℕ) → ((n : ℕ) → length (E (counter nonce n)) ≡ 16) → (x : List ℕ) → under_stream E nonce (under_stream E nonce x) ≡ x
-under_twice E nonce l x =
-    ap (λ (n : ℕ). xor_each (under_stream E nonce x) (key_stream E nonce (blocks_of n))) (under-length E nonce l x)
-    ∙ twice x (key_stream E nonce (blocks_of (length x))) (omega (arith, stream-length E nonce (λ n h. l n) (blocks_of (length x)), enough (length x)))
-
-pub tag-length : (E : List ℕ → List ℕ) (nonce : List ℕ) → ((n : ℕ) → length (E (counter nonce n)) ≡ 16) → (c : List ℕ) → length (tag E nonce c) ≡ 16
-tag-length E nonce l c =
-    as_long (to_be_bytes w128 (ghash (from_be_bytes w128 (E (replicate 16 0))) (blocks_of (length c) + 1) (filled c ++ lengths (length c)))) (E (counter nonce 1)) (omega (arith, l 1))
 
 -- what opens ends in its tag
 pub tagged : (E : List ℕ → List ℕ) (nonce : List ℕ) → ((n : ℕ) → length (E (counter nonce n)) ≡ 16) → (m b : List ℕ) → gcm E nonce m ≡ b

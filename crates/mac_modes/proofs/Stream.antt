@@ -29,15 +29,6 @@ cut_short [] (y ∷ c) d l = absurd (omega arith)
 cut_short (x ∷ a) [] d l = absurd (omega arith)
 cut_short (x ∷ a) (y ∷ c) d l = ap (λ (t : List ℕ). bit_xor x y ∷ t) (cut_short a c d (omega arith))
 
-pub stream-length : (E : List ℕ → List ℕ) (nonce : List ℕ) → ((n : ℕ) → n < 2 ^ 32 → length (E (counter nonce n)) ≡ 16) → (i : ℕ) → length (key_stream E nonce i) ≡ 16 * i
-unfolding key_stream
-stream-length E nonce l zero = refl
-stream-length E nonce l (suc i) =
-    let before = stream-length E nonce l i in
-    let small : (i + 2) % 2 ^ 32 < 2 ^ 32 = omega arith in
-    let one = l ((i + 2) % 2 ^ 32) small in
-    length-append (key_stream E nonce i) (E (counter nonce ((i + 2) % 2 ^ 32))) ∙ omega (arith, before, one)
-
 -- the state of the loop after i blocks
 pub record Streamed (E : List ℕ → List ℕ) (nonce t : List ℕ) (i : ℕ) (b : List ℕ) : Type 0 where
   pub front : take (16 * i) b ≡ xor_each (take (16 * i) t) (key_stream E nonce i)

@@ -9,8 +9,6 @@ pub mod laws;
 mod params;
 mod params_text;
 mod password_hash;
-#[cfg(test)]
-mod tests;
 mod with_hmac;
 
 /// Password hashes in PHC strings.

@@ -17,8 +17,6 @@ mod params_string;
 mod password_hash;
 mod reading;
 mod salt;
-#[cfg(test)]
-mod tests;
 mod value;
 mod writing;
 

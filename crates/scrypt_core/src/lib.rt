@@ -6,8 +6,6 @@ mod mixing;
 mod params;
 mod salsa;
 mod scrypt_error;
-#[cfg(test)]
-mod tests;
 mod turning;
 
 pub use derivation::scrypt;

@@ -1,0 +1,37 @@
+//! Callers of the crates below: each public call once at least, by a test, and those that a page CALLING shows.
+//!
+//! They stand here and not in those crates since a test is proved with the whole crate that it stands in.
+#![tactic(auto)]
+
+#[cfg(test)]
+mod cbc_texts;
+#[cfg(test)]
+mod der_texts;
+#[cfg(test)]
+mod der_writing;
+#[cfg(test)]
+mod derived_keys;
+#[cfg(test)]
+mod gcm_caller;
+#[cfg(test)]
+mod gcm_texts;
+#[cfg(test)]
+mod hash_caller;
+#[cfg(test)]
+mod hmac_tags;
+#[cfg(test)]
+mod octets;
+#[cfg(test)]
+mod password_hashes;
+#[cfg(test)]
+mod phc_caller;
+#[cfg(test)]
+mod phc_strings;
+#[cfg(test)]
+mod printed;
+#[cfg(test)]
+mod scrypt_keys;
+#[cfg(test)]
+mod streams;
+#[cfg(test)]
+mod typed_der;

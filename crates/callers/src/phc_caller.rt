@@ -1,0 +1,24 @@
+//! A caller of the crate, as `CALLING.md` shows it.
+ghost use Rattle.std.specs.Prelude.{◌≡◌, IfOk};
+
+use octet_core::Text;
+use phc_core::{Error, PasswordHash};
+use std::alloc::Global;
+use std::test::Fail;
+
+/// Reads a text and writes it again, which gives the same text.
+fn round_trip(alloc: Global, text: &str) -> Result<Text, Error>
+    ensures { IfOk result (λ t. t ≡ text.now) }
+{
+    match PasswordHash::new(text) {
+        Ok(hash) => hash.to_text(alloc),
+        Err(refused) => Err(refused),
+    }
+}
+
+#[test]
+fn a_text_comes_back(rt: HostRuntime) -> Result<(), Fail> {
+    let text = "$a$v=1$x=1,y=2$AAECAwQFBgc$AAECAwQFBgcICQ";
+    assert_eq!(rt; round_trip(rt.alloc(), text)?.as_str(), text);
+    Ok(())
+}
