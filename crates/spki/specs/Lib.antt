@@ -6,6 +6,7 @@ pub mod Error
 pub mod AlgorithmOids
 pub mod OidLaws
 pub mod Seen
+pub mod Made
 pub mod KeyFile
 pub mod AnyLaws
 pub mod KeyLaws
@@ -13,3 +14,4 @@ pub mod Associated
 pub mod SameLaws
 pub mod ConstantLaws
 pub mod Spelling
+pub mod SpellingLaws

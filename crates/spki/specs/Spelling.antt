@@ -1,7 +1,8 @@
--- The one text of an algorithm and of a public key whose parts are any elements.
-use Rattle.std.specs.Prelude.{ℕ, List, [], ◌∷◌, ◌++◌, Option, Some, None, IsTrue}
-use Rattle.asn1_core.specs.Der.{el, seq, oid, is_tag}
+-- The one text of an algorithm and of a public key whose parts are any elements, and what is read where a text spells a value.
+use Rattle.std.specs.Prelude.{◌≡◌, ◌↔◌, ℕ, List, [], ◌∷◌, ◌++◌, Option, Some, None, Ok, IsTrue}
+use Rattle.asn1_core.specs.Der.{el, seq, oid, is_tag, IsShort}
 use Rattle.asn1_core.specs.Oid.{oid_octets}
+use Rattle.asn1_core.specs.Reading.{Front, whole}
 use Rattle.spki.specs.Seen.{AnyAlgorithm, AnyPublicKey}
 
 -- parameters, or nothing
@@ -19,3 +20,11 @@ public_key_text k = seq (algorithm_text k.algorithm ++ el 0x03 (k.subject_public
 abbrev pub AreParameters : Option (ℕ × List ℕ) → Type 0
 AreParameters None = Unit {0}
 AreParameters (Some p) = IsTrue (is_tag p.0)
+
+-- b is read as v exactly where v is writable and b, of at most 2 ^ 32 - 1 octets, spells it
+abbrev pub IsReadWhere : {V : Type 0} → Front V → List ℕ → V → Type 0 → Type 0 → Type 0
+IsReadWhere at b v writable spells = (whole at b ≡ Ok v) ↔ (writable × spells × IsShort b)
+
+-- where b is read as v, the text c that is written of v is read as v again
+abbrev pub IsReadAgain : {V : Type 0} → Front V → List ℕ → V → List ℕ → Type 0
+IsReadAgain at b v c = whole at b ≡ Ok v → IsShort c → whole at c ≡ Ok v

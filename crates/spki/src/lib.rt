@@ -14,6 +14,7 @@ mod fingerprint;
 pub mod laws;
 mod order;
 mod public_key_forms;
+mod read_algorithm;
 mod subject_public_key_info;
 
 pub use algorithm::{
@@ -33,9 +34,11 @@ pub use encode_public_key::EncodePublicKey;
 pub use error::{Error, Result};
 pub use fingerprint::FingerprintBytes;
 pub use laws::{
-    algorithms_are_written, algorithms_have_one_text, public_keys_are_written,
-    public_keys_have_one_text, texts_have_one_algorithm, texts_have_one_public_key,
+    algorithms_are_spelled, algorithms_are_written, algorithms_have_one_text,
+    public_keys_are_spelled, public_keys_are_written, public_keys_have_one_text,
+    texts_have_one_algorithm, texts_have_one_public_key,
 };
+pub use read_algorithm::read_algorithm_as;
 pub use subject_public_key_info::{
     SubjectPublicKeyInfo, SubjectPublicKeyInfoOwned, SubjectPublicKeyInfoRef,
 };

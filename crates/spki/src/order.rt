@@ -27,7 +27,8 @@ impl<Params: DerOrd + ElementText> ContentOrd for AlgorithmIdentifier<Params> {
 impl<Params: DerOrd + ElementText, Key: ValueOrd + Tagged> ValueOrd
     for SubjectPublicKeyInfo<Params, Key> {
     ghost value_order = { λ a b. ordering_then
-        (octet_cmp (⟦<AlgorithmIdentifier<Params> as Encode>⟧.canon a.algorithm) (⟦<AlgorithmIdentifier<Params> as Encode>⟧.canon b.algorithm))
+        (octet_cmp (⟦<AlgorithmIdentifier<Params> as Encode>⟧.canon a.algorithm)
+        (⟦<AlgorithmIdentifier<Params> as Encode>⟧.canon b.algorithm))
         (Key.value_order a.subject_public_key b.subject_public_key) };
 
     fn value_cmp(&self, other: &SubjectPublicKeyInfo<Params, Key>) -> Result<Ordering, Error> {
