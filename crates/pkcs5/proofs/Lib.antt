@@ -3,6 +3,5 @@ pub mod Numbers
 pub mod Octets
 pub mod Openings
 pub mod Refused
-pub mod Spelled
 pub mod Uniqueness
 pub mod Writings

@@ -4,11 +4,10 @@ use Rattle.std.specs.Prelude.{if◌then◌else◌, ◌≡◌, ℕ, List, ◌++�
 use Rattle.std.specs.Str.{bytes_eq}
 use Rattle.asn1_core.specs.Der.{oid, octets, el}
 use Rattle.asn1_core.specs.Oid.{oid_octets}
-use Rattle.asn1_core.specs.Reading.{Fault, Bad, UnknownOid, All, Front, ◌>>=◌, where_ok, any_tag, on, ended, left, whole, within, oid_at, option_at, known_in}
+use Rattle.asn1_core.specs.Reading.{Fault, Bad, UnknownOid, All, Front, ◌>>=◌, where_ok, left, whole, within, known_in}
 use Rattle.asn1_core.specs.Texts.{Within}
 use Rattle.asn1_core.specs.declared.identifier.ObjectIdentifier.{ObjectIdentifier}
-use Rattle.der_core.specs.Any.{any_at}
-use Rattle.spki.specs.Algorithm.{algorithm}
+use Rattle.spki.specs.Made.{made_of}
 use Rattle.spki.specs.Seen.{AnyAlgorithm}
 use Rattle.pkcs5.specs.Identifiers.{aes_128_cbc_oid, aes_192_cbc_oid, aes_256_cbc_oid, aes_128_gcm_oid, aes_256_gcm_oid, des_ede3_cbc_oid, des_cbc_oid}
 use Rattle.pkcs5.specs.Kinds.{cipher_oid, iv_of, iv_size}
@@ -53,7 +52,7 @@ cipher_in a = elim a.parameters [ None ↦ Err Bad | Some p ↦ whole (within 0x
 
 -- octets behind the parameters come last
 abbrev pub cipher_of : All EncryptionScheme
-cipher_of = on oid_at (λ o. on (option_at any_tag any_at) (λ p rest. cipher_in (algorithm o p) >>= λ c. ended c rest))
+cipher_of = made_of cipher_in
 
 abbrev pub cipher_at : Front EncryptionScheme
 cipher_at = within 0x30 cipher_of

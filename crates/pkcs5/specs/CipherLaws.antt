@@ -17,7 +17,7 @@ use Rattle.der_core.specs.Any.{AnyText}
 use Rattle.spki.specs.Algorithm.{algorithm, AlgorithmOf}
 use Rattle.pkcs5.specs.Kinds.{cipher_oid, iv_of, iv_size}
 use Rattle.pkcs5.specs.Cipher.{IsCipher, cipher_content, CipherOf, CipherText, cipher_named, cipher_with, cipher_in, cipher_of, cipher_at}
-use Rattle.pkcs5.specs.JudgedLaws.{Judges, late-exact, if_test, any_is}
+use Rattle.pkcs5.specs.JudgedLaws.{Judges, made_of-exact, if_test, any_is}
 use Rattle.pkcs5.specs.declared.pbes2.encryption_scheme.EncryptionScheme.{EncryptionScheme}
 use Rattle.pkcs5.specs.declared.pbes2.encryption_scheme.EncryptionScheme.TheVariants.{Aes128Cbc, Aes192Cbc, Aes256Cbc, Aes128Gcm, Aes256Gcm, DesEde3Cbc, DesCbc}
 
@@ -99,7 +99,7 @@ cipher-judges = record {
 }
 
 pub cipher_of-exact : ExactAll CipherOf cipher_of
-cipher_of-exact = late-exact cipher_in CipherOf cipher-judges
+cipher_of-exact = made_of-exact cipher_in CipherOf cipher-judges
 
 pub cipher-exact : Exact CipherText cipher_at
 cipher-exact = within-exact 0x30 CipherOf cipher_of refl cipher_of-exact

@@ -17,6 +17,7 @@ use Rattle.der_core.specs.Any.{AnyText, any_at}
 use Rattle.spki.specs.Algorithm.{algorithm, algorithm_of, AlgorithmOf}
 use Rattle.spki.specs.AlgorithmLaws.{algorithm_of-exact}
 use Rattle.spki.specs.AnyLaws.{any-exact, any-whole}
+use Rattle.spki.specs.Made.{made_of}
 use Rattle.spki.specs.Seen.{AnyAlgorithm}
 
 -- judging what stands for a text of P gives what stands for it in R
@@ -52,12 +53,9 @@ bound r x k e = ap (λ q. q >>= k) e
 
 -- ---- an algorithm that is judged before the end of its octets
 
-abbrev late : {B : Type 0} → (AnyAlgorithm → Result B Fault) → All B
-late f = on oid_at (λ o. on (option_at any_tag any_at) (λ p rest. f (algorithm o p) >>= λ v. ended v rest))
-
 module _ {B : Type 0} (f : AnyAlgorithm → Result B Fault) where
-  late_found : (b : List ℕ) (v : B) → late f b ≡ Ok v → (a : AnyAlgorithm) × (algorithm_of any_tag any_at b ≡ Ok a) × (f a ≡ Ok v)
-  late_found b v e =
+  made_found : (b : List ℕ) (v : B) → made_of f b ≡ Ok v → (a : AnyAlgorithm) × (algorithm_of any_tag any_at b ≡ Ok a) × (f a ≡ Ok v)
+  made_found b v e =
       let x = bind_ok (oid_at b) (λ x. on (option_at any_tag any_at) (λ p rest. f (algorithm x.0 p) >>= λ v. ended v rest) x.1) v e in
       let y = bind_ok (option_at any_tag any_at x.0.1) (λ y. f (algorithm x.0.0 y.0) >>= λ v. ended v y.1) v x.2 in
       let z = bind_ok (f (algorithm x.0.0 y.0.0)) (λ v. ended v y.0.1) v y.2 in
@@ -68,8 +66,8 @@ module _ {B : Type 0} (f : AnyAlgorithm → Result B Fault) where
       ∙ ap (ended (algorithm x.0.0 y.0.0)) w.0 in
       (algorithm x.0.0 y.0.0, read, subst (λ (u : B). f (algorithm x.0.0 y.0.0) ≡ Ok u) w.1 z.1)
 
-  late_again : (b : List ℕ) (a : AnyAlgorithm) (v : B) → algorithm_of any_tag any_at b ≡ Ok a → f a ≡ Ok v → late f b ≡ Ok v
-  late_again b a v e is =
+  made_again : (b : List ℕ) (a : AnyAlgorithm) (v : B) → algorithm_of any_tag any_at b ≡ Ok a → f a ≡ Ok v → made_of f b ≡ Ok v
+  made_again b a v e is =
       let x = bind_ok (oid_at b) (λ x. on (option_at any_tag any_at) (λ p. ended (algorithm x.0 p)) x.1) a e in
       let y = bind_ok (option_at any_tag any_at x.0.1) (λ y. ended (algorithm x.0.0 y.0) y.1) a x.2 in
       let w = ended_ok (algorithm x.0.0 y.0.0) a y.0.1 y.2 in
@@ -79,12 +77,12 @@ module _ {B : Type 0} (f : AnyAlgorithm → Result B Fault) where
       ∙ bound (f (algorithm x.0.0 y.0.0)) v (λ v. ended v y.0.1) same
       ∙ ap (ended v) w.0
 
-  pub late-exact : (R : List ℕ → B → Type 0) → Judges (AlgorithmOf AnyText) f R → ExactAll R (late f)
-  late-exact R j =
+  pub made_of-exact : (R : List ℕ → B → Type 0) → Judges (AlgorithmOf AnyText) f R → ExactAll R (made_of f)
+  made_of-exact R j =
       let exact = algorithm_of-exact any_tag AnyText any_at any-exact any-whole in
       record {
-        found = λ b v e. let x = late_found b v e in j.found b x.0 v (exact.found b x.0 x.1) x.2;
-        again = λ b v r short. let x = j.again b v r short in late_again b x.0 v (exact.again b x.0 x.1 short) x.2;
+        found = λ b v e. let x = made_found b v e in j.found b x.0 v (exact.found b x.0 x.1) x.2;
+        again = λ b v r short. let x = j.again b v r short in made_again b x.0 v (exact.again b x.0 x.1 short) x.2;
       }
 
 -- ---- two parts that are judged once both are read

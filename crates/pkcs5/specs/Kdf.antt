@@ -4,11 +4,10 @@ use Rattle.std.specs.Prelude.{if◌then◌else◌, ◌≡◌, ℕ, List, ◌++�
 use Rattle.std.specs.Str.{bytes_eq}
 use Rattle.asn1_core.specs.Der.{oid, seq, el}
 use Rattle.asn1_core.specs.Oid.{oid_octets}
-use Rattle.asn1_core.specs.Reading.{Fault, Bad, UnknownOid, All, Front, ◌>>=◌, any_tag, on, ended, within, oid_at, option_at}
+use Rattle.asn1_core.specs.Reading.{Fault, Bad, UnknownOid, All, Front, ◌>>=◌, within}
 use Rattle.asn1_core.specs.Texts.{Within}
 use Rattle.asn1_core.specs.declared.identifier.ObjectIdentifier.{ObjectIdentifier}
-use Rattle.der_core.specs.Any.{any_at}
-use Rattle.spki.specs.Algorithm.{algorithm}
+use Rattle.spki.specs.Made.{made_of}
 use Rattle.spki.specs.Seen.{AnyAlgorithm}
 use Rattle.pkcs5.specs.Identifiers.{pbkdf2_oid, scrypt_oid}
 use Rattle.pkcs5.specs.Pbkdf2Params.{Pbkdf2ParamsText, pbkdf2_params_content, ArePbkdf2Params, SpellsPbkdf2Params, pbkdf2_params_in}
@@ -54,7 +53,7 @@ kdf_in a = elim a.parameters [ None ↦ Err Bad | Some p ↦ kdf_with a.oid p ]
 
 -- octets behind the parameters come last
 abbrev pub kdf_of : All Kdf
-kdf_of = on oid_at (λ o. on (option_at any_tag any_at) (λ p rest. kdf_in (algorithm o p) >>= λ k. ended k rest))
+kdf_of = made_of kdf_in
 
 abbrev pub kdf_at : Front Kdf
 kdf_at = within 0x30 kdf_of

@@ -18,7 +18,7 @@ use Rattle.pkcs5.specs.Pbkdf2ParamsLaws.{pbkdf2_params_of-exact, pbkdf2_params_c
 use Rattle.pkcs5.specs.ScryptParams.{ScryptParamsOf, scrypt_params_of, scrypt_params_in, scrypt_params_content}
 use Rattle.pkcs5.specs.ScryptParamsLaws.{scrypt_params_of-exact, scrypt_params_canonical, scrypt_params_spelled}
 use Rattle.pkcs5.specs.Kdf.{KdfOf, KdfText, kdf_content, IsKdf, SpellsKdf, kdf_with, kdf_in, kdf_of, kdf_at}
-use Rattle.pkcs5.specs.JudgedLaws.{Judges, JudgesWith, with_judges, late-exact, if_test, row_found, row_again}
+use Rattle.pkcs5.specs.JudgedLaws.{Judges, JudgesWith, with_judges, made_of-exact, if_test, row_found, row_again}
 use Rattle.pkcs5.specs.declared.pbes2.kdf.Kdf.{Kdf}
 use Rattle.pkcs5.specs.declared.pbes2.kdf.Kdf.TheVariants.{Pbkdf2, Scrypt}
 
@@ -53,7 +53,7 @@ unfolding kdf_in
 kdf-judges = with_judges kdf_with KdfOf kdf-judges-with
 
 pub kdf_of-exact : ExactAll KdfOf kdf_of
-kdf_of-exact = late-exact kdf_in KdfOf kdf-judges
+kdf_of-exact = made_of-exact kdf_in KdfOf kdf-judges
 
 pub kdf-exact : Exact KdfText kdf_at
 kdf-exact = within-exact 0x30 KdfOf kdf_of refl kdf_of-exact

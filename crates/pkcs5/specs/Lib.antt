@@ -22,7 +22,6 @@ pub mod Pbes1Laws
 pub mod SchemeLaws
 pub mod SameLaws
 pub mod Opening
-pub mod GcmLaws
 pub mod OpeningLaws
 pub mod Refusals
 pub mod SchemeOpening

@@ -12,9 +12,9 @@ use Rattle.std.proofs.lemmas.Nat.{mod_below}
 use Rattle.asn1_core.specs.OctetLaws.{both}
 use Rattle.block_core.specs.AesRounds.{add_round_key, encrypt_with, state_by}
 use Rattle.mac_modes.specs.Cbc.{uncbc}
-use Rattle.mac_modes.specs.Gcm.{gcm, tag, under_stream}
+use Rattle.mac_modes.specs.Gcm.{counter, gcm, tag, under_stream}
+use Rattle.mac_modes.specs.GcmLaws.{tag-length, under_twice}
 use Rattle.mac_modes.specs.Padding.{pad_count, padded}
-use Rattle.pkcs5.specs.GcmLaws.{tag-length, under_twice}
 use Rattle.pkcs5.specs.Opening.{Decrypts, Unseals, OpensBy, unpadded, decrypted, unsealed, opened_by, opened, Opens, key_under}
 use Rattle.pkcs5.specs.declared.pbes2.encryption_scheme.EncryptionScheme.{EncryptionScheme}
 use Rattle.pkcs5.specs.declared.pbes2.encryption_scheme.EncryptionScheme.TheVariants.{Aes128Cbc, Aes192Cbc, Aes256Cbc, Aes128Gcm, Aes256Gcm, DesEde3Cbc, DesCbc}
@@ -88,9 +88,9 @@ unsealed_text E nonce l c m h =
     let u : List ℕ = under_stream E nonce m in
     let v : List ℕ = tag E nonce u in
     let lc : length c ≡ length u + length v = ap length (sym h.text) ∙ length-append u v in
-    let lu : length u ≡ length c - 16 = omega (arith, lc, tag-length E l nonce u) in
+    let lu : length u ≡ length c - 16 = omega (arith, lc, tag-length E nonce (λ n. l (counter nonce n)) u) in
     let front : take (length c - 16) c ≡ u = ap (take (length c - 16)) (sym h.text) ∙ take_at u v (length c - 16) lu in
-    ap (under_stream E nonce) front ∙ under_twice E l nonce m
+    ap (under_stream E nonce) front ∙ under_twice E nonce (λ n. l (counter nonce n)) m
 
 unsealed_some : (E : List ℕ → List ℕ) (nonce : List ℕ) → ((b : List ℕ) → length (E b) ≡ 16) → (c m : List ℕ) → Unseals E nonce c m → unsealed E nonce c ≡ Some m
 unfolding unsealed

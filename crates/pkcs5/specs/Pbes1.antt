@@ -3,11 +3,10 @@ use Rattle.std.specs.Prelude.{if◌then◌else◌, ◌≡◌, ◌≤◌, ℕ, Li
 use Rattle.std.specs.Str.{bytes_eq}
 use Rattle.asn1_core.specs.Der.{oid, octets, uint, el}
 use Rattle.asn1_core.specs.Oid.{oid_octets}
-use Rattle.asn1_core.specs.Reading.{Fault, Bad, All, Front, ◌>>=◌, any_tag, where_ok, whole, on, ended, within, oid_at, uint_at, option_at, known_in}
+use Rattle.asn1_core.specs.Reading.{Fault, Bad, All, Front, ◌>>=◌, where_ok, whole, on, ended, within, uint_at, known_in}
 use Rattle.asn1_core.specs.Texts.{Within, Uint}
 use Rattle.asn1_core.specs.declared.identifier.ObjectIdentifier.{ObjectIdentifier}
-use Rattle.der_core.specs.Any.{any_at}
-use Rattle.spki.specs.Algorithm.{algorithm}
+use Rattle.spki.specs.Made.{made_of}
 use Rattle.spki.specs.Seen.{AnyAlgorithm}
 use Rattle.pkcs5.specs.Identifiers.{pbe_with_md2_and_des_cbc_oid, pbe_with_md5_and_des_cbc_oid, pbe_with_md2_and_rc2_cbc_oid, pbe_with_md5_and_rc2_cbc_oid, pbe_with_sha1_and_des_cbc_oid, pbe_with_sha1_and_rc2_cbc_oid}
 use Rattle.pkcs5.specs.declared.pbes1.algorithm.Algorithm.{Algorithm}
@@ -115,7 +114,7 @@ unfoldable pub pbe_in : AnyAlgorithm → Result Algorithm Fault
 pbe_in a = elim a.parameters [ None ↦ Err Bad | Some p ↦ pbe_with a.oid p ]
 
 abbrev pub pbe_of : All Algorithm
-pbe_of = on oid_at (λ o. on (option_at any_tag any_at) (λ p rest. pbe_in (algorithm o p) >>= λ a. ended a rest))
+pbe_of = made_of pbe_in
 
 abbrev pub pbe_at : Front Algorithm
 pbe_at = within 0x30 pbe_of

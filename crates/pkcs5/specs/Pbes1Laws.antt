@@ -18,7 +18,7 @@ use Rattle.der_core.specs.Any.{AnyText}
 use Rattle.spki.specs.Algorithm.{AlgorithmOf}
 use Rattle.pkcs5.specs.Identifiers.{pbes2_oid}
 use Rattle.pkcs5.specs.Pbes1.{pbe_oid, pbe_params, PbeSaltOf, PbeParamsOf, PbeParamsText, pbe_params_content, ArePbeParams, pbe_salt_of, pbe_params_of, pbe_params_in, pbe, PbeOf, PbeText, pbe_content, pbe_named, pbe_with, pbe_in, pbe_of, pbe_at}
-use Rattle.pkcs5.specs.JudgedLaws.{Judges, JudgesWith, with_judges, late-exact, if_test, row_found, row_again}
+use Rattle.pkcs5.specs.JudgedLaws.{Judges, JudgesWith, with_judges, made_of-exact, if_test, row_found, row_again}
 use Rattle.pkcs5.specs.declared.pbes1.algorithm.Algorithm.{Algorithm}
 use Rattle.pkcs5.specs.declared.pbes1.parameters.Parameters.{Parameters}
 use Rattle.pkcs5.specs.declared.pbes1.encryption_scheme.EncryptionScheme.{EncryptionScheme}
@@ -150,7 +150,7 @@ unfolding pbe_in
 pbe-judges = with_judges pbe_with PbeOf pbe-judges-with
 
 pub pbe_of-exact : ExactAll PbeOf pbe_of
-pbe_of-exact = late-exact pbe_in PbeOf pbe-judges
+pbe_of-exact = made_of-exact pbe_in PbeOf pbe-judges
 
 pub pbe-exact : Exact PbeText pbe_at
 pbe-exact = within-exact 0x30 PbeOf pbe_of refl pbe_of-exact

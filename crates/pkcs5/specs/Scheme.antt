@@ -4,11 +4,10 @@ use Rattle.std.specs.Prelude.{if◌then◌else◌, ◌≡◌, ⊤, ℕ, List, �
 use Rattle.std.specs.Str.{bytes_eq}
 use Rattle.asn1_core.specs.Der.{oid, seq, el}
 use Rattle.asn1_core.specs.Oid.{oid_octets}
-use Rattle.asn1_core.specs.Reading.{Fault, Bad, All, Front, ◌>>=◌, any_tag, on, ended, within, oid_at, option_at}
+use Rattle.asn1_core.specs.Reading.{Fault, Bad, All, Front, ◌>>=◌, within}
 use Rattle.asn1_core.specs.Texts.{Within}
 use Rattle.asn1_core.specs.declared.identifier.ObjectIdentifier.{ObjectIdentifier}
-use Rattle.der_core.specs.Any.{any_at}
-use Rattle.spki.specs.Algorithm.{algorithm}
+use Rattle.spki.specs.Made.{made_of}
 use Rattle.spki.specs.Seen.{AnyAlgorithm}
 use Rattle.pkcs5.specs.Identifiers.{pbes2_oid}
 use Rattle.pkcs5.specs.Parameters.{ParametersText, parameters_content, AreParameters, SpellsParameters, parameters_in}
@@ -71,7 +70,7 @@ scheme_in a = elim a.parameters [ None ↦ Err Bad | Some p ↦ scheme_with a.oi
 
 -- octets behind the parameters come last
 abbrev pub scheme_of : All EncryptionScheme
-scheme_of = on oid_at (λ o. on (option_at any_tag any_at) (λ p rest. scheme_in (algorithm o p) >>= λ s. ended s rest))
+scheme_of = made_of scheme_in
 
 abbrev pub scheme_at : Front EncryptionScheme
 scheme_at = within 0x30 scheme_of

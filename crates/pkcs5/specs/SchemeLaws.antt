@@ -19,7 +19,7 @@ use Rattle.pkcs5.specs.ParametersLaws.{parameters_of-exact, parameters_canonical
 use Rattle.pkcs5.specs.Pbes1.{pbe_oid, pbe_with}
 use Rattle.pkcs5.specs.Pbes1Laws.{pbe_found, pbe_again, pbe_is_identifier, pbe_other, pbe_canonical, pbe_content_is}
 use Rattle.pkcs5.specs.Scheme.{SchemeOf, SchemeText, scheme_content, IsScheme, SpellsScheme, scheme_with, scheme_in, scheme_of, scheme_at}
-use Rattle.pkcs5.specs.JudgedLaws.{Judges, JudgesWith, with_judges, late-exact, if_test, row_found, row_again}
+use Rattle.pkcs5.specs.JudgedLaws.{Judges, JudgesWith, with_judges, made_of-exact, if_test, row_found, row_again}
 use Rattle.pkcs5.specs.declared.encryption_scheme.EncryptionScheme.{EncryptionScheme}
 use Rattle.pkcs5.specs.declared.encryption_scheme.EncryptionScheme.TheVariants.{Pbes1, Pbes2}
 
@@ -65,7 +65,7 @@ unfolding scheme_in
 scheme-judges = with_judges scheme_with SchemeOf scheme-judges-with
 
 pub scheme_of-exact : ExactAll SchemeOf scheme_of
-scheme_of-exact = late-exact scheme_in SchemeOf scheme-judges
+scheme_of-exact = made_of-exact scheme_in SchemeOf scheme-judges
 
 pub scheme-exact : Exact SchemeText scheme_at
 scheme-exact = within-exact 0x30 SchemeOf scheme_of refl scheme_of-exact

@@ -16,13 +16,13 @@ ghost use Rattle.pkcs5.specs.declared.encryption_scheme.EncryptionScheme.TheVari
 
 use crate::pbes1;
 use crate::pbes2::{self, PBES2_OID};
-use asn1_core::{Error, Header, Length, ObjectIdentifier, Reader, SliceReader, Tag, Writer};
+use asn1_core::{Error, Header, Length, ObjectIdentifier, Reader, Tag, Writer};
 use der_core::{
     AnyRef, Canonical, Compared, Decode, DecodeValue, EncodeValue, FixedTag, Sequence, Spelled,
     pair_len, write_pair,
 };
 use mac_modes::Draw;
-use spki::{AlgorithmIdentifier, AlgorithmIdentifierRef};
+use spki::{AlgorithmIdentifierRef, read_algorithm_as};
 
 /// A scheme of encryption under a password (RFC 8018 section 6), as an algorithm with its parameters (appendices A.3
 /// and A.4).
@@ -160,15 +160,7 @@ impl<'a> DecodeValue<&'a [u8]> for EncryptionScheme {
         r: &mut R,
         header: Header,
     ) -> Result<EncryptionScheme, Error> {
-        let mut ahead = *r;
-        let value = ahead.read_slice(header.length)?;
-        let mut inner = SliceReader::new(value);
-        let oid = ObjectIdentifier::decode(&mut inner)?;
-        let parameters = Option::<AnyRef<'a>>::decode(&mut inner)?;
-        let scheme = EncryptionScheme::try_from(AlgorithmIdentifier { oid, parameters })?;
-        inner.finish()?;
-        *r = ahead;
-        Ok(scheme)
+        read_algorithm_as(r, header)
     }
 
     ghost exact = { λ t. scheme_of-exact };

@@ -4,21 +4,23 @@ use Rattle.std.proofs.lemmas.List.{append-nil}
 use Rattle.std.specs.Prelude.{◌↔◌}
 use Rattle.asn1_core.specs.Der.{el, seq, uint, octets, IsShort}
 use Rattle.asn1_core.specs.Reading.{Front, any_tag, within, left}
-use Rattle.asn1_core.specs.Texts.{Exact, Within, Left, Perhaps}
+use Rattle.asn1_core.specs.Texts.{Exact, Within, Left, Perhaps, seen_option}
 use Rattle.asn1_core.specs.ExactLaws.{IsShort-left, IsShort-right, IsShort-inside}
 use Rattle.asn1_core.specs.ElementLaws.{inside-exact}
 use Rattle.asn1_core.specs.StandLaws.{whole_sole}
+use Rattle.asn1_core.specs.declared.identifier.ObjectIdentifier.{ObjectIdentifier}
 use Rattle.der_core.specs.Any.{AnyText, any_at}
 use Rattle.der_core.specs.BitString.{BitsOf, bits_of}
 use Rattle.der_core.specs.StringLaws.{bits_of-exact}
+use Rattle.spki.specs.Algorithm.{algorithm}
 use Rattle.spki.specs.AnyLaws.{any-exact, any-whole}
 use Rattle.spki.specs.Seen.{AnyAlgorithm}
 use Rattle.spki.specs.Spelling.{algorithm_text, AreParameters}
-use Rattle.spki.proofs.Spellings.{algorithms_spelled}
-use Rattle.pkcs8.specs.PrivateKeyInfo.{version_of, AreAttributes, AreFurther, public_key_content, PrivateKeyText, private_key_at}
+use Rattle.spki.proofs.Spellings.{algorithm_written, algorithms_spelled}
+use Rattle.pkcs8.specs.PrivateKeyInfo.{private_key, version_of, AreAttributes, AreFurther, public_key_content, private_key_content, PrivateKeyText, private_key_at}
 use Rattle.pkcs8.specs.PrivateKeyLaws.{private_key-exact}
 use Rattle.pkcs8.specs.Seen.{AnyPrivateKey, IsPrivateKey}
-use Rattle.pkcs8.specs.Spelling.{key_parts, private_key_spelling, key_text, private_key_text, AreBits}
+use Rattle.pkcs8.specs.Spelling.{key_parts, private_key_spelling, private_key_text, AreBits}
 
 abbrev pub AnyPrivateKeyText : List ℕ → AnyPrivateKey → Type 0
 AnyPrivateKeyText = PrivateKeyText AnyText (Within 0x04 Left) BitsOf
@@ -54,14 +56,17 @@ parts_are : (a : AnyAlgorithm) (k : List ℕ) (o : Option (ℕ × List ℕ)) (x 
 parts_are a k None x y = ap (λ (l : List ℕ). seq (l ++ y)) (sym (append-nil (uint 0 ++ algorithm_text a ++ octets k ++ x)))
 parts_are a k (Some q) x y = refl
 
-text_is : (a : AnyAlgorithm) (k : List ℕ) (o : Option (ℕ × List ℕ)) → key_text a k o ≡ key_parts a k o [] []
-text_is a k None =
-    let front = uint 0 ++ algorithm_text a ++ octets k in
-    ap (λ (l : List ℕ). seq l) (sym (append-nil front) ∙ sym (append-nil (front ++ [])))
-text_is a k (Some q) =
-    let front = uint 1 ++ algorithm_text a ++ octets k in
-    let public = el 0x81 (q.0 ∷ q.1) in
-    ap (λ (l : List ℕ). seq l) (ap (λ (l : List ℕ). l ++ public) (sym (append-nil front)) ∙ sym (append-nil (front ++ [] ++ public)))
+-- what is written has nothing in the places of attributes and further fields
+pub key_written : {A B : Type 0} (seen : A → ℕ × List ℕ) (bits : B → ℕ × List ℕ) (o : ObjectIdentifier) (p : Option A) (k : List ℕ) (q : Option B)
+    → el 0x30 (private_key_content (λ a. el (seen a).0 (seen a).1) octets bits o p k q) ≡ private_key_text (private_key (algorithm o (seen_option seen p)) k (seen_option bits q))
+key_written seen bits o p k None =
+    let front = uint 0 ++ algorithm_text (algorithm o (seen_option seen p)) ++ octets k in
+    ap (λ (l : List ℕ). seq (uint 0 ++ l ++ octets k ++ [])) (algorithm_written seen o p) ∙ ap (λ (l : List ℕ). seq l) (sym (append-nil (front ++ [])))
+key_written seen bits o p k (Some q) =
+    let front = uint 1 ++ algorithm_text (algorithm o (seen_option seen p)) ++ octets k in
+    let public = el 0x81 ((bits q).0 ∷ (bits q).1) in
+    ap (λ (l : List ℕ). seq (uint 1 ++ l ++ octets k ++ public)) (algorithm_written seen o p)
+    ∙ ap (λ (l : List ℕ). seq l) (ap (λ (l : List ℕ). l ++ public) (sym (append-nil front)) ∙ sym (append-nil (front ++ [] ++ public)))
 
 -- the algorithm's text is no longer than the whole
 algorithm_short : (n : ℕ) (a k x q y : List ℕ) → IsShort (seq (value_octets n a k x q y)) → IsShort a
@@ -98,4 +103,4 @@ private_keys_spelled b k = (spelled_to b k, spelled_from b k)
 
 pub private_keys_texts : (k : AnyPrivateKey) → AreParameters k.algorithm.parameters → AreBits k.public_key → IsShort (private_key_text k) → IsPrivateKey (private_key_text k) k
 private_keys_texts k parameters public short =
-    spelled_from (private_key_text k) k (parameters, public, ([], [], (None, refl), ([], refl), text_is k.algorithm k.private_key k.public_key), short)
+    spelled_from (private_key_text k) k (parameters, public, ([], [], (None, refl), ([], refl), refl), short)

@@ -154,8 +154,8 @@ impl<Params: Encode, Key: Encode, PubKey: BitStringLike> PrivateKeyInfo<Params, 
         ensures lawful { OnOk result
             (⟦<PrivateKeyInfo<Params, Key, PubKey> as Encode>⟧.writable self.now) }
         ensures err { IfErr result (λ e. RefusesToEncryptKey
-            (⟦<PrivateKeyInfo<Params, Key, PubKey> as Encode>⟧.writable self.now) params password.now
-            (⟦<PrivateKeyInfo<Params, Key, PubKey> as Encode>⟧.canon self.now) e) }
+            (⟦<PrivateKeyInfo<Params, Key, PubKey> as Encode>⟧.writable self.now) params
+            password.now (⟦<PrivateKeyInfo<Params, Key, PubKey> as Encode>⟧.canon self.now) e) }
     {
         match self.to_der(alloc) {
             Ok(text) => seal(alloc, params, password, text.as_slice()),

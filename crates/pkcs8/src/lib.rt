@@ -17,7 +17,7 @@ mod version;
 pub use asn1_core::ObjectIdentifier;
 pub use bit_string_like::BitStringLike;
 pub use decode_private_key::DecodePrivateKey;
-pub use der_core::SecretDocument;
+pub use der_core::{Document, SecretDocument};
 pub use encode_private_key::EncodePrivateKey;
 pub use encrypted_private_key_info::{
     EncryptedPrivateKeyInfo, EncryptedPrivateKeyInfoOwned, EncryptedPrivateKeyInfoRef,
@@ -30,7 +30,10 @@ pub use laws::{
     texts_have_one_private_key,
 };
 pub use private_key_info::{PrivateKeyInfo, PrivateKeyInfoOwned, PrivateKeyInfoRef};
-pub use spki::AlgorithmIdentifierRef;
+pub use spki::{
+    AlgorithmIdentifierRef, DecodePublicKey, EncodePublicKey, SubjectPublicKeyInfo,
+    SubjectPublicKeyInfoRef,
+};
 pub use version::Version;
 
 #[cfg(test)]

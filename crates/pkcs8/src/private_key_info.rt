@@ -219,7 +219,10 @@ impl<
     PubKey: DecodeValue<&'a [u8]> + FixedTag + Compared<&'a [u8]>,
 > Compared<&'a [u8]> for PrivateKeyInfo<Params, Key, PubKey> {
     ghost compared = { λ k l. private_key_same _ _ _
-        (algorithm_same Params.Decode.seen Params.eq Params.compared k.algorithm.oid l.algorithm.oid k.algorithm.parameters l.algorithm.parameters) Key.Decode.seen Key.eq Key.compared PubKey.DecodeValue.seen PubKey.eq PubKey.compared k.private_key l.private_key k.public_key l.public_key };
+        (algorithm_same Params.Decode.seen Params.eq Params.compared k.algorithm.oid l.algorithm.oid
+        k.algorithm.parameters l.algorithm.parameters) Key.Decode.seen Key.eq Key.compared
+        PubKey.DecodeValue.seen PubKey.eq PubKey.compared k.private_key l.private_key k.public_key
+        l.public_key };
 }
 
 impl<Params: fmt::Debug, Key, PubKey: fmt::Debug> fmt::Debug

@@ -11,12 +11,12 @@ ghost use Rattle.pkcs5.specs.declared.pbes1.algorithm.Algorithm.{Algorithm};
 
 use crate::pbes1::encryption_scheme::EncryptionScheme;
 use crate::pbes1::parameters::Parameters;
-use asn1_core::{Error, Header, Length, ObjectIdentifier, Reader, SliceReader, Tag, Writer};
+use asn1_core::{Error, Header, Length, ObjectIdentifier, Reader, Tag, Writer};
 use der_core::{
-    AnyRef, Canonical, Compared, Decode, DecodeValue, EncodeValue, FixedTag, Sequence, Spelled,
-    pair_len, write_pair,
+    AnyRef, Canonical, Compared, DecodeValue, EncodeValue, FixedTag, Sequence, Spelled, pair_len,
+    write_pair,
 };
-use spki::{AlgorithmIdentifier, AlgorithmIdentifierRef};
+use spki::{AlgorithmIdentifierRef, read_algorithm_as};
 
 /// A scheme of PBES1 with its parameters (RFC 8018 appendix A.3), as an algorithm.
 #[derive(Clone, Copy, Debug, PartialEq, Eq, Drop)]
@@ -88,15 +88,7 @@ impl<'a> DecodeValue<&'a [u8]> for Algorithm {
 
     /// `Malformed` exactly where the text is not that of an algorithm of PBES1.
     fn decode_value<R: Reader<&'a [u8]>>(r: &mut R, header: Header) -> Result<Algorithm, Error> {
-        let mut ahead = *r;
-        let value = ahead.read_slice(header.length)?;
-        let mut inner = SliceReader::new(value);
-        let oid = ObjectIdentifier::decode(&mut inner)?;
-        let parameters = Option::<AnyRef<'a>>::decode(&mut inner)?;
-        let algorithm = Algorithm::try_from(AlgorithmIdentifier { oid, parameters })?;
-        inner.finish()?;
-        *r = ahead;
-        Ok(algorithm)
+        read_algorithm_as(r, header)
     }
 
     ghost exact = { λ t. pbe_of-exact };

@@ -1,5 +1,6 @@
 //! The schemes of PBES1.
 ghost use Rattle.std.specs.Prelude.{◌≡◌};
+ghost use Rattle.asn1_core.specs.Der.{oid};
 ghost use Rattle.asn1_core.specs.Gives.{Gives};
 ghost use Rattle.asn1_core.specs.Oid.{oid_octets};
 ghost use Rattle.asn1_core.specs.Reading.{UnknownOid, known};
@@ -9,7 +10,8 @@ use crate::pbes1::identifiers::{
     PBE_WITH_MD2_AND_DES_CBC_OID, PBE_WITH_MD2_AND_RC2_CBC_OID, PBE_WITH_MD5_AND_DES_CBC_OID,
     PBE_WITH_MD5_AND_RC2_CBC_OID, PBE_WITH_SHA1_AND_DES_CBC_OID, PBE_WITH_SHA1_AND_RC2_CBC_OID,
 };
-use asn1_core::{Error, ObjectIdentifier};
+use asn1_core::{Error, Length, ObjectIdentifier, Writer};
+use der_core::Encode;
 
 /// A scheme of PBES1 (RFC 8018 appendix A.3): a hash function and a cipher.
 #[derive(Clone, Copy, Debug, PartialEq, Eq, Drop)]
@@ -111,5 +113,20 @@ impl TryFrom<ObjectIdentifier> for EncryptionScheme {
         } else {
             Err(Error::OidUnknown { oid })
         }
+    }
+}
+
+/// The text of the scheme's identifier.
+impl Encode for EncryptionScheme {
+    ghost canon = { λ s. oid (pbe_oid s) };
+
+    ghost writable = { λ s. Unit {0} };
+
+    fn encoded_len(&self) -> Result<Length, Error> {
+        self.oid().encoded_len()
+    }
+
+    fn encode<W: Writer>(&self, w: &mut W) -> Result<(), Error> {
+        self.oid().encode(w)
     }
 }

@@ -21,12 +21,12 @@ use crate::pbes2::identifiers::{
     AES_128_CBC_OID, AES_128_GCM_OID, AES_192_CBC_OID, AES_256_CBC_OID, AES_256_GCM_OID,
     DES_CBC_OID, DES_EDE3_CBC_OID,
 };
-use asn1_core::{Error, Header, Length, ObjectIdentifier, Reader, SliceReader, Tag, Writer};
+use asn1_core::{Error, Header, Length, ObjectIdentifier, Reader, Tag, Writer};
 use der_core::{
-    AnyRef, Canonical, Compared, Decode, DecodeValue, EncodeValue, FixedTag, OctetStringRef,
-    Sequence, Spelled, pair_len, write_pair,
+    AnyRef, Canonical, Compared, DecodeValue, EncodeValue, FixedTag, OctetStringRef, Sequence,
+    Spelled, pair_len, write_pair,
 };
-use spki::{AlgorithmIdentifier, AlgorithmIdentifierRef};
+use spki::{AlgorithmIdentifier, AlgorithmIdentifierRef, read_algorithm_as};
 
 /// A cipher with its initialization vector or nonce (RFC 8018 appendix B.2, RFC 5084 section 3.2), as an algorithm
 /// whose parameters are that OCTET STRING.
@@ -237,15 +237,7 @@ impl<'a> DecodeValue<&'a [u8]> for EncryptionScheme {
         r: &mut R,
         header: Header,
     ) -> Result<EncryptionScheme, Error> {
-        let mut ahead = *r;
-        let value = ahead.read_slice(header.length)?;
-        let mut inner = SliceReader::new(value);
-        let oid = ObjectIdentifier::decode(&mut inner)?;
-        let parameters = Option::<AnyRef<'a>>::decode(&mut inner)?;
-        let cipher = EncryptionScheme::try_from(AlgorithmIdentifier { oid, parameters })?;
-        inner.finish()?;
-        *r = ahead;
-        Ok(cipher)
+        read_algorithm_as(r, header)
     }
 
     ghost exact = { λ t. cipher_of-exact };

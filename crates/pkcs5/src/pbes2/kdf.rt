@@ -16,12 +16,12 @@ use crate::error;
 use crate::pbes2::identifiers::{PBKDF2_OID, SCRYPT_OID};
 use crate::pbes2::pbkdf2_params::Pbkdf2Params;
 use crate::pbes2::scrypt_params::ScryptParams;
-use asn1_core::{Error, Header, Length, ObjectIdentifier, Reader, SliceReader, Tag, Writer};
+use asn1_core::{Error, Header, Length, ObjectIdentifier, Reader, Tag, Writer};
 use der_core::{
-    AnyRef, Canonical, Compared, Decode, DecodeValue, EncodeValue, FixedTag, Sequence, Spelled,
-    pair_len, write_pair,
+    AnyRef, Canonical, Compared, DecodeValue, EncodeValue, FixedTag, Sequence, Spelled, pair_len,
+    write_pair,
 };
-use spki::{AlgorithmIdentifier, AlgorithmIdentifierRef};
+use spki::{AlgorithmIdentifierRef, read_algorithm_as};
 
 /// A key derivation function with its parameters (RFC 8018 appendix A.4).
 ///
@@ -178,15 +178,7 @@ impl<'a> DecodeValue<&'a [u8]> for Kdf {
 
     /// Refusals as of the algorithm; octets behind its parameters are `Malformed` last.
     fn decode_value<R: Reader<&'a [u8]>>(r: &mut R, header: Header) -> Result<Kdf, Error> {
-        let mut ahead = *r;
-        let value = ahead.read_slice(header.length)?;
-        let mut inner = SliceReader::new(value);
-        let oid = ObjectIdentifier::decode(&mut inner)?;
-        let parameters = Option::<AnyRef<'a>>::decode(&mut inner)?;
-        let kdf = Kdf::try_from(AlgorithmIdentifier { oid, parameters })?;
-        inner.finish()?;
-        *r = ahead;
-        Ok(kdf)
+        read_algorithm_as(r, header)
     }
 
     ghost exact = { λ t. kdf_of-exact };

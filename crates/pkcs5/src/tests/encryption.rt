@@ -1,42 +1,37 @@
 //! Encryption and decryption: a vector of RFC 8018's scheme as OpenSSL writes it, and refusals. Each pseudorandom function and each
 //! cipher is tried by the lines of `tests/vectors/schemes.txt`.
-ghost use Rattle.std.specs.Prelude.{◌≡◌, IfOk, IfErr};
-ghost use Rattle.pkcs5.specs.Refusals.{RefusesToEncryptIn};
-
-use crate::opening_laws::decryption_undoes_encryption;
+use crate::Error;
 use crate::pbes2::{
     EncryptionKey, EncryptionScheme, Kdf, PBKDF2_OID, Parameters, Pbkdf2Params, Pbkdf2Prf, Salt,
 };
-use crate::{Error, Result};
-use asn1_core::Octets;
 use std::alloc::Global;
 use std::process::Abort;
 
 /// A private key of Ed25519 (RFC 8410 section 7).
-const KEY: [u8; 48] =
+pub const KEY: [u8; 48] =
     *b"\x30\x2e\x02\x01\x00\x30\x05\x06\x03\x2b\x65\x70\x04\x22\x04\x20\x17\xed\x9c\x73\xe9\xdb\x64\x9e\xc1\x89\xa6\x12\x83\x1c\x5f\xc5\x70\x23\x82\x07\xc1\xaa\x9d\xfb\xd2\xc5\x3e\x3f\xf5\xe5\xea\x85";
 
 /// The vector's password.
-const PASSWORD: [u8; 8] = *b"hunter42";
+pub const PASSWORD: [u8; 8] = *b"hunter42";
 
 /// What this key is encrypted to under that password.
-const SEALED_KEY: [u8; 64] =
+pub const SEALED_KEY: [u8; 64] =
     *b"\xd0\xcd\x6c\x77\x0f\x4b\xb8\x71\x76\x42\x23\x05\xc1\x74\x01\x80\x9e\x22\x66\x74\xce\x74\x18\x5d\x22\x1b\xfd\xaa\x95\x06\x98\x90\xc8\x88\x2f\xce\x02\xb0\x5d\x41\xbc\xbf\x54\xb0\x35\x59\x5b\xcd\x41\x54\xb3\x25\x93\x70\x84\x69\xb8\x6a\xac\xf8\x81\x5a\x7b\x2b";
 
 /// The vector's initialization vector.
 const KEY_IV: [u8; 16] = *b"\xb2\xd0\x2d\x78\xb2\xef\xd9\xdf\xf6\x94\xcf\x8e\x0a\xf4\x09\x25";
 
 /// Another initialization vector.
-const IV: [u8; 16] = *b"\x10\x11\x12\x13\x14\x15\x16\x17\x18\x19\x1a\x1b\x1c\x1d\x1e\x1f";
+pub const IV: [u8; 16] = *b"\x10\x11\x12\x13\x14\x15\x16\x17\x18\x19\x1a\x1b\x1c\x1d\x1e\x1f";
 
 /// The parameters of the key's vector.
-fn key_parameters(rt: &impl Abort) -> Parameters {
+pub fn key_parameters(rt: &impl Abort) -> Parameters {
     let salt = b"\x79\xd9\x82\xe7\x0d\xf9\x1a\x88";
     Parameters::generate_pbkdf2_sha256_aes256cbc(2048, salt, KEY_IV).expect(rt, "parameters")
 }
 
 /// The same with a stated length of the key.
-fn with_key_length(rt: &impl Abort, key_length: u16) -> Parameters {
+pub fn with_key_length(rt: &impl Abort, key_length: u16) -> Parameters {
     let Parameters { kdf, encryption } = key_parameters(rt);
     let Kdf::Pbkdf2(mut params) = kdf else {
         panic!(rt; "PBKDF2");
@@ -46,21 +41,6 @@ fn with_key_length(rt: &impl Abort, key_length: u16) -> Parameters {
         kdf: Kdf::Pbkdf2(params),
         encryption,
     }
-}
-
-/// The text encrypted and decrypted again, which is the same text.
-fn there_and_back(
-    alloc: Global,
-    parameters: &Parameters,
-    password: &[u8],
-    text: &[u8],
-) -> Result<Octets>
-    ensures ok { IfOk result (λ m. m ≡ text.now) }
-    ensures err { IfErr result (λ e. RefusesToEncryptIn parameters.now e) }
-{
-    let sealed = parameters.encrypt(alloc, password, text)?;
-    decryption_undoes_encryption();
-    parameters.decrypt(alloc, password, sealed.as_slice())
 }
 
 /// Whether these calls of the parameters encrypt the text to the ciphertext and decrypt it again.
@@ -124,14 +104,6 @@ fn a_key_is_derived_in_the_stated_rounds(rt: HostRuntime) {
         key.as_slice(),
         b"\xea\x6c\x01\x4d\xc7\x2d\x6f\x8c\xcd\x1e\xd9\x2a\xce\x1d\x41\xf0\xd8\xde\x89\x57".as_slice()
     );
-}
-
-#[test]
-fn a_text_comes_back(rt: HostRuntime) {
-    let alloc = rt.alloc();
-    let parameters = key_parameters(&rt);
-    let text = there_and_back(alloc, &parameters, b"hunter43", b"a text").expect(&rt, "a text");
-    assert_eq!(rt; text.as_slice(), b"a text".as_slice());
 }
 
 #[test]

@@ -18,7 +18,7 @@ use std::alloc::Global;
 use std::process::Abort;
 
 /// The first vector of PBES2 with AES in CBC mode: salt `79d982e70df91a88`, 2,048 rounds of HMAC over SHA-256, AES-256.
-const AES_256: &str =
+pub const AES_256: &str =
     "305706092a864886f70d01050d304a302906092a864886f70d01050c301c040879d982e70df91a8802020800300c06082a864886f70d02090500301d060960864801650304012a0410b2d02d78b2efd9dff694cf8e0af40925";
 
 /// Parameters of PBKDF2, of salt `00` to `07` and 2,048 rounds.
