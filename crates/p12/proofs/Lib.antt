@@ -18,3 +18,4 @@ mod UnitsPass
 mod Characters
 mod Refusals
 mod OneCiphertext
+mod HeldBags

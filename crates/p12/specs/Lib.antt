@@ -24,3 +24,4 @@ pub mod Units
 pub mod AttributeView
 pub mod BagView
 pub mod Sole
+pub mod Collected

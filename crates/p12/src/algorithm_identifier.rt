@@ -15,7 +15,7 @@ use crate::error::Error;
 use crate::identifiers::{
     PBE_WITH_SHA1_AND_3KEY_TRIPLE_DES_CBC, PBE_WITH_SHA1_AND_40BIT_RC2_CBC, SHA1, SHA256,
 };
-use crate::opening::{TRIPLE_DES_BLOCK, open_blocks, open_pbes2};
+use crate::opening::{TRIPLE_DES_BLOCK, open_blocks, open_pbes2, opened_pbes2};
 use crate::password::bmp_string;
 use crate::sealing::{fitting, seal_blocks, seal_pbes2};
 use asn1_core::{
@@ -682,6 +682,8 @@ impl AlgorithmIdentifier {
         requires password { length password.now < 2 ^ 59 }
         requires salt { length (salt_of self.now) < 2 ^ 59 }
         ensures value { IfOk result (λ m. m ≡ unlock_pbe self.now password.now ciphertext.now) }
+        ensures short { IfOk result
+            (λ m. IfSome m (λ text. length text ≤ length ciphertext.now)) }
         ensures err { IfErr result (λ e. e ≡ Error.Memory) }
         ensures steps { OnOk result (steps.new ≡ steps.old + taken_pbe self.now ciphertext.now) }
         ensures at_most { (steps.old ≤ steps.new)
@@ -714,6 +716,8 @@ impl AlgorithmIdentifier {
         requires password { length password.now < 2 ^ 59 }
         requires salt { length (salt_of self.now) < 2 ^ 59 }
         ensures value { IfOk result (λ m. m ≡ unlock_pbe self.now password.now ciphertext.now) }
+        ensures short { IfOk result
+            (λ m. IfSome m (λ text. length text ≤ length ciphertext.now)) }
         ensures err { IfErr result (λ e. e ≡ Error.Memory) }
     {
         let mut steps = Steps::<L>::open(blank);
@@ -731,6 +735,8 @@ impl AlgorithmIdentifier {
         requires password { length password.now < 2 ^ 59 }
         requires salt { length (salt_of self.now) < 2 ^ 59 }
         ensures value { IfOk result (λ m. m ≡ unlock_pbe self.now password.now ciphertext.now) }
+        ensures short { IfOk result
+            (λ m. IfSome m (λ text. length text ≤ length ciphertext.now)) }
         ensures err { IfErr result (λ e. e ≡ Error.Memory) }
     {
         self.decrypt_pbe_from::<Brand>(alloc, ciphertext, password, Blank::new(1))
@@ -753,6 +759,8 @@ impl AlgorithmIdentifier {
         requires password { length password.now < 2 ^ 57 }
         requires salt { length (salt_of self.now) < 2 ^ 59 }
         ensures value { IfOk result (λ m. m ≡ unlock self.now password.now ciphertext.now) }
+        ensures short { IfOk result
+            (λ m. IfSome m (λ text. length text ≤ length ciphertext.now)) }
         ensures err { IfErr result (λ e. e ≡ Error.Memory) }
         ensures steps { OnOk result (steps.new ≡ steps.old + taken self.now ciphertext.now) }
         ensures at_most { (steps.old ≤ steps.new)
@@ -768,6 +776,37 @@ impl AlgorithmIdentifier {
                 Ok(Some(text))
             }
             None => Ok(None),
+        }
+    }
+
+    /// `decrypt_text_counted` where nothing is counted.
+    #[tactic(auto, unfolding(crate::specs::AlgorithmIdentifier::unlock))]
+    pub fn decrypt_text(
+        &self,
+        alloc: Global,
+        ciphertext: &[u8],
+        password: &str,
+    ) -> Result<Option<Octets>, Error>
+        requires ciphertext { length ciphertext.now < 2 ^ 32 }
+        requires password { length password.now < 2 ^ 57 }
+        requires salt { length (salt_of self.now) < 2 ^ 59 }
+        ensures value { IfOk result (λ m. m ≡ unlock self.now password.now ciphertext.now) }
+        ensures short { IfOk result
+            (λ m. IfSome m (λ text. length text ≤ length ciphertext.now)) }
+        ensures err { IfErr result (λ e. e ≡ Error.Memory) }
+    {
+        match self {
+            AlgorithmIdentifier::Pbes2(parameters) => {
+                opened_pbes2(alloc, parameters, ciphertext, password.as_bytes())
+            }
+            AlgorithmIdentifier::PbeWithSHAAnd3KeyTripleDESCBC(_) => {
+                let units = bmp_string(alloc, password)?;
+                self.decrypt_pbe(alloc, ciphertext, units.as_slice())
+            }
+            AlgorithmIdentifier::Sha1
+            | AlgorithmIdentifier::Sha256
+            | AlgorithmIdentifier::PbewithSHAAnd40BitRC2CBC(_)
+            | AlgorithmIdentifier::OtherAlg(_) => Ok(None),
         }
     }
 

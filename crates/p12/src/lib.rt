@@ -6,6 +6,7 @@ mod attribute;
 mod bags_view;
 mod carry;
 mod cert_bag;
+mod collecting;
 mod content_info;
 mod contents_view;
 mod derivation;

@@ -10,12 +10,14 @@ ghost use Rattle.p12.specs.declared.algorithm_identifier.AlgorithmIdentifier.The
 use crate::algorithm_identifier::{ParamsView, rounds_of};
 use crate::derivation::derive;
 use crate::error::Error;
+use asn1_core::Octets;
 use block_core::{BlockCipher, TdesEde3};
 use mac_modes::cbc_decrypt_padded;
 use pkcs5::pbes2::Parameters;
 use sha1::Sha1;
 use std::alloc::Global;
-use std::sync::ledger::Ledger;
+use std::marker::Brand;
+use std::sync::ledger::{Blank, Ledger};
 use steps::Steps;
 
 /// What a derived text is for (RFC 7292 appendix B.3).
@@ -111,4 +113,45 @@ pub(crate) fn open_pbes2<L: Ledger>(
         Ok(len) => Some(len),
         Err(_) => None,
     }
+}
+
+fn opened_pbes2_from<L: Ledger>(
+    alloc: Global,
+    parameters: &Parameters,
+    ciphertext: &[u8],
+    password: &[u8],
+    blank: Blank,
+) -> Result<Option<Octets>, Error>
+    requires name { blank.name ≡ L.name }
+    requires parts { blank.parts ≡ L.parts }
+    requires some { 0 < blank.parts }
+    ensures value { IfOk result
+        (λ m. m ≡ unlock_pbes2 parameters.now password.now ciphertext.now) }
+    ensures short { IfOk result (λ m. IfSome m (λ text. length text ≤ length ciphertext.now)) }
+    ensures err { IfErr result (λ e. e ≡ Error.Memory) }
+{
+    let mut steps = Steps::<L>::open(blank);
+    let mut text = Octets::from_slice(alloc, ciphertext)?;
+    match open_pbes2(parameters, password, text.as_mut_slice(), &mut steps) {
+        Some(len) => {
+            text.truncate(len);
+            Ok(Some(text))
+        }
+        None => Ok(None),
+    }
+}
+
+/// The text under PBES2, in memory of its own; nothing is counted.
+pub(crate) fn opened_pbes2(
+    alloc: Global,
+    parameters: &Parameters,
+    ciphertext: &[u8],
+    password: &[u8],
+) -> Result<Option<Octets>, Error>
+    ensures value { IfOk result
+        (λ m. m ≡ unlock_pbes2 parameters.now password.now ciphertext.now) }
+    ensures short { IfOk result (λ m. IfSome m (λ text. length text ≤ length ciphertext.now)) }
+    ensures err { IfErr result (λ e. e ≡ Error.Memory) }
+{
+    opened_pbes2_from::<Brand>(alloc, parameters, ciphertext, password, Blank::new(1))
 }

@@ -1,12 +1,12 @@
 //! Stores.
-ghost use Rattle.std.specs.Prelude.{◌+◌, ◌≡◌, length, OnOk, IfOk, IfErr};
+ghost use Rattle.std.specs.Prelude.{◌+◌, ◌-◌, ◌^◌, ◌≡◌, length, OnOk, IfOk, IfErr};
 ghost use Rattle.asn1_core.specs.Gives.{Gives, ReadsAs};
 ghost use Rattle.asn1_core.specs.Reading.{perhaps, whole};
 ghost use Rattle.asn1_core.specs.Texts.{seen_option};
 ghost use Rattle.p12.specs.ContentView.{ContentStands};
 ghost use Rattle.p12.specs.MacView.{seen_mac};
 ghost use Rattle.p12.specs.StoreView.{seen_store};
-ghost use Rattle.p12.specs.Pfx.{IsStore, NoStore};
+ghost use Rattle.p12.specs.Pfx.{IsStore, NoStore, StoreFits};
 ghost use Rattle.asn1_core.specs.declared.error.Error.TheVariants as asn1;
 ghost use Rattle.p12.specs.Error.{MalformedOnly};
 ghost use Rattle.p12.specs.Reading.{mac_at, pfx_at};
@@ -120,9 +120,12 @@ impl<'a> StoreView<'a> {
 }
 
 impl PFX {
-    /// The store of these octets. `Malformed` exactly where they are the text of none.
+    /// The store of these octets. `Malformed` exactly where they are the text of none. Its parts have fewer than 2^32 octets, as
+    /// the calls that open it want.
+    #[tactic(auto, using(crate::proofs::HeldBags::short_fits))]
     pub fn parse(alloc: Global, bytes: &[u8]) -> Result<PFX, Error>
         ensures ok { IfOk result (λ x. IsStore bytes.now x) }
+        ensures fits { IfOk result (StoreFits (2 ^ 32 - 1)) }
         ensures err { IfErr result (λ e. MalformedOnly e (NoStore bytes.now)) }
     {
         let view = match StoreView::parse(bytes) {

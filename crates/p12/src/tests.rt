@@ -166,6 +166,27 @@ fn a_sealed_content_opens(rt: HostRuntime) -> Result<(), Fail> {
 }
 
 #[test]
+fn the_bags_of_a_store_are_collected(rt: HostRuntime) -> Result<(), Fail> {
+    let alloc = rt.alloc();
+    for octets in [STORE, SEALED_STORE] {
+        let store = PFX::parse(alloc, octets)?;
+        assert!(rt; store.verify_mac(alloc, "p")? && !store.verify_mac(alloc, "q")?);
+        assert!(rt; store.bags(alloc, "p")?.len() == 1);
+        let certificates = store.cert_x509_bags(alloc, "p")?;
+        assert!(rt; certificates.len() == 1 && store.cert_bags(alloc, "p")?.len() == 1);
+        let Some(certificate) = certificates.get(0) else {
+            panic!(rt; "no certificate");
+        };
+        assert!(rt; certificate.as_slice() == &[0x30, 0][..]);
+        assert!(rt; store.cert_sdsi_bags(alloc, "p")?.is_empty());
+        assert!(rt; store.key_bags(alloc, "p")?.is_empty());
+    }
+    let store = PFX::parse(alloc, SEALED_STORE)?;
+    assert!(rt; store.bags(alloc, "q").is_err());
+    Ok(())
+}
+
+#[test]
 fn an_encrypted_key_opens(rt: HostRuntime) -> Result<(), Fail> {
     let alloc = rt.alloc();
     let identifier = ObjectIdentifier::from_bytes(b"\x2a\x86\x48\x86\xf7\x0d\x01\x0c\x0a\x01\x02")?;
