@@ -361,9 +361,10 @@ exact_written : (words : List (List ℕ)) (call : Call) (output : Stream) (due :
 exact_written words call output due text s d (whole is all) c x g = inr (exact_as words call c x s text g (due_as words call s due text is d))
 exact_written words call output due text s d (cut is rose part) c x g = inl is
 
-usage_written : (output : Stream) (d : Result (List (List ℕ)) Status) (s : Status) → d ≡ Err Usage → IsWritten output (decided_status d) (decided_text d) s → (s ≡ Usage) ⊎ (s ≡ WriteFault)
-usage_written output d s is (whole same all) = inl (same ∙ ap decided_status is)
-usage_written output d s is (cut same rose part) = inr same
+-- What was decided is answered, or that a write failed.
+err_written : (output : Stream) (d : Result (List (List ℕ)) Status) (s t : Status) → d ≡ Err t → IsWritten output (decided_status d) (decided_text d) s → (s ≡ t) ⊎ (s ≡ WriteFault)
+err_written output d s t is (whole same all) = inl (same ∙ ap decided_status is)
+err_written output d s t is (cut same rose part) = inr same
 
 unworked_by : (words : List (List ℕ)) (call : Call) (output : Stream) (d : Result (List (List ℕ)) Status) (s : Status) → Due words call (decided_status d) (decided_text d)
     → IsWritten output (decided_status d) (decided_text d) s → (s ≡ ReadFault) ⊎ ((s ≡ InputTooLong) ⊎ (s ≡ InputMalformed)) → TakesNoStep call
@@ -373,17 +374,18 @@ unworked_by words call output d s due w (inr (inr is)) = (due_at words call outp
 
 pub answers : (words : List (List ℕ)) (call : Call) (output : Stream) (d : Result (List (List ℕ)) Status) (s : Status)
     → (IsNoCommand words → d ≡ Err Usage) → IfOk d (λ lines. Makes words call (joined lines)) → IfErr d (λ s. Refuses words call (kind_of s))
-    → (call.input.faults ≤ call.input.faults_after) × (call.draw.faults ≤ call.draw.faults_after)
+    → (call.input.faults ≤ call.input.faults_after) × (call.draw.faults ≤ call.draw.faults_after) → (call.input.faults < call.input.faults_after → d ≡ Err ReadFault)
     → ((c : Command) → IsCommand words c → (call.steps ≤ call.steps_after) × (call.steps_after ≤ call.steps + c.limit))
     → output.faults ≤ output.faults_after → IsWritten output (decided_status d) (decided_text d) s → Answers words call output s
-answers words call output d s none_due made refuses counts most count w =
+answers words call output d s none_due made refuses counts last most count w =
     let due = decided words call d made refuses in
     let at = λ (t : Status) (not : t ≢ WriteFault) (is : s ≡ t). due_at words call output (decided_status d) (decided_text d) s t due w not is in
     record {
-      usage = λ none. usage_written output d s (none_due none) w;
+      usage = λ none. err_written output d s Usage (none_due none) w;
       usage_only = λ is. (at Usage (λ e. cc) is).0.0;
       read_fault = λ is. (at ReadFault (λ e. cc) is).0.0.2.0;
       write_fault = λ is. (cut_part words call output (decided_status d) (decided_text d) s due w is).0;
+      failed_read = λ rose. err_written output d s ReadFault (last rose) w;
       counts = (counts.0, counts.1, count);
       too_long = λ is. (at InputTooLong (λ e. cc) is).0.0.2.0;
       malformed = λ is. (at InputMalformed (λ e. cc) is).0.0.2.0;

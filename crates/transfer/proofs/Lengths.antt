@@ -1,18 +1,14 @@
 -- The lengths of what a store holds.
-use Rattle.std.proofs.Common.{ℕ, zero, suc, ◌≡◌, ◌≤◌, List, [], ◌∷◌, length, arith, subst}
+use Rattle.std.proofs.Common.{ℕ, ◌≡◌, ◌≤◌, List, length, arith, subst}
 use Rattle.std.specs.Prelude.{All, Option, Some, IfSome}
 use Rattle.p12.specs.declared.content_info.ContentInfo.{ContentInfo}
 use Rattle.p12.specs.declared.content_info.ContentInfo.TheVariants as content
 use Rattle.p12.specs.declared.mac_data.MacData.{MacData}
 use Rattle.p12.specs.declared.pfx.PFX.{PFX}
-use Rattle.p12.specs.declared.safe_bag.SafeBag.{SafeBag}
 use Rattle.p12.specs.ContentInfo.{ContentFits, IsContents}
 use Rattle.p12.specs.Pfx.{IsStore}
-use Rattle.p12.specs.SafeBag.{BagFits}
-use Rattle.p12.proofs.Laws.{bags_fit, contents_fit, store_fits}
+use Rattle.p12.proofs.Laws.{contents_fit, store_fits}
 use Rattle.transfer.specs.Limits.{store_limit}
-use Rattle.asn1_core.specs.Sets.{Each}
-use Rattle.transfer.specs.Opening.{ContentOpens}
 
 at_some : (P : MacData → Type 0) (o : Option MacData) (m : MacData) → o ≡ Some m → IfSome o P → P m
 at_some P o m is h = let Q : Option MacData → Type 0 = λ o. IfSome o P in subst Q is h
@@ -27,16 +23,3 @@ salt_fits b s m le is has = omega (arith, le, at_some (λ m. length m.salt ≤ l
 
 pub contents_within : (v : List ℕ) (cs : List ContentInfo) → length v ≤ store_limit → IsContents v cs → All (ContentFits store_limit) cs
 contents_within v cs le is = λ k d lt. let f = contents_fit v cs is k d lt in (omega (arith, f.0, le), omega (arith, f.1, le))
-
--- ---- What opened
-
-bags_first : (g : List SafeBag) (gss : List (List SafeBag)) → All BagFits g → All (All BagFits) gss → All (All BagFits) (g ∷ gss)
-bags_first g gss f h zero d lt = f
-bags_first g gss f h (suc k) d lt = h k d (omega (arith, lt))
-
--- The bags of opened contents fit.
-pub opened_fit : (p : List ℕ) (cs : List ContentInfo) (gss : List (List SafeBag)) → Each (ContentOpens p) cs gss → All (All BagFits) gss
-opened_fit p [] [] h = λ k d lt. absurd (omega (arith, lt))
-opened_fit p [] (g ∷ gss) h = absurd h
-opened_fit p (c ∷ cs) [] h = absurd h
-opened_fit p (c ∷ cs) (g ∷ gss) h = bags_first g gss (bags_fit h.0.0 g h.0.2) (opened_fit p cs gss h.1)

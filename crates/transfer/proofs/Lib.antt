@@ -6,6 +6,10 @@ mod Lists
 mod Lengths
 mod Faults
 mod Rows
+mod Overwriting
+mod ContentsInPlace
+mod BagsInPlace
+mod KeysInPlace
 pub mod Sole
 pub mod Valid
 mod Documents

@@ -10,7 +10,7 @@ use Rattle.transfer.specs.declared.store.error.TransferError.{TransferError}
 use Rattle.transfer.specs.Parts.{AreOpen}
 use Rattle.transfer.specs.Opening.{HasVerdict, ContentsTable, FirstCause, MacTable, all_shrouded, content_share, key_share, of_contents, of_keys, opened, refused}
 use Rattle.transfer.specs.Verdicts.{IsMacOk, IsValid, StoreOpens}
-use Rattle.transfer.proofs.Rows.{all_open, has_contents, has_mac, has_store}
+use Rattle.transfer.proofs.Rows.{all_open, contents_then, has_contents, has_mac, has_store}
 
 pub not_refused : (gss : List (List SafeBag)) (ks : List (List ℕ)) (e : TransferError) → opened gss ks ≡ refused e → ⊥
 not_refused gss ks e h = grind (arith, h)
@@ -103,7 +103,7 @@ open_comes b p limit gss ks n o le =
     let cs = o.parts in
     let c : AreOpen (of_contents p limit) limit m.iterations cs gss = record { each = o.opening.bags; within = omega (arith, o.work, le) } in
     let k : AreOpen (of_keys p limit) limit (m.iterations + sum_by content_share cs) (all_shrouded gss) ks = record { each = o.opening.keys; within = omega (arith, o.work, le) } in
-    let t = all_open p limit m.iterations (m.iterations + sum_by content_share cs) cs gss ks c refl k in
+    let t = contents_then p limit m.iterations (m.iterations + sum_by content_share cs) cs gss (opened gss ks) _ c refl (all_open p limit (m.iterations + sum_by content_share cs) gss ks k) in
     has_store b p limit o.store (opened gss ks) n o.short o.is (has_mac p limit o.store o.text m (opened gss ks) n o.is_data o.has
     (has_contents p limit o.text m cs (opened gss ks) n o.mac_ok (omega (arith, o.work, le)) o.opening.contents
     (subst (λ n. ContentsTable p limit m.iterations cs (opened gss ks) n) (omega (arith, o.work)) t)))

@@ -155,9 +155,12 @@ pub record Answers (words : List (List ℕ)) (call : Call) (output : Stream) (s 
   -- Usage comes exactly where the words are no command's.
   pub usage : IsNoCommand words → (s ≡ Usage) ⊎ (s ≡ WriteFault)
   pub usage_only : s ≡ Usage → IsNoCommand words
-  -- ReadFault and WriteFault come only where the object's count of faults rose, or stands at its last value. No count falls.
+  -- ReadFault and WriteFault come only where the object's count of faults rose, or stands at its last value.
   pub read_fault : s ≡ ReadFault → Rose call.input.faults call.input.faults_after
   pub write_fault : s ≡ WriteFault → Rose output.faults output.faults_after
+  -- A read that fails is the last: where the source's count rose, the answer is ReadFault.
+  pub failed_read : call.input.faults < call.input.faults_after → (s ≡ ReadFault) ⊎ (s ≡ WriteFault)
+  -- No count falls.
   pub counts : (call.input.faults ≤ call.input.faults_after) × (call.draw.faults ≤ call.draw.faults_after) × (output.faults ≤ output.faults_after)
   -- InputTooLong comes only where more octets than the limit stand in the input.
   pub too_long : s ≡ InputTooLong → IfSome call.input.told (λ x. input_limit < length x)

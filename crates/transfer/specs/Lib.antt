@@ -14,6 +14,7 @@ pub mod Sealing
 pub mod Status
 pub mod Parts
 pub mod Opening
+pub mod InPlace
 pub mod Verdicts
 pub mod Transferred
 pub mod Answers

@@ -2,13 +2,15 @@
 ghost use Rattle.std.specs.Prelude.{◌≡◌, ◌<◌};
 
 mod key_rows;
+mod memory_rows;
 
 use crate::program::due_text::write_lines;
 use crate::program::input_text::read_text;
-use crate::{MemorySink, MemorySource, Opened, Status, TransferError, open_store, run};
+use crate::{MemorySink, MemorySource, Opened, Status, TransferError, open_store, run, transfer};
 use asn1_core::{Items, Octets};
 use key_rows::{KEY_ROWS, ONE_DOCUMENT, ONE_KEY};
 use mac_modes::{Draw, DrawnBytes, FailingDraw};
+use memory_rows::{FOUR_BAGS, ONE_BAG};
 use std::alloc::Global;
 use std::marker::Brand;
 use std::process::Abort;
@@ -653,4 +655,29 @@ fn stores_with_a_fault_are_not_opened(rt: HostRuntime) -> Result<(), Fail> {
         assert_eq!(rt; answer, Some(refused));
     }
     Ok(())
+}
+
+/// Whether a store is transferred, under the password `p` and within one step, and has no certificate. This asks for no
+/// memory beyond what `transfer` asks for.
+fn has_no_certificate<L: Ledger>(alloc: Global, store: &[u8], blank: Blank) -> bool
+    requires name { blank.name ≡ L.name }
+    requires parts { blank.parts ≡ L.parts }
+    requires some { 0 < blank.parts }
+{
+    let mut steps = Steps::<L>::open(blank);
+    let mut draw = DrawnBytes::new(Octets::new(alloc));
+    match transfer(alloc, store, "p", b"q", 1, &mut draw, 1, &mut steps) {
+        Ok(transferred) => transferred.certificates.is_empty(),
+        Err(_) => false,
+    }
+}
+
+#[test]
+fn four_bags_are_transferred(rt: HostRuntime) {
+    assert!(rt; has_no_certificate::<Brand>(rt.alloc(), &FOUR_BAGS, Blank::new(1)));
+}
+
+#[test]
+fn one_bag_is_transferred(rt: HostRuntime) {
+    assert!(rt; has_no_certificate::<Brand>(rt.alloc(), &ONE_BAG, Blank::new(1)));
 }

@@ -106,6 +106,7 @@ fn decide_store<D: Draw, L: Ledger>(
 /// What the input spells, or the status that is answered in its place. The text of the input is let go.
 fn spelled_by<I: Source>(alloc: Global, input: &mut I) -> Result<Spelled, Status>
     ensures count { I.faults input.old ≤ I.faults input.new }
+    ensures last { I.faults input.old < I.faults input.new → result ≡ Err Status.ReadFault }
     ensures spelled { let read = stream (I.left input.old) (I.left input.new) (I.faults input.old)
         (I.faults input.new) in
         IfOk result (λ spelled. IsRead read (λ x. IsInput x spelled.store spelled.line)) }
@@ -161,6 +162,7 @@ fn decide_input<I: Source, D: Draw, L: Ledger>(
         IfErr result (λ s. RefusesFor call (command_in command.entry) (kind_of s)) }
     ensures counts { (I.faults input.old ≤ I.faults input.new)
         × (D.faults draw.old ≤ D.faults draw.new) }
+    ensures last { I.faults input.old < I.faults input.new → result ≡ Err Status.ReadFault }
     ensures line { IfSome (I.left input.old) (λ x. (store line : List ℕ)
         → IsInput x store (Some line) → draw.new ≡ draw.old) }
     ensures undrawn { IfErr result (λ s. s ≢ Status.Rng → s ≢ Status.Memory → draw.new ≡ draw.old) }
@@ -199,6 +201,7 @@ pub(crate) fn decide<I: Source, D: Draw, L: Ledger>(
         × (draw.new ≡ draw.old) × (steps.new ≡ steps.old) }
     ensures counts { (I.faults input.old ≤ I.faults input.new)
         × (D.faults draw.old ≤ D.faults draw.new) }
+    ensures last { I.faults input.old < I.faults input.new → result ≡ Err Status.ReadFault }
     ensures line { IfSome (I.left input.old) (λ x. (store line : List ℕ)
         → IsInput x store (Some line) → draw.new ≡ draw.old) }
     ensures undrawn { IfErr result (λ s. s ≢ Status.Rng → s ≢ Status.Memory → draw.new ≡ draw.old) }

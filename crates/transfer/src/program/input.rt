@@ -1,5 +1,5 @@
 //! Reading the whole input.
-ghost use Rattle.std.specs.Prelude.{◌≡◌, ◌<◌, ◌≤◌, length, IfOk, IfSome};
+ghost use Rattle.std.specs.Prelude.{◌≡◌, ◌<◌, ◌≤◌, length, Err, IfOk, IfSome};
 ghost use Rattle.std.specs.Result.{IsErrOf};
 ghost use Rattle.outside.specs.Faults.{Rose};
 ghost use Rattle.transfer.specs.Input.{IsWhole, input_limit};
@@ -30,9 +30,10 @@ impl From<AllocError> for InputError {
     }
 }
 
-/// Reads the source to its end.
+/// Reads the source to its end. A read that fails is the last.
 pub(crate) fn read_input<I: Source>(alloc: Global, input: &mut I) -> Result<Vec<u8>, InputError>
     ensures count { I.faults input.old ≤ I.faults input.new }
+    ensures last { I.faults input.old < I.faults input.new → result ≡ Err InputError.ReadFault }
     ensures whole { IfOk result
         (λ octets. IsWhole (I.left input.old) (I.left input.new) octets.items) }
     ensures fault { IsErrOf result InputError.ReadFault

@@ -1,39 +1,51 @@
 //! The certificates of an opened store.
-ghost use Rattle.std.specs.Prelude.{◌≡◌, ◌++◌, IfOk, IfErr, OnOk};
+ghost use Rattle.std.specs.Prelude.{◌≡◌, ◌++◌, List, IfOk, IfErr, OnOk};
+ghost use Rattle.p12.specs.declared.safe_bag.SafeBag.{SafeBag};
+ghost use Rattle.asn1_core.specs.Sets.{Each};
+ghost use Rattle.transfer.specs.InPlace.{BagsAt, StandAt};
 ghost use Rattle.transfer.specs.Opening.{all_certificates, certificates_in};
 
+use crate::store::bags::bags_at;
 use asn1_core::{Error, Items, Octets};
-use p12::{CertBag, SafeBag, SafeBagKind};
+use p12::{BagView, BagsView, Place};
 use std::alloc::Global;
 
 /// Adds the X.509 certificates among the bags of one content, in order.
 fn add_certificates(
     alloc: Global,
-    bags: &[SafeBag],
+    mut bags: BagsView<'_>,
     certificates: &mut Items<Octets>,
 ) -> Result<(), Error>
-    ensures ok { OnOk result (certificates.new ≡ certificates.old ++ certificates_in bags.now) }
+    ensures ok { OnOk result
+        (certificates.new ≡ certificates.old ++ certificates_in bags.entry.left) }
     ensures err { IfErr result (λ e. e ≡ Error.Memory) }
 {
-    for bag in bags {
-        if let SafeBagKind::CertBag(CertBag::X509(certificate)) = &bag.bag {
-            certificates.push(certificate.try_clone(alloc)?)?;
+    while let Some(bag) = bags.next() {
+        match bag {
+            BagView::X509(certificate) => {
+                certificates.push(Octets::from_slice(alloc, certificate)?)?;
+            }
+            BagView::Sdsi(_) | BagView::Shrouded { .. } | BagView::Other { .. } => {}
         }
     }
     Ok(())
 }
 
-/// The X.509 certificates of all contents, in order. The only refusal is `Memory`.
+/// The X.509 certificates of all contents, whose bags stand at these places, in order. The only refusal is `Memory`.
 pub(crate) fn certificates_of(
     alloc: Global,
-    contents: &[Items<SafeBag>],
+    text: &[u8],
+    places: &[Place],
 ) -> Result<Items<Octets>, Error>
-    ensures ok { IfOk result (λ certificates. certificates ≡ all_certificates contents.now) }
+    requires { (bags : List (List SafeBag)) × StandAt text.now places.now bags }
+    ensures ok { IfOk result (λ certificates. (bags : List (List SafeBag))
+        → Each (BagsAt text.now) places.now bags → certificates ≡ all_certificates bags) }
     ensures err { IfErr result (λ e. e ≡ Error.Memory) }
 {
     let mut certificates = Items::new(alloc);
-    for bags in contents {
-        add_certificates(alloc, bags.as_slice(), &mut certificates)?;
+    for place in places {
+        let bags = bags_at(text, *place);
+        add_certificates(alloc, bags, &mut certificates)?;
     }
     Ok(certificates)
 }

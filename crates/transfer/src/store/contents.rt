@@ -1,89 +1,107 @@
-//! Opening the contents of a store, in order.
-ghost use Rattle.std.specs.Prelude.{◌≡◌, ◌+◌, ◌≤◌, ◌<◌, ◌^◌, All, length, IfOk, IfErr};
+//! Opening the contents of a store, in order, in a copy of their text.
+ghost use Rattle.std.specs.Prelude.{◌≡◌, ◌+◌, ◌≤◌, ◌<◌, ◌^◌, All, List, length, IfOk, IfErr, OnOk};
 ghost use Rattle.std.specs.List.{sum_by};
 ghost use Rattle.p12.specs.ContentInfo.{ContentFits};
+ghost use Rattle.p12.specs.ContentView.{ContentBetween, ContentStands, seen_content};
+ghost use Rattle.p12.specs.SafeBag.{IsBags, NoBags};
+ghost use Rattle.p12.specs.declared.safe_bag.SafeBag.{SafeBag};
 ghost use Rattle.transfer.specs.Budget.{Spends, TakesWithin};
+ghost use Rattle.transfer.specs.InPlace.{ContentOpensAt, StandAt};
 ghost use Rattle.transfer.specs.Limits.{store_limit};
 ghost use Rattle.transfer.specs.Parts.{AreOpen, IsFirstFault};
-ghost use Rattle.transfer.specs.Opening.{ContentFault, ContentOpens, RefusedAfter, content_share, of_contents};
+ghost use Rattle.transfer.specs.Opening.{ContentFault, RefusedAfter, content_share, of_contents};
 
 use crate::store::budget::Budget;
 use crate::store::error::TransferError;
 use crate::store::lock::open_lock;
-use crate::store::password::StorePassword;
 use asn1_core::Items;
-use p12::{ContentInfo, Error, SafeBag};
+use p12::{BagsView, ContentView, ContentsView, Place};
 use std::alloc::Global;
 use std::sync::ledger::Ledger;
 use steps::Steps;
 
-/// Opens a content to its bags.
-fn open_content<L: Ledger>(
-    alloc: Global,
-    content: &ContentInfo,
-    password: &StorePassword,
-    budget: &mut Budget,
-    steps: &mut Steps<L>,
-) -> Result<Items<SafeBag>, TransferError>
-    requires fits { ContentFits store_limit content.now }
-    requires password { length password.now < 2 ^ 57 }
-    ensures opened { IfOk result (λ bags. ContentOpens password.now content.now bags
-        × Spends budget.old budget.new (content_share content.now)
-        × (steps.new ≡ steps.old + content_share content.now)) }
-    ensures refused { IfErr result (RefusedAfter
-        (ContentFault password.now budget.old.limit budget.old.spent content.now) steps.old steps.new) }
-    ensures at_most { TakesWithin budget.old steps.old steps.new }
+/// That a text lists bags.
+fn check_bags(text: &[u8]) -> Result<(), TransferError>
+    ensures ok { OnOk result ((bags : List SafeBag) × IsBags text.now bags) }
+    ensures err { IfErr result (λ e. (e ≡ TransferError.ContentMalformed) × NoBags text.now) }
 {
-    match content {
-        ContentInfo::Data(plain) => match SafeBag::parse_all(alloc, plain.as_slice()) {
-            Ok(bags) => Ok(bags),
-            Err(Error::Malformed) => Err(TransferError::ContentMalformed),
-            Err(_) => Err(TransferError::Memory),
-        },
-        ContentInfo::EncryptedData(data) => {
-            let info = &data.encrypted_content_info;
-            let plain = open_lock(
-                alloc,
-                &info.content_encryption_algorithm,
-                info.encrypted_content.as_slice(),
-                password,
-                budget,
-                steps,
-            )?;
-            match SafeBag::parse_all(alloc, plain.as_slice()) {
-                Ok(bags) => Ok(bags),
-                Err(Error::Malformed) => Err(TransferError::ContentMalformed),
-                Err(_) => Err(TransferError::Memory),
-            }
-        }
-        ContentInfo::OtherContext(_) => Err(TransferError::Unsupported),
+    match BagsView::parse(text) {
+        Ok(_) => Ok(()),
+        Err(_) => Err(TransferError::ContentMalformed),
     }
 }
 
-/// Opens each content in order.
-pub(crate) fn open_contents<L: Ledger>(
+/// Opens a content in place, and answers where its bags stand.
+fn open_content<L: Ledger>(
     alloc: Global,
-    contents: &[ContentInfo],
-    password: &StorePassword,
+    content: &ContentView<'_>,
+    text: &mut [u8],
+    password: &str,
     budget: &mut Budget,
     steps: &mut Steps<L>,
-) -> Result<Items<Items<SafeBag>>, TransferError>
-    requires fit { All (ContentFits store_limit) contents.now }
+) -> Result<Place, TransferError>
+    requires stands { ContentStands text.old content.now }
+    requires room { ContentBetween 0 (length text.old) content.now }
+    requires text { length text.old ≤ store_limit }
+    requires fits { ContentFits store_limit (seen_content content.now) }
     requires password { length password.now < 2 ^ 57 }
-    ensures opened { IfOk result (λ bags.
-        AreOpen (of_contents password.now budget.old.limit) budget.old.limit budget.old.spent contents.now bags
-        × Spends budget.old budget.new (sum_by content_share contents.now)
-        × (steps.new ≡ steps.old + sum_by content_share contents.now)) }
+    ensures opened { IfOk result
+        (λ place. ContentOpensAt password.now content.now text.old text.new place
+        × Spends budget.old budget.new (content_share (seen_content content.now))
+        × (steps.new ≡ steps.old + content_share (seen_content content.now))) }
     ensures refused { IfErr result (RefusedAfter
-        (IsFirstFault (of_contents password.now budget.old.limit) budget.old.limit budget.old.spent contents.now) steps.old steps.new) }
+        (ContentFault password.now budget.old.limit budget.old.spent (seen_content content.now))
+        steps.old steps.new) }
     ensures at_most { TakesWithin budget.old steps.old steps.new }
 {
-    let mut opened = Items::new(alloc);
-    for content in contents {
-        match open_content(alloc, content, password, budget, steps) {
-            Ok(bags) => opened.push(bags)?,
+    match content {
+        ContentView::Plain { content, at } => match check_bags(content) {
+            Ok(()) => Ok(*at),
+            Err(e) => Err(e),
+        },
+        ContentView::Encrypted { algorithm, at, .. } => {
+            match open_lock(alloc, algorithm, *at, text, password, budget, steps) {
+                Ok(plain) => match check_bags(&text[plain.start..plain.start + plain.len]) {
+                    Ok(()) => Ok(plain),
+                    Err(e) => Err(e),
+                },
+                Err(e) => Err(e),
+            }
+        }
+        ContentView::Other { .. } => Err(TransferError::Unsupported),
+    }
+}
+
+/// Opens each content in order, in place in a copy of the octets that list them, and answers where the bags of each stand.
+pub(crate) fn open_contents<L: Ledger>(
+    alloc: Global,
+    mut contents: ContentsView<'_>,
+    text: &mut [u8],
+    password: &str,
+    budget: &mut Budget,
+    steps: &mut Steps<L>,
+) -> Result<Items<Place>, TransferError>
+    requires copy { text.old ≡ contents.bytes }
+    requires text { length text.old ≤ store_limit }
+    requires fit { All (ContentFits store_limit) contents.left }
+    requires password { length password.now < 2 ^ 57 }
+    ensures opened { IfOk result (λ places. (bags : List (List SafeBag))
+        × AreOpen (of_contents password.now budget.old.limit) budget.old.limit budget.old.spent
+        contents.entry.left bags
+        × StandAt text.new places bags
+        × Spends budget.old budget.new (sum_by content_share contents.entry.left)
+        × (steps.new ≡ steps.old + sum_by content_share contents.entry.left)) }
+    ensures refused { IfErr result (RefusedAfter
+        (IsFirstFault (of_contents password.now budget.old.limit) budget.old.limit budget.old.spent
+        contents.entry.left) steps.old steps.new) }
+    ensures at_most { TakesWithin budget.old steps.old steps.new }
+{
+    let mut places = Items::new(alloc);
+    while let Some(content) = contents.next() {
+        match open_content(alloc, &content, text, password, budget, steps) {
+            Ok(place) => places.push(place)?,
             Err(e) => return Err(e),
         }
     }
-    Ok(opened)
+    Ok(places)
 }

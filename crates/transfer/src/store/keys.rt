@@ -1,142 +1,125 @@
-//! Opening the encrypted keys of a store, after all contents.
-ghost use Rattle.std.specs.Prelude.{◌≡◌, ◌+◌, ◌≤◌, ◌<◌, ◌^◌, All, length, IfOk, IfErr, OnOk};
+//! Opening the encrypted keys of a store, after all contents, where they lie.
+ghost use Rattle.std.specs.Prelude.{◌≡◌, ◌+◌, ◌≤◌, ◌<◌, ◌^◌, All, List, length, IfOk, IfErr};
 ghost use Rattle.std.specs.List.{sum_by};
-ghost use Rattle.p12.specs.SafeBag.{BagFits};
-ghost use Rattle.p12.specs.AlgorithmIdentifier.{salt_of};
+ghost use Rattle.p12.specs.Place.{at_place};
+ghost use Rattle.p12.specs.declared.safe_bag.SafeBag.{SafeBag};
+ghost use Rattle.asn1_core.specs.Sets.{Each};
 ghost use Rattle.transfer.specs.Budget.{Spends, TakesWithin};
-ghost use Rattle.transfer.specs.Parts.{AreOpen, IsFirstFault, OpensMore};
-ghost use Rattle.transfer.specs.Opening.{KeyFault, KeyOpens, RefusedAfter, all_shrouded, key_share, of_keys, shrouded_among, shrouded_in};
+ghost use Rattle.transfer.specs.InPlace.{BagsAt, InOrder, Kept, LockFits, StandAt, locked_key, locked_keys, places_of, texts_at};
+ghost use Rattle.transfer.specs.Limits.{store_limit};
+ghost use Rattle.transfer.specs.Parts.{AreOpen, IsFirstFault};
+ghost use Rattle.transfer.specs.Opening.{KeyFault, KeyOpens, RefusedAfter, all_shrouded, key_share, of_keys};
 
 use crate::store::budget::Budget;
 use crate::store::error::TransferError;
-use crate::store::key_text::KeyText;
+use crate::store::key_locks::{KeyLock, locks_of};
+use crate::store::key_text::is_key_text;
 use crate::store::lock::open_lock;
-use crate::store::password::StorePassword;
-use asn1_core::Items;
-use p12::{EncryptedPrivateKeyInfo, SafeBag, SafeBagKind};
+use asn1_core::{Items, Octets};
+use p12::Place;
 use std::alloc::Global;
 use std::sync::ledger::Ledger;
 use steps::Steps;
 
-/// Opens an encrypted key to its text.
+/// Opens an encrypted key in place, and answers where its text stands.
 fn open_key<L: Ledger>(
     alloc: Global,
-    key: &EncryptedPrivateKeyInfo,
-    password: &StorePassword,
+    lock: &KeyLock,
+    text: &mut [u8],
+    password: &str,
     budget: &mut Budget,
     steps: &mut Steps<L>,
-) -> Result<KeyText, TransferError>
-    requires text { length key.now.encrypted_data < 2 ^ 32 }
-    requires salt { length (salt_of key.now.encryption_algorithm) < 2 ^ 59 }
-    requires password { length password.now < 2 ^ 57 }
-    ensures opened { IfOk result (λ text. KeyOpens password.now key.now text
-        × Spends budget.old budget.new (key_share key.now)
-        × (steps.new ≡ steps.old + key_share key.now)) }
-    ensures refused { IfErr result (RefusedAfter
-        (KeyFault password.now budget.old.limit budget.old.spent key.now) steps.old steps.new) }
-    ensures at_most { TakesWithin budget.old steps.old steps.new }
-{
-    let plain = open_lock(
-        alloc,
-        &key.encryption_algorithm,
-        key.encrypted_data.as_slice(),
-        password,
-        budget,
-        steps,
-    )?;
-    match KeyText::new(plain) {
-        Some(text) => Ok(text),
-        None => Err(TransferError::KeyMalformed),
-    }
-}
-
-/// Opens the key of a bag that holds one, behind the keys so far; another bag is passed over.
-fn open_bag<L: Ledger>(
-    alloc: Global,
-    bag: &SafeBag,
-    password: &StorePassword,
-    budget: &mut Budget,
-    keys: &mut Items<KeyText>,
-    steps: &mut Steps<L>,
-) -> Result<(), TransferError>
-    requires fits { BagFits bag.now }
-    requires password { length password.now < 2 ^ 57 }
-    ensures opened { OnOk result
-        (OpensMore (of_keys password.now budget.old.limit) budget.old.limit budget.old.spent
-        (shrouded_in bag.now.bag) keys.old keys.new
-        × Spends budget.old budget.new (sum_by key_share (shrouded_in bag.now.bag))
-        × (steps.new ≡ steps.old + sum_by key_share (shrouded_in bag.now.bag))) }
-    ensures refused { IfErr result (RefusedAfter
-        (IsFirstFault (of_keys password.now budget.old.limit) budget.old.limit budget.old.spent (shrouded_in bag.now.bag)) steps.old steps.new) }
-    ensures at_most { TakesWithin budget.old steps.old steps.new }
-{
-    match &bag.bag {
-        SafeBagKind::Pkcs8ShroudedKeyBag(key) => {
-            match open_key(alloc, key, password, budget, steps) {
-                Ok(text) => {
-                    keys.push(text)?;
-                    Ok(())
-                }
-                Err(e) => Err(e),
-            }
-        }
-        SafeBagKind::CertBag(_) | SafeBagKind::OtherBagKind(_) => Ok(()),
-    }
-}
-
-/// Opens the keys among the bags of one content, in order, behind the keys so far.
-fn open_bags<L: Ledger>(
-    alloc: Global,
-    bags: &[SafeBag],
-    password: &StorePassword,
-    budget: &mut Budget,
-    keys: &mut Items<KeyText>,
-    steps: &mut Steps<L>,
-) -> Result<(), TransferError>
-    requires fit { All BagFits bags.now }
-    requires password { length password.now < 2 ^ 57 }
-    ensures opened { OnOk result
-        (OpensMore (of_keys password.now budget.old.limit) budget.old.limit budget.old.spent
-        (shrouded_among bags.now) keys.old keys.new
-        × Spends budget.old budget.new (sum_by key_share (shrouded_among bags.now))
-        × (steps.new ≡ steps.old + sum_by key_share (shrouded_among bags.now))) }
-    ensures refused { IfErr result (RefusedAfter
-        (IsFirstFault (of_keys password.now budget.old.limit) budget.old.limit budget.old.spent (shrouded_among bags.now)) steps.old steps.new) }
-    ensures at_most { TakesWithin budget.old steps.old steps.new }
-{
-    for bag in bags {
-        match open_bag(alloc, bag, password, budget, keys, steps) {
-            Ok(()) => {}
-            Err(e) => return Err(e),
-        }
-    }
-    Ok(())
-}
-
-/// Opens the keys of all contents, in order.
-pub(crate) fn open_keys<L: Ledger>(
-    alloc: Global,
-    contents: &[Items<SafeBag>],
-    password: &StorePassword,
-    budget: &mut Budget,
-    steps: &mut Steps<L>,
-) -> Result<Items<KeyText>, TransferError>
-    requires fit { All (All BagFits) contents.now }
+) -> Result<Place, TransferError>
+    requires room { lock.now.at.start + lock.now.at.len ≤ length text.old }
+    requires text { length text.old ≤ store_limit }
+    requires salt { LockFits lock.now }
     requires password { length password.now < 2 ^ 57 }
     ensures opened { IfOk result
-        (λ keys. AreOpen (of_keys password.now budget.old.limit) budget.old.limit budget.old.spent
-        (all_shrouded contents.now) keys
-        × (steps.new ≡ steps.old + sum_by key_share (all_shrouded contents.now))) }
+        (λ place. KeyOpens password.now (locked_key text.old lock.now) (at_place place text.new)
+        × Spends budget.old budget.new (key_share (locked_key text.old lock.now))
+        × (steps.new ≡ steps.old + key_share (locked_key text.old lock.now))) }
     ensures refused { IfErr result (RefusedAfter
-        (IsFirstFault (of_keys password.now budget.old.limit) budget.old.limit budget.old.spent (all_shrouded contents.now)) steps.old steps.new) }
+        (KeyFault password.now budget.old.limit budget.old.spent (locked_key text.old lock.now))
+        steps.old steps.new) }
+    ensures lies { IfOk result (λ place. (place.start ≡ lock.now.at.start)
+        × (place.len ≤ lock.now.at.len)) }
+    ensures kept { Kept lock.now.at.start (lock.now.at.start + lock.now.at.len) text.old text.new }
     ensures at_most { TakesWithin budget.old steps.old steps.new }
 {
-    let mut keys = Items::new(alloc);
-    for bags in contents {
-        match open_bags(alloc, bags.as_slice(), password, budget, &mut keys, steps) {
-            Ok(()) => {}
+    let algorithm = lock.algorithm.view();
+    match open_lock(alloc, &algorithm, lock.at, text, password, budget, steps) {
+        Ok(plain) => {
+            if is_key_text(&text[plain.start..plain.start + plain.len]) {
+                Ok(plain)
+            } else {
+                Err(TransferError::KeyMalformed)
+            }
+        }
+        Err(e) => Err(e),
+    }
+}
+
+/// Opens each encrypted key in order, in place, and answers where their texts stand.
+fn open_locks<L: Ledger>(
+    alloc: Global,
+    locks: &[KeyLock],
+    text: &mut [u8],
+    password: &str,
+    budget: &mut Budget,
+    steps: &mut Steps<L>,
+) -> Result<Items<Place>, TransferError>
+    requires order { InOrder 0 (places_of locks.now) (length text.old) }
+    requires fit { All LockFits locks.now }
+    requires text { length text.old ≤ store_limit }
+    requires password { length password.now < 2 ^ 57 }
+    ensures opened { IfOk result
+        (λ places. AreOpen (of_keys password.now budget.old.limit) budget.old.limit budget.old.spent
+        (locked_keys text.old locks.now) (texts_at text.new places)
+        × InOrder 0 places (length text.new)
+        × (steps.new ≡ steps.old + sum_by key_share (locked_keys text.old locks.now))) }
+    ensures refused { IfErr result (RefusedAfter
+        (IsFirstFault (of_keys password.now budget.old.limit) budget.old.limit budget.old.spent
+        (locked_keys text.old locks.now)) steps.old steps.new) }
+    ensures at_most { TakesWithin budget.old steps.old steps.new }
+{
+    let mut places = Items::new(alloc);
+    let mut rest = locks;
+    while let Some((lock, behind)) = rest.split_first() {
+        match open_key(alloc, lock, text, password, budget, steps) {
+            Ok(place) => places.push(place)?,
             Err(e) => return Err(e),
         }
+        rest = behind;
     }
-    Ok(keys)
+    Ok(places)
+}
+
+/// Opens the encrypted keys among the bags that stand at these places, in order, and answers where their texts stand. The bags
+/// that hold them do not stand there any more.
+pub(crate) fn open_keys<L: Ledger>(
+    alloc: Global,
+    text: &mut Octets,
+    places: &[Place],
+    password: &str,
+    budget: &mut Budget,
+    steps: &mut Steps<L>,
+) -> Result<Items<Place>, TransferError>
+    requires bags { (bags : List (List SafeBag)) × StandAt text.old places.now bags }
+    requires text { length text.old ≤ store_limit }
+    requires password { length password.now < 2 ^ 57 }
+    ensures opened { IfOk result (λ keys. (bags : List (List SafeBag))
+        → Each (BagsAt text.old) places.now bags
+        → AreOpen (of_keys password.now budget.old.limit) budget.old.limit budget.old.spent
+        (all_shrouded bags) (texts_at text.new keys)
+        × (steps.new ≡ steps.old + sum_by key_share (all_shrouded bags))) }
+    ensures order { IfOk result (λ keys. InOrder 0 keys (length text.new)) }
+    ensures refused { IfErr result (λ e. (bags : List (List SafeBag))
+        → Each (BagsAt text.old) places.now bags
+        → RefusedAfter (IsFirstFault (of_keys password.now budget.old.limit) budget.old.limit
+        budget.old.spent (all_shrouded bags)) steps.old steps.new e) }
+    ensures at_most { TakesWithin budget.old steps.old steps.new }
+{
+    let locks = locks_of(alloc, text.as_slice(), places)?;
+    let whole = text.as_mut_slice();
+    open_locks(alloc, locks.as_slice(), whole, password, budget, steps)
 }

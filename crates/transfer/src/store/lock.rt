@@ -1,58 +1,39 @@
-//! Locked texts.
-ghost use Rattle.std.specs.Prelude.{◌≡◌, ◌+◌, ◌≤◌, ◌<◌, ◌^◌, ℕ, length, true, false, Some, IfOk, IfErr, IfSome, IfNone, OnOk};
+//! Locked texts, which are opened where they lie.
+ghost use Rattle.std.specs.Prelude.{◌≡◌, ◌+◌, ◌≤◌, ◌<◌, ◌^◌, length, take, Some, IfOk, IfErr};
 ghost use Rattle.p12.specs.AlgorithmIdentifier.{cost, count, openable, salt_of, taken, unlock};
+ghost use Rattle.p12.specs.AlgorithmView.{seen_algorithm};
+ghost use Rattle.p12.specs.Place.{at_place};
 ghost use Rattle.transfer.specs.Budget.{Spends, TakesWithin};
+ghost use Rattle.transfer.specs.InPlace.{Kept};
+ghost use Rattle.transfer.specs.Limits.{store_limit};
 ghost use Rattle.transfer.specs.Opening.{LockFault, RefusedAfter};
 
 use crate::store::budget::Budget;
 use crate::store::error::TransferError;
-use crate::store::password::StorePassword;
-use asn1_core::{Error, Octets};
-use p12::AlgorithmIdentifier;
+use p12::{AlgorithmView, Place};
 use std::alloc::Global;
 use std::sync::ledger::Ledger;
 use steps::Steps;
 
-/// The plain octets of a text under the password; None where it does not open. The only refusal is `Memory`.
-fn decrypt<L: Ledger>(
+/// Opens a locked text in place, by its share of the budget, and answers the length of the plain octets, which then stand in
+/// its front.
+fn open_front<L: Ledger>(
     alloc: Global,
-    algorithm: &AlgorithmIdentifier,
-    text: &[u8],
-    password: &StorePassword,
-    steps: &mut Steps<L>,
-) -> Result<Option<Octets>, Error>
-    requires text { length text.now < 2 ^ 32 }
-    requires salt { length (salt_of algorithm.now) < 2 ^ 59 }
-    requires password { length password.now < 2 ^ 57 }
-    ensures value { IfOk result (λ m. m ≡ unlock algorithm.now password.now text.now) }
-    ensures err { IfErr result (λ e. e ≡ Error.Memory) }
-    ensures steps { OnOk result (steps.new ≡ steps.old + taken algorithm.now text.now) }
-    ensures at_most { (steps.old ≤ steps.new)
-        × (steps.new ≤ steps.old + taken algorithm.now text.now) }
-{
-    match algorithm.decrypt_text_counted(alloc, text, password.as_str(), steps) {
-        Ok(plain) => Ok(plain),
-        Err(_) => Err(Error::Memory),
-    }
-}
-
-/// Opens a locked text, by its share of the budget.
-pub(crate) fn open_lock<L: Ledger>(
-    alloc: Global,
-    algorithm: &AlgorithmIdentifier,
-    text: &[u8],
-    password: &StorePassword,
+    algorithm: &AlgorithmView<'_>,
+    text: &mut [u8],
+    password: &str,
     budget: &mut Budget,
     steps: &mut Steps<L>,
-) -> Result<Octets, TransferError>
-    requires text { length text.now < 2 ^ 32 }
-    requires salt { length (salt_of algorithm.now) < 2 ^ 59 }
+) -> Result<usize, TransferError>
+    requires text { length text.old < 2 ^ 32 }
+    requires salt { length (salt_of (seen_algorithm algorithm.now)) < 2 ^ 59 }
     requires password { length password.now < 2 ^ 57 }
-    ensures opened { IfOk result (λ m. (unlock algorithm.now password.now text.now ≡ Some m)
-        × Spends budget.old budget.new (cost algorithm.now)
-        × (steps.new ≡ steps.old + cost algorithm.now)) }
+    ensures opened { IfOk result (λ len. (len ≤ length text.new)
+        × (unlock (seen_algorithm algorithm.now) password.now text.old ≡ Some (take len text.new))
+        × Spends budget.old budget.new (cost (seen_algorithm algorithm.now))
+        × (steps.new ≡ steps.old + cost (seen_algorithm algorithm.now))) }
     ensures refused { IfErr result (RefusedAfter
-        (LockFault password.now budget.old.limit budget.old.spent algorithm.now text.now
+        (LockFault password.now budget.old.limit budget.old.spent (seen_algorithm algorithm.now) text.old
         (λ _ _ _. ⊥)) steps.old steps.new) }
     ensures at_most { TakesWithin budget.old steps.old steps.new }
 {
@@ -66,8 +47,43 @@ pub(crate) fn open_lock<L: Ledger>(
         Ok(()) => {}
         Err(e) => return Err(e),
     }
-    match decrypt(alloc, algorithm, text, password, steps)? {
-        Some(plain) => Ok(plain),
-        None => Err(TransferError::DecryptFailed),
+    match algorithm.decrypt_in_place_counted(alloc, password, text, steps) {
+        Ok(Some(len)) => Ok(len),
+        Ok(None) => Err(TransferError::DecryptFailed),
+        Err(_) => Err(TransferError::Memory),
+    }
+}
+
+/// Opens a locked text at a place of a longer one, which stays as it is elsewhere, and answers where the plain octets stand.
+pub(crate) fn open_lock<L: Ledger>(
+    alloc: Global,
+    algorithm: &AlgorithmView<'_>,
+    at: Place,
+    text: &mut [u8],
+    password: &str,
+    budget: &mut Budget,
+    steps: &mut Steps<L>,
+) -> Result<Place, TransferError>
+    requires room { at.start + at.len ≤ length text.old }
+    requires text { length text.old ≤ store_limit }
+    requires salt { length (salt_of (seen_algorithm algorithm.now)) < 2 ^ 59 }
+    requires password { length password.now < 2 ^ 57 }
+    ensures opened { IfOk result (λ plain. (plain.start ≡ at.start) × (plain.len ≤ at.len)
+        × (unlock (seen_algorithm algorithm.now) password.now (at_place at text.old)
+        ≡ Some (at_place plain text.new))
+        × Spends budget.old budget.new (cost (seen_algorithm algorithm.now))
+        × (steps.new ≡ steps.old + cost (seen_algorithm algorithm.now))) }
+    ensures refused { IfErr result (RefusedAfter
+        (LockFault password.now budget.old.limit budget.old.spent (seen_algorithm algorithm.now)
+        (at_place at text.old) (λ _ _ _. ⊥)) steps.old steps.new) }
+    ensures kept { Kept at.start (at.start + at.len) text.old text.new }
+    ensures at_most { TakesWithin budget.old steps.old steps.new }
+{
+    let start = at.start;
+    let end = start + at.len;
+    let part = &mut text[start..end];
+    match open_front(alloc, algorithm, part, password, budget, steps) {
+        Ok(len) => Ok(Place { start, len }),
+        Err(e) => Err(e),
     }
 }

@@ -1,6 +1,8 @@
 //! The MAC of a store.
 ghost use Rattle.std.specs.Prelude.{◌≡◌, ◌+◌, ◌≤◌, ◌<◌, ◌^◌, ℕ, length, IfOk, IfErr, OnOk};
+ghost use Rattle.p12.specs.AlgorithmView.{seen_algorithm};
 ghost use Rattle.p12.specs.MacData.{is_mac_digest, mac_agrees, mac_steps};
+ghost use Rattle.p12.specs.MacView.{seen_mac};
 ghost use Rattle.p12.specs.Password.{bmp_password};
 ghost use Rattle.transfer.specs.Limits.{store_limit};
 ghost use Rattle.transfer.specs.Opening.{MacTable, RefusedAfter, refused};
@@ -8,41 +10,38 @@ ghost use Rattle.transfer.specs.Verdicts.{IsMacOk};
 
 use crate::store::budget::Budget;
 use crate::store::error::TransferError;
-use crate::store::password::StorePassword;
 use asn1_core::Error;
-use p12::{AlgorithmIdentifier, MacData};
+use p12::{AlgorithmView, MacView};
 use std::alloc::Global;
 use std::sync::ledger::Ledger;
 use steps::Steps;
 
 /// Whether a MAC under this digest can be tested.
-fn is_mac_digest(algorithm: &AlgorithmIdentifier) -> bool
-    ensures { result ≡ is_mac_digest algorithm.now }
+fn is_mac_digest(algorithm: &AlgorithmView<'_>) -> bool
+    ensures { result ≡ is_mac_digest (seen_algorithm algorithm.now) }
 {
-    matches!(
-        algorithm,
-        AlgorithmIdentifier::Sha1 | AlgorithmIdentifier::Sha256
-    )
+    matches!(algorithm, AlgorithmView::Sha1 | AlgorithmView::Sha256)
 }
 
 /// Whether the MAC of the text agrees under the password. The only refusal is `Memory`.
 fn verify_mac<L: Ledger>(
     alloc: Global,
-    mac: &MacData,
+    mac: &MacView<'_>,
     text: &[u8],
-    password: &StorePassword,
+    password: &str,
     steps: &mut Steps<L>,
 ) -> Result<bool, Error>
     requires text { length text.now ≤ store_limit }
-    requires salt { length mac.now.salt ≤ store_limit }
+    requires salt { length mac.now.salt.now ≤ store_limit }
     requires password { length password.now < 2 ^ 57 }
-    ensures value { IfOk result
-        (λ agrees. agrees ≡ mac_agrees mac.now (bmp_password password.now) text.now) }
+    ensures value { IfOk result (λ agrees. agrees
+        ≡ mac_agrees (seen_mac mac.now) (bmp_password password.now) text.now) }
     ensures err { IfErr result (λ e. e ≡ Error.Memory) }
-    ensures steps { OnOk result (steps.new ≡ steps.old + mac_steps mac.now) }
-    ensures at_most { (steps.old ≤ steps.new) × (steps.new ≤ steps.old + mac_steps mac.now) }
+    ensures steps { OnOk result (steps.new ≡ steps.old + mac_steps (seen_mac mac.now)) }
+    ensures at_most { (steps.old ≤ steps.new)
+        × (steps.new ≤ steps.old + mac_steps (seen_mac mac.now)) }
 {
-    match mac.verify_mac_counted(alloc, text, password.units(), steps) {
+    match mac.verify_counted(alloc, text, password, steps) {
         Ok(agrees) => Ok(agrees),
         Err(_) => Err(Error::Memory),
     }
@@ -51,24 +50,24 @@ fn verify_mac<L: Ledger>(
 /// Tests the MAC of the outer text under the password, and answers the budget behind its share, which is its count.
 pub(crate) fn check_mac<L: Ledger>(
     alloc: Global,
-    mac: &MacData,
+    mac: &MacView<'_>,
     text: &[u8],
-    password: &StorePassword,
+    password: &str,
     limit: u64,
     steps: &mut Steps<L>,
 ) -> Result<Budget, TransferError>
     requires text { length text.now ≤ store_limit }
-    requires salt { length mac.now.salt ≤ store_limit }
+    requires salt { length mac.now.salt.now ≤ store_limit }
     requires password { length password.now < 2 ^ 57 }
-    ensures passed { IfOk result (λ budget. IsMacOk password.now text.now mac.now
+    ensures passed { IfOk result (λ budget. IsMacOk password.now text.now (seen_mac mac.now)
         × (budget.limit ≡ limit) × (budget.spent ≡ mac.now.iterations)
         × (steps.new ≡ steps.old + mac.now.iterations)) }
-    ensures refused { IfErr result
-        (RefusedAfter (λ e n. MacTable password.now limit text.now mac.now (refused e) n) steps.old
+    ensures refused { IfErr result (RefusedAfter
+        (λ e n. MacTable password.now limit text.now (seen_mac mac.now) (refused e) n) steps.old
         steps.new) }
     ensures at_most { (steps.old ≤ steps.new) × (steps.new ≤ steps.old + limit) }
 {
-    if !is_mac_digest(&mac.mac.digest_algorithm) {
+    if !is_mac_digest(&mac.algorithm) {
         return Err(TransferError::MacUnsupported);
     }
     if mac.iterations == 0 {

@@ -1,19 +1,16 @@
-//! Opening a store: each cause to refuse it in its order, and the exact steps.
-ghost use Rattle.std.specs.Prelude.{◌≡◌, ◌+◌, ◌≤◌, ◌<◌, ◌^◌, ℕ, All, length, IfOk, IfErr};
-ghost use Rattle.p12.specs.ContentInfo.{ContentFits};
-ghost use Rattle.transfer.specs.Budget.{TakesWithin};
+//! Opening the contents of a store: each cause to refuse it in its order, and the exact steps.
+ghost use Rattle.std.specs.Prelude.{◌≡◌, ◌+◌, ◌≤◌, ◌<◌, ◌^◌, ℕ, length, IfOk, IfErr};
+ghost use Rattle.p12.specs.MacView.{seen_mac};
+ghost use Rattle.transfer.specs.InPlace.{AreOpened};
 ghost use Rattle.transfer.specs.Limits.{store_limit};
-ghost use Rattle.transfer.specs.Opening.{HasVerdict, ContentsTable, MacTable, RefusedAfter, opened, refused};
+ghost use Rattle.transfer.specs.Opening.{HasVerdict, MacTable, RefusedAfter, refused};
 
 use crate::store::budget::Budget;
 use crate::store::contents::open_contents;
 use crate::store::error::TransferError;
-use crate::store::key_text::KeyText;
-use crate::store::keys::open_keys;
 use crate::store::mac::check_mac;
-use crate::store::password::StorePassword;
-use asn1_core::Items;
-use p12::{ContentInfo, Error, MacData, PFX, SafeBag};
+use asn1_core::{Items, Octets};
+use p12::{ContentView, ContentsView, MacView, Place, StoreView};
 use std::alloc::Global;
 use std::sync::ledger::Ledger;
 use steps::Steps;
@@ -21,62 +18,35 @@ use steps::Steps;
 /// The most octets that a store may have.
 const STORE_LIMIT: usize = 16_777_215;
 
-/// What a store is opened to.
+/// A store whose contents are opened, and whose encrypted keys are not.
 #[derive(Drop)]
-pub(crate) struct Unlocked {
-    /// The bags of each content.
-    pub(crate) contents: Items<Items<SafeBag>>,
-    /// The text of each encrypted key among them, in order.
-    pub(crate) keys: Items<KeyText>,
+pub(crate) struct OpenedContents {
+    /// A copy of the text of the store, in which its contents were opened.
+    pub(crate) text: Octets,
+    /// Where the bags of each content stand in it.
+    pub(crate) places: Items<Place>,
+    /// The work that is allowed, and what of it was taken.
+    pub(crate) budget: Budget,
 }
 
-/// Opens the contents of a store, and then the encrypted keys among their bags.
-fn open_parts<L: Ledger>(
-    alloc: Global,
-    contents: &[ContentInfo],
-    password: &StorePassword,
-    budget: &mut Budget,
-    steps: &mut Steps<L>,
-) -> Result<Unlocked, TransferError>
-    requires fit { All (ContentFits store_limit) contents.now }
-    requires password { length password.now < 2 ^ 57 }
-    ensures opened { IfOk result (λ o. (n : ℕ)
-        × ContentsTable password.now budget.old.limit budget.old.spent contents.now
-        (opened o.contents o.keys) (budget.old.spent + n)
-        × (steps.new ≡ steps.old + n)) }
-    ensures refused { IfErr result (RefusedAfter
-        (λ e n. ContentsTable password.now budget.old.limit budget.old.spent contents.now
-        (refused e) (budget.old.spent + n)) steps.old steps.new) }
-    ensures at_most { TakesWithin budget.old steps.old steps.new }
-{
-    match open_contents(alloc, contents, password, budget, steps) {
-        Ok(bags) => match open_keys(alloc, bags.as_slice(), password, budget, steps) {
-            Ok(keys) => Ok(Unlocked {
-                contents: bags,
-                keys,
-            }),
-            Err(e) => Err(e),
-        },
-        Err(e) => Err(e),
-    }
-}
-
-/// Opens the outer text of a store, under its MAC.
+/// Opens the contents that the outer text of a store lists, under its MAC, in a copy of the text.
 fn open_text<L: Ledger>(
     alloc: Global,
     text: &[u8],
-    mac: &MacData,
-    password: &StorePassword,
+    mac: &MacView<'_>,
+    password: &str,
     limit: u64,
     steps: &mut Steps<L>,
-) -> Result<Unlocked, TransferError>
+) -> Result<OpenedContents, TransferError>
     requires text { length text.now ≤ store_limit }
-    requires salt { length mac.now.salt ≤ store_limit }
+    requires salt { length mac.now.salt.now ≤ store_limit }
     requires password { length password.now < 2 ^ 57 }
-    ensures opened { IfOk result (λ o. (n : ℕ) × MacTable password.now limit text.now mac.now
-        (opened o.contents o.keys) n × (steps.new ≡ steps.old + n)) }
-    ensures refused { IfErr result
-        (RefusedAfter (λ e n. MacTable password.now limit text.now mac.now (refused e) n) steps.old
+    ensures opened { IfOk result (λ o. AreOpened
+        (MacTable password.now limit text.now (seen_mac mac.now)) password.now limit
+        o.text o.places o.budget.spent
+        × (o.budget.limit ≡ limit) × (steps.new ≡ steps.old + o.budget.spent)) }
+    ensures refused { IfErr result (RefusedAfter
+        (λ e n. MacTable password.now limit text.now (seen_mac mac.now) (refused e) n) steps.old
         steps.new) }
     ensures at_most { (steps.old ≤ steps.new) × (steps.new ≤ steps.old + limit) }
 {
@@ -84,24 +54,34 @@ fn open_text<L: Ledger>(
         Ok(budget) => budget,
         Err(e) => return Err(e),
     };
-    match ContentInfo::parse_all(alloc, text) {
-        Ok(contents) => open_parts(alloc, contents.as_slice(), password, &mut budget, steps),
-        Err(Error::Malformed) => Err(TransferError::ContentMalformed),
-        Err(_) => Err(TransferError::Memory),
+    let contents = match ContentsView::parse(text) {
+        Ok(contents) => contents,
+        Err(_) => return Err(TransferError::ContentMalformed),
+    };
+    let mut copy = Octets::from_slice(alloc, text)?;
+    let whole = copy.as_mut_slice();
+    match open_contents(alloc, contents, whole, password, &mut budget, steps) {
+        Ok(places) => Ok(OpenedContents {
+            text: copy,
+            places,
+            budget,
+        }),
+        Err(e) => Err(e),
     }
 }
 
-/// Opens a store.
-pub(crate) fn unlock_store<L: Ledger>(
+/// Opens the contents of a store.
+pub(crate) fn open_parts<L: Ledger>(
     alloc: Global,
     store: &[u8],
     password: &str,
     limit: u64,
     steps: &mut Steps<L>,
-) -> Result<Unlocked, TransferError>
+) -> Result<OpenedContents, TransferError>
     requires { length password.now < 2 ^ 57 }
-    ensures opened { IfOk result (λ o. (n : ℕ) × HasVerdict store.now password.now limit
-        (opened o.contents o.keys) n × (steps.new ≡ steps.old + n)) }
+    ensures opened { IfOk result (λ o. AreOpened (HasVerdict store.now password.now limit)
+        password.now limit o.text o.places o.budget.spent
+        × (o.budget.limit ≡ limit) × (steps.new ≡ steps.old + o.budget.spent)) }
     ensures refused { IfErr result
         (RefusedAfter (λ e n. HasVerdict store.now password.now limit (refused e) n) steps.old
         steps.new) }
@@ -110,17 +90,15 @@ pub(crate) fn unlock_store<L: Ledger>(
     if store.len() > STORE_LIMIT {
         return Err(TransferError::TooLong);
     }
-    let store = match PFX::parse(alloc, store) {
+    let store = match StoreView::parse(store) {
         Ok(store) => store,
-        Err(Error::Malformed) => return Err(TransferError::Malformed),
-        Err(_) => return Err(TransferError::Memory),
+        Err(_) => return Err(TransferError::Malformed),
     };
-    let ContentInfo::Data(text) = &store.auth_safe else {
+    let ContentView::Plain { content, .. } = &store.auth_safe else {
         return Err(TransferError::Unsupported);
     };
     let Some(mac) = &store.mac_data else {
         return Err(TransferError::MacMissing);
     };
-    let password = StorePassword::new(alloc, password)?;
-    open_text(alloc, text.as_slice(), mac, &password, limit, steps)
+    open_text(alloc, content, mac, password, limit, steps)
 }

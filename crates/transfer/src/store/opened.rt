@@ -1,14 +1,16 @@
 //! Opening a store for its bags and its keys.
-ghost use Rattle.std.specs.Prelude.{◌≡◌, ◌+◌, ◌≤◌, ◌<◌, ◌^◌, ℕ, length, IfOk, IfErr};
+ghost use Rattle.std.specs.Prelude.{◌≡◌, ◌+◌, ◌≤◌, ◌<◌, ◌^◌, ℕ, All, length, IfOk, IfErr};
+ghost use Rattle.transfer.specs.InPlace.{IsKeyAt, texts_at};
 ghost use Rattle.transfer.specs.Opening.{HasVerdict, RefusedAfter, refused};
 ghost use Rattle.transfer.specs.Transferred.{IsDecided};
 ghost use Rattle.transfer.specs.Verdicts.{StoreOpens};
 
+use crate::store::bags::bags_of;
 use crate::store::error::TransferError;
-use crate::store::key_text::KeyText;
-use crate::store::open::unlock_store;
+use crate::store::keys::open_keys;
+use crate::store::open::{OpenedContents, open_parts};
 use asn1_core::{Error, Items, Octets};
-use p12::SafeBag;
+use p12::{Place, SafeBag};
 use std::alloc::Global;
 use std::sync::ledger::Ledger;
 use steps::Steps;
@@ -22,16 +24,18 @@ pub struct Opened {
     pub keys: Items<Octets>,
 }
 
-/// The octets of each text. The only refusal is `Memory`.
-fn octets_of(alloc: Global, texts: &[KeyText]) -> Result<Items<Octets>, Error>
-    ensures ok { IfOk result (λ octets. octets ≡ texts.now) }
+/// Copies of the texts that stand at these places. The only refusal is `Memory`.
+fn copies_at(alloc: Global, text: &[u8], places: &[Place]) -> Result<Items<Octets>, Error>
+    requires { All (IsKeyAt text.now) places.now }
+    ensures ok { IfOk result (λ texts. texts ≡ texts_at text.now places.now) }
     ensures err { IfErr result (λ e. e ≡ Error.Memory) }
 {
-    let mut octets = Items::new(alloc);
-    for text in texts {
-        octets.push(Octets::from_slice(alloc, text.as_slice())?)?;
+    let mut texts = Items::new(alloc);
+    for place in places {
+        let part = &text[place.start..place.start + place.len];
+        texts.push(Octets::from_slice(alloc, part)?)?;
     }
-    Ok(octets)
+    Ok(texts)
 }
 
 /// Opens the store under the password: the bags of each content, and the octets of each encrypted private key.
@@ -58,15 +62,21 @@ pub fn open_store<L: Ledger>(
     ensures exact { IsDecided store.now password.now limit result }
     ensures at_most { (steps.old ≤ steps.new) × (steps.new ≤ steps.old + limit) }
 {
-    let unlocked = match unlock_store(alloc, store, password, limit, steps) {
-        Ok(unlocked) => unlocked,
+    let opened = match open_parts(alloc, store, password, limit, steps) {
+        Ok(opened) => opened,
         Err(e) => return Err(e),
     };
-    match octets_of(alloc, unlocked.keys.as_slice()) {
-        Ok(keys) => Ok(Opened {
-            contents: unlocked.contents,
-            keys,
-        }),
-        Err(_) => Err(TransferError::Memory),
-    }
+    let OpenedContents {
+        mut text,
+        places,
+        mut budget,
+    } = opened;
+    let places = places.as_slice();
+    let contents = bags_of(alloc, text.as_slice(), places)?;
+    let keys = match open_keys(alloc, &mut text, places, password, &mut budget, steps) {
+        Ok(keys) => keys,
+        Err(e) => return Err(e),
+    };
+    let keys = copies_at(alloc, text.as_slice(), keys.as_slice())?;
+    Ok(Opened { contents, keys })
 }

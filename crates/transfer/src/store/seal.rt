@@ -1,14 +1,17 @@
 //! Sealing private keys anew, under octets that are drawn.
-ghost use Rattle.std.specs.Prelude.{◌≡◌, ◌≤◌, ◌<◌, ◌^◌, length, IfOk, IfErr};
+ghost use Rattle.std.specs.Prelude.{◌≡◌, ◌≤◌, ◌<◌, ◌^◌, All, length, IfOk, IfErr};
 ghost use Rattle.transfer.specs.Limits.{rounds_limit};
 ghost use Rattle.transfer.specs.Document.{IsDocument};
+ghost use Rattle.transfer.specs.InPlace.{IsKeyAt, texts_at};
+ghost use Rattle.transfer.specs.Opening.{IsKeyText};
 ghost use Rattle.transfer.specs.Sealing.{Fails, Seals, SealsAll};
 ghost use Rattle.transfer.specs.TransferError.{RefusedBy};
 
 use crate::store::error::TransferError;
-use crate::store::key_text::KeyText;
+use crate::store::key_text::key_of;
 use asn1_core::{Items, Octets};
 use mac_modes::Draw;
+use p12::Place;
 use pkcs5::pbes2::Parameters;
 use pkcs8::private_keys_are_written;
 use std::alloc::Global;
@@ -18,19 +21,20 @@ use std::alloc::Global;
 /// A key out of a store of 16 MiB has no text that is too long, so no other refusal of its encryption comes.
 fn seal_key(
     alloc: Global,
-    text: &KeyText,
+    text: &[u8],
     new_password: &[u8],
     rounds: u32,
     iv: [u8; 16],
     salt: &[u8],
 ) -> Result<Octets, TransferError>
+    requires key { IsKeyText text.now }
     requires rounds { (1 ≤ rounds) × (rounds ≤ rounds_limit) }
     requires salt { length salt.now ≡ 16 }
     ensures ok { IfOk result
         (λ document. IsDocument document rounds iv salt.now new_password.now text.now) }
     ensures err { IfErr result (λ e. e ≡ TransferError.Memory) }
 {
-    let key = text.key();
+    let key = key_of(text);
     private_keys_are_written(&key);
     let Ok(parameters) = Parameters::generate_pbkdf2_sha256_aes256cbc(rounds, salt, iv) else {
         unreachable!()
@@ -44,11 +48,12 @@ fn seal_key(
 /// Seals one key under the next 16 octets drawn as IV, and the next 16 as salt.
 fn seal<D: Draw>(
     alloc: Global,
-    text: &KeyText,
+    text: &[u8],
     new_password: &[u8],
     rounds: u32,
     draw: &mut D,
 ) -> Result<Octets, TransferError>
+    requires key { IsKeyText text.now }
     requires rounds { (1 ≤ rounds) × (rounds ≤ rounds_limit) }
     ensures count { D.faults draw.old ≤ D.faults draw.new }
     ensures sealed { IfOk result (λ document. Seals rounds new_password.now (D.left draw.old)
@@ -68,24 +73,27 @@ fn seal<D: Draw>(
     }
 }
 
-/// Seals each key in order under the octets of a draw, 32 for each.
+/// Seals the keys whose texts stand at these places, in order, under the octets of a draw, 32 for each.
 pub(crate) fn seal_all<D: Draw>(
     alloc: Global,
-    keys: &[KeyText],
+    text: &[u8],
+    keys: &[Place],
     new_password: &[u8],
     rounds: u32,
     draw: &mut D,
 ) -> Result<Items<Octets>, TransferError>
+    requires keys { All (IsKeyAt text.now) keys.now }
     requires rounds { (1 ≤ rounds) × (rounds ≤ rounds_limit) }
     ensures count { D.faults draw.old ≤ D.faults draw.new }
     ensures sealed { IfOk result (λ documents. SealsAll rounds new_password.now (D.left draw.old)
-        (D.left draw.new) keys.now documents) }
+        (D.left draw.new) (texts_at text.now keys.now) documents) }
     ensures cause { IfErr result
         (RefusedBy (λ e. ⊥) (Fails (D.faults draw.old) (D.faults draw.new) (D.left draw.old)
         (length keys.now))) }
 {
     let mut documents = Items::new(alloc);
-    for key in keys {
+    for place in keys {
+        let key = &text[place.start..place.start + place.len];
         match seal(alloc, key, new_password, rounds, draw) {
             Ok(document) => documents.push(document)?,
             Err(e) => return Err(e),

@@ -6,7 +6,8 @@ ghost use Rattle.transfer.specs.Transferred.{IsRefused, RunsShort, Settles, Tran
 
 use crate::store::certificates::certificates_of;
 use crate::store::error::TransferError;
-use crate::store::open::unlock_store;
+use crate::store::keys::open_keys;
+use crate::store::open::{OpenedContents, open_parts};
 use crate::store::seal::seal_all;
 use asn1_core::{Items, Octets};
 use mac_modes::Draw;
@@ -56,12 +57,29 @@ pub fn transfer<D: Draw, L: Ledger>(
     ensures count { D.faults draw.old ≤ D.faults draw.new }
     ensures at_most { (steps.old ≤ steps.new) × (steps.new ≤ steps.old + limit) }
 {
-    let opened = match unlock_store(alloc, store, password, limit, steps) {
+    let opened = match open_parts(alloc, store, password, limit, steps) {
         Ok(opened) => opened,
         Err(e) => return Err(e),
     };
-    let certificates = certificates_of(alloc, opened.contents.as_slice())?;
-    match seal_all(alloc, opened.keys.as_slice(), new_password, rounds, draw) {
+    let OpenedContents {
+        mut text,
+        places,
+        mut budget,
+    } = opened;
+    let places = places.as_slice();
+    let certificates = certificates_of(alloc, text.as_slice(), places)?;
+    let keys = match open_keys(alloc, &mut text, places, password, &mut budget, steps) {
+        Ok(keys) => keys,
+        Err(e) => return Err(e),
+    };
+    match seal_all(
+        alloc,
+        text.as_slice(),
+        keys.as_slice(),
+        new_password,
+        rounds,
+        draw,
+    ) {
         Ok(documents) => Ok(Transferred {
             certificates,
             documents,

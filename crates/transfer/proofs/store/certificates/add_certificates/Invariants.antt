@@ -1,8 +1,11 @@
-use Rattle.std.proofs.Common.{◌≡◌, ◌++◌, take}
+use Rattle.std.proofs.Common.{◌≡◌, ◌++◌, length}
 use Rattle.transfer.specs.Opening.{certificates_in}
 use Rattle.transfer.proofs.store.certificates.add_certificates.Given as goal
 
 abbrev pub invariant-loop-bag : goal.invariant-loop-bag
 invariant-loop-bag l = record {
-  done : l.certificates ≡ l.fn.certificates ++ certificates_in (take l.bag-index l.bags);
+  still : l.certificates ++ certificates_in l.bags.left ≡ l.fn.certificates ++ certificates_in l.initial.bags.left;
 }
+
+abbrev pub decreases-loop-bag : goal.decreases-loop-bag
+decreases-loop-bag l = length l.bags.left

@@ -1,13 +1,25 @@
 use Rattle.std.proofs.Common.{arith, subst, sym, ap, ◌∙◌}
-use Rattle.p12.specs.AlgorithmIdentifier.{unlock}
-use Rattle.p12.specs.SafeBag.{NoBags}
-use Rattle.transfer.proofs.Faults.{content_bad, malformed_only}
+use Rattle.p12.specs.SafeBag.{IsBags, NoBags}
+use Rattle.p12.specs.ContentView.{seen_content}
+use Rattle.transfer.specs.Opening.{content_share}
+use Rattle.transfer.proofs.ContentsInPlace.{encrypted_bad, encrypted_opens}
+use Rattle.transfer.proofs.Overwriting.{between_place}
 use Rattle.transfer.proofs.store.contents.open_content.Goals as goal
 
-pub returns-in-Err-Malformed-parse_all-clause-refused : goal.returns-in-Err-Malformed-parse_all-clause-refused
-returns-in-Err-Malformed-parse_all-clause-refused g c =
-    let o = c.in_ok-plain-in-EncryptedData.ensures.opened in
-    let a = c.in-EncryptedData.data.encrypted_content_info.content_encryption_algorithm in
-    let is = ap (λ t. unlock a c.args.password.now t) (sym c.as_slice-in-EncryptedData.ensures) ∙ o.0 in
-    let none = subst NoBags c.as_slice-in-EncryptedData-2.ensures (malformed_only _ _ c.in-Err-Malformed-parse_all.field-0-is c.in-Err-Malformed-parse_all.ensures.err) in
-    (_, content_bad _ _ _ _ c.in-EncryptedData.data c.in_ok-plain-in-EncryptedData.plain c.in-EncryptedData.is is (omega (arith, o.1.0, o.1.1, c.open_lock.new.budget.within)) none, o.2)
+pub returns-in-Ok-check_bags-clause-opened : goal.returns-in-Ok-check_bags-clause-opened
+returns-in-Ok-check_bags-clause-opened g c =
+    let o = c.in-Ok-open_lock.ensures.opened in
+    let b = c.in-Ok-check_bags.ensures.ok in
+    let share = ap (λ v. content_share (seen_content v)) c.in-Encrypted.is in (
+      encrypted_opens c.args.password.now c.args.text.now c.open_lock.new.text c.args.content.now c.in-Encrypted.algorithm c.in-Encrypted.content c.in-Encrypted.at c.in-Ok-open_lock.plain b.0 c.in-Encrypted.is c.requires.stands
+          o.2 o.0 o.1 c.in-Ok-open_lock.ensures.kept (subst (λ t. IsBags t b.0) (between_place c.in-Ok-open_lock.plain c.open_lock.new.text) b.1),
+      (o.3.0, omega (arith, o.3.1, share)),
+      omega (arith, o.4, share),
+    )
+
+pub returns-in-Err-check_bags-clause-refused : goal.returns-in-Err-check_bags-clause-refused
+returns-in-Err-check_bags-clause-refused g c =
+    let o = c.in-Ok-open_lock.ensures.opened in
+    let e = c.in-Err-check_bags.ensures.err in
+    encrypted_bad c.args.password.now c.args.budget.now.limit c.args.budget.now.spent c.args.text.now _ c.args.content.now c.in-Encrypted.algorithm c.in-Encrypted.content c.in-Encrypted.at _ _ c.in-Err-check_bags.e c.in-Encrypted.is c.requires.stands
+    o.2 (omega (arith, o.3.0, o.3.1, c.open_lock.new.budget.within)) o.4 e.0 (subst NoBags (between_place c.in-Ok-open_lock.plain c.open_lock.new.text) e.1)

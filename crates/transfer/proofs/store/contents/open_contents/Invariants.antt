@@ -1,13 +1,13 @@
-use Rattle.std.proofs.Common.{◌≡◌, ◌+◌, take}
-use Rattle.std.specs.List.{sum_by}
-use Rattle.transfer.specs.Budget.{Spends}
-use Rattle.transfer.specs.Parts.{AreOpen}
-use Rattle.transfer.specs.Opening.{content_share, of_contents}
+use Rattle.std.proofs.Common.{◌≡◌, ◌+◌, length}
+use Rattle.transfer.proofs.ContentsInPlace.{Opening}
 use Rattle.transfer.proofs.store.contents.open_contents.Given as goal
 
 abbrev pub invariant-loop-content : goal.invariant-loop-content
 invariant-loop-content g l = record {
-  done : AreOpen (of_contents l.password l.fn.budget.limit) l.fn.budget.limit l.fn.budget.spent (take l.content-index l.contents) l.opened;
-  spent : Spends l.fn.budget l.budget (sum_by content_share (take l.content-index l.contents));
-  steps : l.steps ≡ l.fn.steps + sum_by content_share (take l.content-index l.contents);
+  done : Opening l.password l.fn.budget.limit l.fn.budget.spent l.initial.contents l.contents l.text l.places l.budget.spent;
+  same : l.budget.limit ≡ l.fn.budget.limit;
+  steps : l.steps + l.fn.budget.spent ≡ l.fn.steps + l.budget.spent;
 }
+
+abbrev pub decreases-loop-content : goal.decreases-loop-content
+decreases-loop-content g l = length l.contents.left

@@ -1,6 +1,4 @@
-use Rattle.std.proofs.Common.{subst}
-use Rattle.transfer.specs.Opening.{NoKeyText}
 use Rattle.transfer.proofs.store.key_text.key_of.Goals as goal
 
 pub unreachable-requires : goal.unreachable-requires
-unreachable-requires c = absurd (subst NoKeyText c.as_slice.ensures c.in-Err.ensures.1 c.requires.0 c.requires.1)
+unreachable-requires c = absurd (c.in-Err.ensures.1 c.requires.0 c.requires.1)

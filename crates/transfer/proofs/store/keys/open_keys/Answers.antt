@@ -1,32 +1,18 @@
-use Rattle.std.proofs.Common.{arith, ap, subst, sym}
-use Rattle.std.specs.List.{sum_by}
-use Rattle.transfer.specs.Parts.{AreOpen, IsFirstFault}
-use Rattle.transfer.specs.Opening.{RefusedAfter, key_share, of_keys, shrouded_among}
-use Rattle.transfer.proofs.Faults.{flat_more, flat_refused, flat_share}
+use Rattle.std.proofs.Common.{List, ap, sym, subst, ◌∙◌}
+use Rattle.p12.specs.declared.safe_bag.SafeBag.{SafeBag}
+use Rattle.asn1_core.specs.Sets.{Each}
+use Rattle.transfer.specs.InPlace.{BagsAt, locked_keys}
+use Rattle.transfer.specs.Opening.{RefusedAfter, all_shrouded, of_keys}
+use Rattle.transfer.specs.Parts.{IsFirstFault}
+use Rattle.transfer.proofs.KeysInPlace.{refused_each}
 use Rattle.transfer.proofs.store.keys.open_keys.Goals as goal
 
-pub returns-in-Err-clause-refused : goal.returns-in-Err-clause-refused
-returns-in-Err-clause-refused g c =
-    let i = c.loop-bags.invariant in
+pub returns-clause-refused : goal.returns-clause-refused
+returns-clause-refused g c =
     let b = c.args.budget.now in
-    let now = c.loop-bags.budget.spent in
-    flat_refused (of_keys c.args.password.now b.limit) shrouded_among b.limit b.spent now c.args.contents.now c.loop-bags.bags-index
-    c.bags-item.result c.loop-bags.keys _ _ _ _ (omega arith) c.bags-item.is i.done i.spent.1 i.steps
-    (subst (λ limit. RefusedAfter (IsFirstFault (of_keys c.args.password.now limit) limit now (shrouded_among c.bags-item.result)) c.loop-bags.steps c.open_bags.new.steps c.in-Err.e) i.spent.0
-    (rw (sym c.as_slice.ensures) c.in-Err.ensures.refused))
-
-pub loop-bags-preserved : goal.loop-bags-preserved
-loop-bags-preserved g c =
-    let i = c.loop-bags.invariant in
-    let o = c.in-Ok.ensures.opened in
-    let b = c.args.budget.now in
-    let now = c.loop-bags.budget.spent in
-    let more = flat_share key_share shrouded_among c.args.contents.now c.loop-bags.bags-index c.bags-item.result (omega arith) c.bags-item.is in
-    let same = ap (λ t. sum_by key_share (shrouded_among t)) c.as_slice.ensures in
-    record {
-      done = rw (o.0.grows) (flat_more (of_keys c.args.password.now b.limit) shrouded_among b.limit b.spent now c.args.contents.now c.loop-bags.bags-index
-          c.bags-item.result c.loop-bags.keys o.0.made (omega arith) c.bags-item.is i.done i.spent.1
-          (subst (λ limit. AreOpen (of_keys c.args.password.now limit) limit now (shrouded_among c.bags-item.result) o.0.made) i.spent.0 (rw (sym c.as_slice.ensures) o.0.opened)));
-      spent = (omega (arith, o.1.0, i.spent.0), omega (arith, more, o.1.1, i.spent.1, same));
-      steps = omega (arith, more, o.2, i.steps, same);
-    }
+    refused_each c.open_locks.result (List (List SafeBag)) (λ bags. Each (BagsAt c.args.text.now) c.args.places.now bags)
+    (RefusedAfter (IsFirstFault (of_keys c.args.password.now b.limit) b.limit b.spent (locked_keys c.args.text.now c.in_ok-locks.locks)) c.args.steps.now c.open_locks.new.steps)
+    (λ bags e. RefusedAfter (IsFirstFault (of_keys c.args.password.now b.limit) b.limit b.spent (all_shrouded bags)) c.args.steps.now c.open_locks.new.steps e)
+    (λ bags each e h. subst (λ ks. RefusedAfter (IsFirstFault (of_keys c.args.password.now b.limit) b.limit b.spent ks) c.args.steps.now c.open_locks.new.steps e)
+    (ap (λ t. locked_keys t c.in_ok-locks.locks) (sym c.as_slice.ensures) ∙ c.in_ok-locks.ensures.ok bags (subst (λ t. Each (BagsAt t) c.args.places.now bags) (sym c.as_slice.ensures) each)) h)
+    (rw (sym c.as_mut_slice-whole.ensures.value, sym c.as_slice-2.ensures) c.open_locks.ensures.refused)

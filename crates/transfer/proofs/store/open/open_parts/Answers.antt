@@ -1,43 +1,53 @@
-use Rattle.std.proofs.Common.{◌+◌, arith, ap, subst, sym}
-use Rattle.std.specs.List.{sum_by}
-use Rattle.transfer.specs.Parts.{AreOpen, IsFirstFault}
-use Rattle.transfer.specs.Opening.{ContentsTable, RefusedAfter, all_shrouded, content_share, key_share, of_contents, of_keys, refused}
-use Rattle.transfer.proofs.Faults.{refused_after_as, refused_later}
-use Rattle.transfer.proofs.Lengths.{opened_fit}
-use Rattle.transfer.proofs.Rows.{all_open, content_fault, key_fault}
+use Rattle.std.proofs.Common.{ap, arith}
+use Rattle.asn1_core.specs.Texts.{seen_option}
+use Rattle.p12.specs.ContentView.{seen_content}
+use Rattle.p12.specs.MacView.{seen_mac}
+use Rattle.p12.specs.StoreView.{seen_store}
+use Rattle.transfer.specs.Opening.{HasVerdict, MacTable, refused}
+use Rattle.transfer.proofs.Lengths.{salt_fits}
+use Rattle.transfer.proofs.Rows.{has_mac, has_store, no_data, no_mac, no_store, not_plain, opened_within, refused_still, too_long}
 use Rattle.transfer.proofs.store.open.open_parts.Goals as goal
 
-pub open_keys-requires-clause-fit : goal.open_keys-requires-clause-fit
-open_keys-requires-clause-fit g c = rw (c.as_slice.ensures) (opened_fit c.args.password.now c.args.contents.now c.in-Ok.bags c.in-Ok.ensures.opened.0.each)
-
-pub returns-in-Ok-open_keys-clause-opened : goal.returns-in-Ok-open_keys-clause-opened
-returns-in-Ok-open_keys-clause-opened g c =
-    let b = c.args.budget.now in
-    let now = c.open_contents.new.budget.spent in
-    let o = c.in-Ok.ensures.opened in
-    let k = c.in-Ok-open_keys.ensures.opened in
-    let same = ap (λ t. sum_by key_share (all_shrouded t)) c.as_slice.ensures in (
-      sum_by content_share c.args.contents.now + sum_by key_share (all_shrouded c.in-Ok.bags),
-      all_open c.args.password.now b.limit b.spent now c.args.contents.now c.in-Ok.bags c.in-Ok-open_keys.keys o.0 o.1.1
-          (subst (λ limit. AreOpen (of_keys c.args.password.now limit) limit now (all_shrouded c.in-Ok.bags) c.in-Ok-open_keys.keys) o.1.0 (rw (sym c.as_slice.ensures) k.0)),
-      omega (arith, o.2, k.1, same),
-    )
-
-pub returns-in-Err-open_keys-clause-refused : goal.returns-in-Err-open_keys-clause-refused
-returns-in-Err-open_keys-clause-refused g c =
-    let b = c.args.budget.now in
-    let now = c.open_contents.new.budget.spent in
-    let o = c.in-Ok.ensures.opened in
-    refused_later (IsFirstFault (of_keys c.args.password.now b.limit) b.limit now (all_shrouded c.in-Ok.bags))
-    (λ e n. ContentsTable c.args.password.now b.limit b.spent c.args.contents.now (refused e) (b.spent + n))
-    c.args.steps.now c.open_contents.new.steps c.open_keys.new.steps (sum_by content_share c.args.contents.now) o.2
-    (λ e n h. key_fault c.args.password.now b.limit b.spent now c.args.contents.now c.in-Ok.bags e n o.0 o.1.1 h)
-    c.in-Err-open_keys.e
-    (subst (λ limit. RefusedAfter (IsFirstFault (of_keys c.args.password.now limit) limit now (all_shrouded c.in-Ok.bags)) c.open_contents.new.steps c.open_keys.new.steps c.in-Err-open_keys.e) o.1.0 (rw (sym c.as_slice.ensures) c.in-Err-open_keys.ensures.refused))
+pub returns-then-store-gt-STORE_LIMIT-clause-refused : goal.returns-then-store-gt-STORE_LIMIT-clause-refused
+returns-then-store-gt-STORE_LIMIT-clause-refused g c = (0, too_long c.args.store.now c.args.password.now c.args.limit (grind arith), omega arith)
 
 pub returns-in-Err-clause-refused : goal.returns-in-Err-clause-refused
-returns-in-Err-clause-refused g c =
-    let b = c.args.budget.now in
-    refused_after_as (IsFirstFault (of_contents c.args.password.now b.limit) b.limit b.spent c.args.contents.now)
-    (λ e n. ContentsTable c.args.password.now b.limit b.spent c.args.contents.now (refused e) (b.spent + n)) _ _
-    (λ e n h. content_fault c.args.password.now b.limit b.spent c.args.contents.now e n h) c.in-Err.e c.in-Err.ensures.refused
+returns-in-Err-clause-refused g c = (0, no_store c.args.store.now c.args.password.now c.args.limit (grind arith) c.in-Err.ensures.err.1, omega arith)
+
+pub returns-in_default : goal.returns-in_default
+returns-in_default g c = record {
+  opened = tt;
+  refused = (
+    0,
+    has_store c.args.store.now c.args.password.now c.args.limit (seen_store c.in-Ok.store) _ _ (grind arith) c.in-Ok.ensures.ok
+        (no_data c.args.password.now c.args.limit (seen_store c.in-Ok.store) (λ v h. not_plain c.in-Ok.store.auth_safe (λ x at e. c.in_default.not-Plain x at e) v h)),
+    omega arith,
+  );
+  at_most = (omega arith, omega arith);
+}
+
+pub returns-in_default-mac_data-clause-refused : goal.returns-in_default-mac_data-clause-refused
+returns-in_default-mac_data-clause-refused g c = (
+  0,
+  has_store c.args.store.now c.args.password.now c.args.limit (seen_store c.in-Ok.store) _ _ (grind arith) c.in-Ok.ensures.ok
+      (no_mac c.args.password.now c.args.limit (seen_store c.in-Ok.store) c.in-Plain.content.now (ap seen_content c.in-Plain.is) (ap (seen_option seen_mac) c.in_default-mac_data.is)),
+  omega arith,
+)
+
+pub open_text-requires-clause-salt : goal.open_text-requires-clause-salt
+open_text-requires-clause-salt g c = (salt_fits c.args.store.now (seen_store c.in-Ok.store) (seen_mac c.in-Some.mac) (grind arith) c.in-Ok.ensures.ok (ap (seen_option seen_mac) c.in-Some.is))
+
+pub returns-clause-opened : goal.returns-clause-opened
+returns-clause-opened g c =
+    opened_within (MacTable c.args.password.now c.args.limit c.in-Plain.content.now (seen_mac c.in-Some.mac)) (HasVerdict c.args.store.now c.args.password.now c.args.limit) c.args.password.now c.args.limit _ _ c.open_text.result
+    (λ w n t. has_store c.args.store.now c.args.password.now c.args.limit (seen_store c.in-Ok.store) w n (grind arith) c.in-Ok.ensures.ok
+    (has_mac c.args.password.now c.args.limit (seen_store c.in-Ok.store) c.in-Plain.content.now (seen_mac c.in-Some.mac) w n (ap seen_content c.in-Plain.is) (ap (seen_option seen_mac) c.in-Some.is) t))
+    c.open_text.ensures.opened
+
+pub returns-clause-refused : goal.returns-clause-refused
+returns-clause-refused g c =
+    refused_still c.open_text.result (λ e n. MacTable c.args.password.now c.args.limit c.in-Plain.content.now (seen_mac c.in-Some.mac) (refused e) n)
+    (λ e n. HasVerdict c.args.store.now c.args.password.now c.args.limit (refused e) n) _ _
+    (λ e n t. has_store c.args.store.now c.args.password.now c.args.limit (seen_store c.in-Ok.store) _ _ (grind arith) c.in-Ok.ensures.ok
+    (has_mac c.args.password.now c.args.limit (seen_store c.in-Ok.store) c.in-Plain.content.now (seen_mac c.in-Some.mac) _ _ (ap seen_content c.in-Plain.is) (ap (seen_option seen_mac) c.in-Some.is) t))
+    c.open_text.ensures.refused

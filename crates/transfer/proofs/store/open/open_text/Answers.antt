@@ -1,34 +1,36 @@
-use Rattle.std.proofs.Common.{◌+◌, arith, sym}
-use Rattle.transfer.specs.declared.store.open.Unlocked.{Unlocked}
-use Rattle.transfer.specs.Opening.{ContentsTable, MacTable, opened, refused}
-use Rattle.transfer.proofs.Faults.{malformed_only}
+use Rattle.std.proofs.Common.{◌∙◌, arith, ap, length, sym, subst, List, ℕ, ◌≡◌}
+use Rattle.p12.specs.MacView.{seen_mac}
+use Rattle.transfer.specs.InPlace.{AreOpened, StandAt}
+use Rattle.transfer.specs.Opening.{MacTable, refused}
+use Rattle.transfer.proofs.Faults.{refused_later}
 use Rattle.transfer.proofs.Lengths.{contents_within}
-use Rattle.transfer.proofs.Rows.{has_contents, no_contents, opened_as, refused_by}
+use Rattle.transfer.proofs.Overwriting.{lent_whole}
+use Rattle.transfer.proofs.Rows.{contents_refused_so, contents_so, no_contents}
 use Rattle.transfer.proofs.store.open.open_text.Goals as goal
 
-pub open_parts-requires-clause-fit : goal.open_parts-requires-clause-fit
-open_parts-requires-clause-fit g c = rw (c.as_slice.ensures) (contents_within c.args.text.now c.in-Ok-parse_all.contents c.requires.text c.in-Ok-parse_all.ensures.ok)
+pub open_contents-requires-clause-fit : goal.open_contents-requires-clause-fit
+open_contents-requires-clause-fit g c = contents_within c.args.text.now c.in-Ok-parse.contents.left c.requires.text c.in-Ok-parse.ensures.ok.0
 
-pub returns-in-Err-Malformed-clause-refused : goal.returns-in-Err-Malformed-clause-refused
-returns-in-Err-Malformed-clause-refused g c =
+pub returns-in-Err-parse-clause-refused : goal.returns-in-Err-parse-clause-refused
+returns-in-Err-parse-clause-refused g c =
     let p = c.in-Ok.ensures.passed in
-    let none = malformed_only _ _ c.in-Err-Malformed.field-0-is c.in-Err-Malformed.ensures.err in
-    (c.args.mac.now.iterations, no_contents c.args.password.now c.args.limit c.args.text.now c.args.mac.now p.0 (omega (arith, p.1, p.2, c.in-Ok.budget.within)) none, p.3)
+    (c.args.mac.now.iterations, no_contents c.args.password.now c.args.limit c.args.text.now (seen_mac c.args.mac.now) p.0 (omega (arith, p.1, p.2, c.in-Ok.budget.within)) c.in-Err-parse.ensures.err.1, p.3)
 
-pub returns-in-Ok-parse_all-clause-refused : goal.returns-in-Ok-parse_all-clause-refused
-returns-in-Ok-parse_all-clause-refused g c =
+pub returns-in-Err-open_contents-clause-refused : goal.returns-in-Err-open_contents-clause-refused
+returns-in-Err-open_contents-clause-refused g c =
     let p = c.in-Ok.ensures.passed in
-    let m = c.args.mac.now in
-    refused_by c.open_parts.result (λ e n. ContentsTable c.args.password.now c.args.limit m.iterations c.in-Ok-parse_all.contents (refused e) (m.iterations + n))
-    (λ e n. MacTable c.args.password.now c.args.limit c.args.text.now m (refused e) n) c.args.steps.now c.check_mac.new.steps c.open_parts.new.steps m.iterations p.3
-    (λ e n t. has_contents c.args.password.now c.args.limit c.args.text.now m c.in-Ok-parse_all.contents (refused e) (m.iterations + n) p.0 (omega (arith, p.1, p.2, c.in-Ok.budget.within)) c.in-Ok-parse_all.ensures.ok t)
-    (rw (sym p.1, sym p.2, sym c.as_slice.ensures) c.open_parts.ensures.refused)
+    contents_refused_so c.args.password.now c.args.limit c.in-Ok.budget.limit c.args.text.now (seen_mac c.args.mac.now) c.in-Ok-parse.contents.left c.in-Ok.budget.spent p.0 (omega (arith, p.1, p.2, c.in-Ok.budget.within)) c.in-Ok-parse.ensures.ok.0 p.1 p.2
+    c.args.steps.now c.check_mac.new.steps c.open_contents.new.steps c.in-Err-open_contents.e p.3 c.in-Err-open_contents.ensures.refused
 
-pub returns-in-Ok-parse_all-clause-opened : goal.returns-in-Ok-parse_all-clause-opened
-returns-in-Ok-parse_all-clause-opened g c =
+pub returns-in-Ok-open_contents-clause-opened : goal.returns-in-Ok-open_contents-clause-opened
+returns-in-Ok-open_contents-clause-opened g c =
     let p = c.in-Ok.ensures.passed in
-    let m = c.args.mac.now in
-    opened_as c.open_parts.result (λ (o : Unlocked) n. ContentsTable c.args.password.now c.args.limit m.iterations c.in-Ok-parse_all.contents (opened o.contents o.keys) (m.iterations + n))
-    (λ (o : Unlocked) n. MacTable c.args.password.now c.args.limit c.args.text.now m (opened o.contents o.keys) n) c.args.steps.now c.check_mac.new.steps c.open_parts.new.steps m.iterations p.3
-    (λ o n t. has_contents c.args.password.now c.args.limit c.args.text.now m c.in-Ok-parse_all.contents (opened o.contents o.keys) (m.iterations + n) p.0 (omega (arith, p.1, p.2, c.in-Ok.budget.within)) c.in-Ok-parse_all.ensures.ok t)
-    (rw (sym p.1, sym p.2, sym c.as_slice.ensures) c.open_parts.ensures.opened)
+    let o = c.in-Ok-open_contents.ensures.opened in
+    let size : length c.open_contents.new.text ≡ length c.in_ok-copy.copy = omega (arith, c.open_contents.auto.text, ap length c.as_mut_slice-whole.ensures.value) in
+    let all = lent_whole c.open_contents.new.text c.in_ok-copy.copy size in (
+      subst (λ (t : List ℕ). AreOpened (MacTable c.args.password.now c.args.limit c.args.text.now (seen_mac c.args.mac.now)) c.args.password.now c.args.limit t c.in-Ok-open_contents.places c.open_contents.new.budget.spent) (sym all)
+          (contents_so c.args.password.now c.args.limit c.in-Ok.budget.limit c.args.text.now (seen_mac c.args.mac.now) c.in-Ok-parse.contents.left c.in-Ok.budget.spent p.0 (omega (arith, p.1, p.2, c.in-Ok.budget.within)) c.in-Ok-parse.ensures.ok.0 p.1 p.2
+          c.open_contents.new.text c.in-Ok-open_contents.places c.open_contents.new.budget.spent o.0 o.1 o.2 (omega (arith, size, ap length c.in_ok-copy.ensures, c.requires.text)) o.3.1),
+      o.3.0 ∙ p.1,
+      omega (arith, o.3.1, o.4, p.2, p.3),
+    )

@@ -1,0 +1,117 @@
+//! The encrypted keys of an opened store, before they are opened.
+ghost use Rattle.std.specs.Prelude.{◌≡◌, ◌+◌, ◌≤◌, ◌++◌, All, List, length, map, IfOk, IfErr, OnOk};
+ghost use Rattle.p12.specs.AlgorithmView.{seen_algorithm};
+ghost use Rattle.p12.specs.declared.safe_bag.SafeBag.{SafeBag};
+ghost use Rattle.asn1_core.specs.Sets.{Each};
+ghost use Rattle.transfer.specs.InPlace.{AddsLocks, BagsAt, InOrder, LockFits, StandAt, locked_keys, places_of};
+ghost use Rattle.transfer.specs.Opening.{all_shrouded};
+
+use crate::store::bags::bags_at;
+use asn1_core::{Error, Items, Octets};
+use p12::{
+    AlgorithmIdentifier, AlgorithmView, BagView, OtherAlgorithmIdentifier, Pkcs12PbeParams, Place,
+};
+use std::alloc::Global;
+
+/// What opens an encrypted key, and where its octets stand. A view of the key would borrow the text that it is opened in.
+#[derive(Drop)]
+pub(crate) struct KeyLock {
+    pub(crate) algorithm: AlgorithmIdentifier,
+    pub(crate) at: Place,
+}
+
+/// The parameters of a scheme, in memory of their own. The only refusal is `Memory`.
+fn params_of(alloc: Global, salt: &[u8], iterations: u64) -> Result<Pkcs12PbeParams, Error>
+    ensures ok { IfOk result
+        (λ params. (params.salt ≡ salt.now) × (params.iterations ≡ iterations)) }
+    ensures err { IfErr result (λ e. e ≡ Error.Memory) }
+{
+    Ok(Pkcs12PbeParams {
+        salt: Octets::from_slice(alloc, salt)?,
+        iterations,
+    })
+}
+
+/// An algorithm in memory of its own. The only refusal is `Memory`.
+fn algorithm_of(alloc: Global, view: &AlgorithmView<'_>) -> Result<AlgorithmIdentifier, Error>
+    ensures ok { IfOk result (λ algorithm. algorithm ≡ seen_algorithm view.now) }
+    ensures err { IfErr result (λ e. e ≡ Error.Memory) }
+{
+    Ok(match view {
+        AlgorithmView::Sha1 => AlgorithmIdentifier::Sha1,
+        AlgorithmView::Sha256 => AlgorithmIdentifier::Sha256,
+        AlgorithmView::Rc2 { salt, iterations } => AlgorithmIdentifier::PbewithSHAAnd40BitRC2CBC(
+            params_of(alloc, salt, *iterations)?,
+        ),
+        AlgorithmView::TripleDes { salt, iterations } => {
+            AlgorithmIdentifier::PbeWithSHAAnd3KeyTripleDESCBC(params_of(alloc, salt, *iterations)?)
+        }
+        AlgorithmView::Pbes2(parameters) => AlgorithmIdentifier::Pbes2(*parameters),
+        AlgorithmView::Other {
+            algorithm_type,
+            params,
+        } => {
+            let params = match params {
+                Some(params) => Some(Octets::from_slice(alloc, params)?),
+                None => None,
+            };
+            AlgorithmIdentifier::OtherAlg(OtherAlgorithmIdentifier {
+                algorithm_type: *algorithm_type,
+                params,
+            })
+        }
+    })
+}
+
+/// Adds the locks of the encrypted keys among the bags that stand at a place, in order.
+fn add_locks(
+    alloc: Global,
+    text: &[u8],
+    place: Place,
+    locks: &mut Items<KeyLock>,
+) -> Result<(), Error>
+    requires room { place.start + place.len ≤ length text.now }
+    requires bags { (bags : List SafeBag) × BagsAt text.now place bags }
+    ensures ok { OnOk result ((bags : List SafeBag) → BagsAt text.now place bags
+        → AddsLocks text.now place bags locks.old locks.new) }
+    ensures err { IfErr result (λ e. e ≡ Error.Memory) }
+{
+    let mut bags = bags_at(text, place);
+    while let Some(bag) = bags.next() {
+        match bag {
+            BagView::Shrouded { algorithm, at, .. } => {
+                let at = Place {
+                    start: place.start + at.start,
+                    len: at.len,
+                };
+                let algorithm = algorithm_of(alloc, &algorithm)?;
+                locks.push(KeyLock { algorithm, at })?;
+            }
+            BagView::X509(_) | BagView::Sdsi(_) | BagView::Other { .. } => {}
+        }
+    }
+    Ok(())
+}
+
+/// The locks of the encrypted keys of all contents, whose bags stand at these places, in order. The only refusal is `Memory`.
+pub(crate) fn locks_of(
+    alloc: Global,
+    text: &[u8],
+    places: &[Place],
+) -> Result<Items<KeyLock>, Error>
+    requires { (bags : List (List SafeBag)) × StandAt text.now places.now bags }
+    ensures ok { IfOk result (λ locks. (bags : List (List SafeBag))
+        → Each (BagsAt text.now) places.now bags
+        → locked_keys text.now locks ≡ all_shrouded bags) }
+    ensures order { IfOk result (λ locks. InOrder 0 (places_of locks) (length text.now)) }
+    ensures fit { IfOk result (λ locks. All LockFits locks) }
+    ensures err { IfErr result (λ e. e ≡ Error.Memory) }
+{
+    let mut locks = Items::new(alloc);
+    let mut rest = places;
+    while let Some((place, behind)) = rest.split_first() {
+        add_locks(alloc, text, *place, &mut locks)?;
+        rest = behind;
+    }
+    Ok(locks)
+}
