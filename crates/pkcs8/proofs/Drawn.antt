@@ -5,13 +5,11 @@ use Rattle.asn1_core.specs.declared.error.Error.TheVariants as asn1
 use Rattle.outside.specs.Draw.{DrawsIvAndSalt}
 use Rattle.pkcs5.specs.Generation.{recommended}
 use Rattle.pkcs5.specs.Opening.{FitsKey}
-use Rattle.pkcs5.specs.Refusals.{RefusesToEncrypt}
-use Rattle.pkcs5.specs.declared.error.Error.{Error as Pkcs5Error}
-use Rattle.pkcs5.specs.declared.error.Error.TheVariants as pkcs5
 use Rattle.pkcs5.specs.declared.pbes2.parameters.Parameters.{Parameters}
 use Rattle.pkcs8.specs.declared.error.Error.{Error}
 use Rattle.pkcs8.specs.declared.error.Error.TheVariants as errors
 use Rattle.pkcs8.specs.Sealing.{IsSealed, RefusesToSeal, RefusesToSealDrawn}
+use Rattle.pkcs8.proofs.ShortKeys.{encrypts}
 
 -- what is recommended gives a key, and is not DES
 recommended_fits : (iv salt : List ℕ) → FitsKey (recommended iv salt)
@@ -33,17 +31,8 @@ recommended_fits iv salt = (
   ),
 )
 
-never : {P : Type 0} (iv salt : List ℕ) (e : Pkcs5Error) → RefusesToEncrypt (recommended iv salt) e → P
-never iv salt (pkcs5.AlgorithmParametersInvalid o) h = absurd (h.1 (recommended_fits iv salt))
-never iv salt (pkcs5.UnsupportedAlgorithm o) h = absurd h.2
-never iv salt pkcs5.DecryptFailed h = absurd h
-never iv salt pkcs5.EncryptFailed h = absurd h
-never iv salt pkcs5.NoPbes1CryptSupport h = absurd h
-never iv salt pkcs5.Rng h = absurd h
-never iv salt pkcs5.Memory h = absurd h
-
 refused : (lacks : Type 0) (iv salt q m : List ℕ) (e : Error) → RefusesToSeal (recommended iv salt) q m e → RefusesToSealDrawn lacks q m e
-refused lacks iv salt q m (errors.EncryptedPrivateKey e) h = never iv salt e h
+refused lacks iv salt q m (errors.EncryptedPrivateKey e) h = encrypts (recommended iv salt) e (recommended_fits iv salt) (λ des. des) h
 refused lacks iv salt q m (errors.Asn1 asn1.Overlength) h = (recommended iv salt, h)
 refused lacks iv salt q m (errors.Asn1 asn1.Malformed) h = absurd h
 refused lacks iv salt q m (errors.Asn1 (asn1.OidUnknown o)) h = absurd h

@@ -1,6 +1,8 @@
 pub mod Faults
 pub mod FurtherFields
 pub mod Spellings
+mod Elements
+mod ShortKeys
 pub mod Documents
 pub mod EncryptedKeys
 pub mod KeyTypes

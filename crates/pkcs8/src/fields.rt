@@ -87,7 +87,7 @@ impl<PubKey: EncodeValue> EncodeValue for PublicKeyField<PubKey> {
 }
 
 /// Takes a public key, or nothing where no element of its tag stands next. Refusals are those of its value, and
-/// `Malformed` where the element or the next tag is none; the reader then stands where it stood.
+/// `Malformed` where the element or the next tag is none. A refusal does not move the reader.
 pub fn read_public_key<'a, PubKey: DecodeValue<&'a [u8]>>(
     r: &mut SliceReader<'a>,
 ) -> Result<Option<PubKey>, Error>

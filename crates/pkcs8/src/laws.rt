@@ -1,8 +1,9 @@
 //! Laws of texts, each the contract of a function that does nothing.
-ghost use Rattle.std.specs.Prelude.{◌≡◌, ◌↔◌, ℕ, List, Ok};
+ghost use Rattle.std.specs.Prelude.{◌≡◌, ◌↔◌, ◌≤◌, ◌^◌, ℕ, List, length, Ok};
 ghost use Rattle.asn1_core.specs.Der.{IsShort};
 ghost use Rattle.asn1_core.specs.Reading.{left, whole, within};
 ghost use Rattle.der_core.specs.BitString.{seen_bits};
+ghost use Rattle.pkcs5.specs.Kinds.{IsDes};
 ghost use Rattle.pkcs5.specs.Opening.{FitsKey};
 ghost use Rattle.pkcs5.specs.Parameters.{AreParameters as ArePbes2};
 ghost use Rattle.pkcs5.specs.Scheme.{IsScheme};
@@ -15,7 +16,9 @@ ghost use Rattle.spki.specs.Spelling.{AreParameters};
 ghost use Rattle.pkcs8.specs.EncryptedPrivateKeyInfo.{IsEncryptedKey, SpellsEncryptedKey, encrypted_key, encrypted_key_at};
 ghost use Rattle.asn1_core.specs.Der.{octets};
 ghost use Rattle.pkcs8.specs.PrivateKeyInfo.{AreAttributes, AreFurther};
-ghost use Rattle.pkcs8.specs.Sealing.{IsSealed};
+ghost use Rattle.pkcs8.specs.Sealing.{IsSealed, RefusesToEncryptKey};
+ghost use Rattle.pkcs8.specs.declared.error.Error.{Error};
+ghost use Rattle.pkcs8.specs.declared.error.Error.TheVariants.{Memory};
 ghost use Rattle.pkcs8.specs.declared.encrypted_private_key_info.EncryptedPrivateKeyInfo.{EncryptedPrivateKeyInfo};
 ghost use Rattle.pkcs8.specs.Seen.{AnyPrivateKey, IsPrivateKey, seen_private_key};
 ghost use Rattle.pkcs8.specs.Spelling.{AreBits, private_key_spelling, private_key_text};
@@ -49,6 +52,24 @@ pub fn private_keys_are_written<'a>(key: &PrivateKeyInfoRef<'a>)
     ensures { ⟦<PrivateKeyInfoRef<'a> as Encode>⟧.canon key.now
         ≡ private_key_text (seen_private_key borrowed_any (λ s. s.octets.now)
         (λ s. seen_bits s.unused_bits s.octets.now) key.now) }
+{
+    let _ = key;
+}
+
+/// The text that is written of a private key is no longer than any text of it.
+pub fn written_keys_are_shortest()
+    ensures { (b : List ℕ) (k : AnyPrivateKey) → IsPrivateKey b k
+        → length (private_key_text k) ≤ length b }
+{}
+
+/// Under parameters that give a key, and to a cipher other than DES, a private key of which at most 2^31 octets are
+/// written is encrypted: want of memory is the one refusal.
+pub fn short_keys_are_encrypted<'a>(key: &PrivateKeyInfoRef<'a>)
+    ensures { (par : Parameters) (q : List ℕ) (e : Error) → ArePbes2 par → FitsKey par
+        → ¬ IsDes par.encryption
+        → length (⟦<PrivateKeyInfoRef<'a> as Encode>⟧.canon key.now) ≤ 2 ^ 31
+        → RefusesToEncryptKey (⟦<PrivateKeyInfoRef<'a> as Encode>⟧.writable key.now) par q
+        (⟦<PrivateKeyInfoRef<'a> as Encode>⟧.canon key.now) e → e ≡ Memory }
 {
     let _ = key;
 }

@@ -26,8 +26,8 @@ pub use error::{Error, KeyError, Result};
 pub use implicit_bit_string::ImplicitBitString;
 pub use laws::{
     encrypted_keys_are_spelled, private_keys_are_spelled, private_keys_are_written,
-    private_keys_have_a_text, sealed_documents_open, texts_have_one_encrypted_key,
-    texts_have_one_private_key,
+    private_keys_have_a_text, sealed_documents_open, short_keys_are_encrypted,
+    texts_have_one_encrypted_key, texts_have_one_private_key, written_keys_are_shortest,
 };
 pub use private_key_info::{PrivateKeyInfo, PrivateKeyInfoOwned, PrivateKeyInfoRef};
 pub use spki::{
