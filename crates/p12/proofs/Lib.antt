@@ -9,7 +9,7 @@ mod Pbes2
 pub mod Opened
 pub mod Macs
 pub mod Fits
-pub mod Laws
+pub mod DefinitionLaws
 mod Ends
 mod Walks
 mod ContentWalks
@@ -18,4 +18,11 @@ mod UnitsPass
 mod Characters
 mod Refusals
 mod OneCiphertext
+pub mod Spelled
+pub mod SpelledStores
 mod HeldBags
+pub mod TextRefusals
+pub mod Again
+mod Made
+mod MadeSizes
+mod MadeRefusals

@@ -1,6 +1,6 @@
 -- Algorithms of PKCS#12 (RFC 7292 appendix C; PBES2 of RFC 8018 appendix A.4; AlgorithmIdentifier of RFC 5280 section
 -- 4.1.1.2), and what they open under a password.
-use Rattle.std.specs.Prelude.{◌≡◌, ◌≢◌, ◌⊎◌, ℕ, ◌<◌, ◌≤◌, ◌-◌, ◌*◌, ◌^◌, ◌%◌, ◌==◌, ◌&&◌, nat_lt, if◌then◌else◌, Bool, true, false, List, [], length, take, slice_index, Option, Some, None, ⊤}
+use Rattle.std.specs.Prelude.{◌≡◌, ◌≢◌, ◌⊎◌, ℕ, ◌<◌, ◌≤◌, ◌+◌, ◌-◌, ◌*◌, ◌^◌, ◌%◌, ◌==◌, ◌&&◌, nat_lt, if◌then◌else◌, Bool, true, false, List, [], length, take, slice_index, Option, Some, None, ⊤}
 use Rattle.asn1_core.specs.Texts.{On, Perhaps, Raw, Uint, Oid, Inside}
 use Rattle.asn1_core.specs.Fields.{Field, End, Sequence}
 use Rattle.asn1_core.specs.Oid.{oid_octets}
@@ -10,7 +10,7 @@ use Rattle.std.specs.Str.{bytes_eq}
 use Rattle.sha1.specs.Sha1.{sha1}
 use Rattle.block_core.specs.Tdes.{inv_tdes}
 use Rattle.mac_modes.specs.Cbc.{uncbc}
-use Rattle.mac_modes.specs.Padding.{padded}
+use Rattle.mac_modes.specs.Padding.{pad_count, padded}
 use Rattle.pkcs5.specs.Identifiers.{pbes2_oid}
 use Rattle.pkcs5.specs.Opening.{opened, states_length, steps_of}
 use Rattle.pkcs5.specs.Kinds.{IsDes, is_pbkdf2, key_size, rounds_of}
@@ -174,6 +174,10 @@ is_triple_des (PbewithSHAAnd40BitRC2CBC p) = false
 is_triple_des (PbeWithSHAAnd3KeyTripleDESCBC p) = true
 is_triple_des (Pbes2 par) = false
 is_triple_des (OtherAlg o) = false
+
+-- the octets of a ciphertext under Triple DES, whose text has n: 1 to 8 more, up to a multiple of 8
+abbrev pub ciphertext_length : ℕ → ℕ
+ciphertext_length n = n + pad_count 8 n
 
 -- c is a ciphertext of the text m, by what opens it, and has at most 2 ^ 32 - 1 octets
 abbrev pub IsSealed : (List ℕ → Option (List ℕ)) → List ℕ → List ℕ → Type 0

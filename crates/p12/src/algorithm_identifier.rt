@@ -3,7 +3,7 @@ ghost use Rattle.std.specs.Prelude.{◌+◌, ◌*◌, ◌≡◌, ◌<◌, ◌≤
 ghost use Rattle.asn1_core.specs.Gives.{Gives, ReadsAs, ReadsIn};
 ghost use Rattle.p12.specs.AlgorithmView.{LeftUnopened, left_pbe, seen_algorithm, seen_params};
 ghost use Rattle.asn1_core.specs.declared.error.Error.TheVariants as asn1;
-ghost use Rattle.p12.specs.AlgorithmIdentifier.{IsUnderDes, AlgorithmText, IsSealed, ParamsText, RefusesToSeal, cost, count, is_triple_des, openable, salt_of, taken, taken_pbe, unlock, unlock_pbe};
+ghost use Rattle.p12.specs.AlgorithmIdentifier.{IsUnderDes, AlgorithmText, IsSealed, ParamsText, RefusesToSeal, ciphertext_length, cost, count, is_triple_des, openable, salt_of, taken, taken_pbe, unlock, unlock_pbe};
 ghost use Rattle.pkcs5.specs.Kinds as kinds;
 ghost use Rattle.pkcs5.specs.Opening as opening;
 ghost use Rattle.p12.specs.Error.{Reads};
@@ -827,8 +827,11 @@ impl AlgorithmIdentifier {
         requires password { length password.now < 2 ^ 59 }
         requires salt { length (salt_of self.now) < 2 ^ 59 }
         ensures ok { IfOk result (IsSealed (unlock_pbe self.now password.now) plaintext.now) }
+        ensures size { IfOk result (λ c. length c ≡ ciphertext_length (length plaintext.now)) }
         ensures err { IfErr result
             (RefusesToSeal (unlock_pbe self.now password.now) plaintext.now) }
+        ensures too_long { IfErr result (λ e. e ≡ Error.TooLong
+            → 2 ^ 32 ≤ ciphertext_length (length plaintext.now)) }
     {
         match self {
             AlgorithmIdentifier::PbeWithSHAAnd3KeyTripleDESCBC(params) => {

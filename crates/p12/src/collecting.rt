@@ -135,7 +135,7 @@ impl PFX {
     ///
     /// Caller: the outer content and its salt have fewer than 2^32 octets, the password fewer than 2^57.
     pub fn bags(&self, alloc: Global, password: &str) -> Result<Items<SafeBag>, Error>
-        requires fits { StoreFits (2 ^ 32 - 1) self.now }
+        requires fits { ContentFits (2 ^ 32 - 1) self.now.auth_safe }
         requires password { length password.now < 2 ^ 57 }
         ensures ok { IfOk result (StoreHolds password.now self.now) }
         ensures err { IfErr result (Refuses (StoreFault password.now self.now)) }
@@ -151,7 +151,7 @@ impl PFX {
     ///
     /// Caller: as for `bags`.
     pub fn cert_x509_bags(&self, alloc: Global, password: &str) -> Result<Items<Octets>, Error>
-        requires fits { StoreFits (2 ^ 32 - 1) self.now }
+        requires fits { ContentFits (2 ^ 32 - 1) self.now.auth_safe }
         requires password { length password.now < 2 ^ 57 }
         ensures ok { IfOk result (λ certificates. (gs : List SafeBag)
             × StoreHolds password.now self.now gs × (certificates ≡ certificates_among gs)) }
@@ -165,7 +165,7 @@ impl PFX {
     ///
     /// Caller: as for `bags`.
     pub fn cert_bags(&self, alloc: Global, password: &str) -> Result<Items<Octets>, Error>
-        requires fits { StoreFits (2 ^ 32 - 1) self.now }
+        requires fits { ContentFits (2 ^ 32 - 1) self.now.auth_safe }
         requires password { length password.now < 2 ^ 57 }
         ensures ok { IfOk result (λ certificates. (gs : List SafeBag)
             × StoreHolds password.now self.now gs × (certificates ≡ certificates_among gs)) }
@@ -178,7 +178,7 @@ impl PFX {
     ///
     /// Caller: as for `bags`.
     pub fn cert_sdsi_bags(&self, alloc: Global, password: &str) -> Result<Items<Text>, Error>
-        requires fits { StoreFits (2 ^ 32 - 1) self.now }
+        requires fits { ContentFits (2 ^ 32 - 1) self.now.auth_safe }
         requires password { length password.now < 2 ^ 57 }
         ensures ok { IfOk result (λ texts. (gs : List SafeBag)
             × StoreHolds password.now self.now gs × (texts ≡ sdsi_among gs)) }
@@ -193,7 +193,7 @@ impl PFX {
     ///
     /// Caller: as for `bags`.
     pub fn key_bags(&self, alloc: Global, password: &str) -> Result<Items<Octets>, Error>
-        requires fits { StoreFits (2 ^ 32 - 1) self.now }
+        requires fits { ContentFits (2 ^ 32 - 1) self.now.auth_safe }
         requires password { length password.now < 2 ^ 57 }
         ensures ok { IfOk result (λ keys. (gs : List SafeBag)
             × StoreHolds password.now self.now gs × (keys ≡ keys_among password.now gs)) }
@@ -206,7 +206,7 @@ impl PFX {
     /// Whether the MAC of the store agrees under a password: true too where there is none, and false where the outer content
     /// does not open. The only refusal is `Memory`.
     ///
-    /// Caller: as for `bags`.
+    /// Caller: as for `bags`; and the salt of the MAC has fewer than 2^32 octets.
     pub fn verify_mac(&self, alloc: Global, password: &str) -> Result<bool, Error>
         requires fits { StoreFits (2 ^ 32 - 1) self.now }
         requires password { length password.now < 2 ^ 57 }

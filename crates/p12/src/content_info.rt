@@ -188,7 +188,10 @@ impl<'a> ContentView<'a> {
     }
 }
 
-fn content_in_front(alloc: Global, r: &mut SliceReader<'_>) -> Result<ContentInfo, asn1_core::Error>
+pub(crate) fn content_in_front(
+    alloc: Global,
+    r: &mut SliceReader<'_>,
+) -> Result<ContentInfo, asn1_core::Error>
     ensures exact { ReadsIn content_at (λ x. x) r.old.rest.now r.new.rest.now result }
     ensures place { r.new.read + length r.new.rest.now ≡ r.old.read + length r.old.rest.now }
     ensures shorter { OnOk result (length r.new.rest.now < length r.old.rest.now) }

@@ -4,6 +4,7 @@
 mod algorithm_identifier;
 mod attribute;
 mod bags_view;
+mod building;
 mod carry;
 mod cert_bag;
 mod collecting;
@@ -15,15 +16,23 @@ mod encrypted_data;
 mod encrypted_private_key_info;
 mod error;
 mod identifiers;
+pub mod laws;
 mod mac;
 mod mac_data;
+mod made_stores;
 mod opening;
 mod password;
 mod pfx;
 mod place;
+mod rereading;
+mod rows;
 mod safe_bag;
 mod sealing;
+mod spellings;
+mod store;
 pub mod uniqueness;
+mod writing;
+mod written;
 
 pub use algorithm_identifier::{
     AlgorithmIdentifier, AlgorithmView, OtherAlgorithmIdentifier, Pkcs12PbeParams,
@@ -43,6 +52,3 @@ pub use password::bmp_string;
 pub use pfx::{PFX, StoreView};
 pub use place::Place;
 pub use safe_bag::{BagView, OtherBag, SafeBag, SafeBagKind};
-
-#[cfg(test)]
-mod tests;

@@ -3,7 +3,7 @@ ghost use Rattle.std.specs.Prelude.{◌≡◌, ◌+◌, ◌≤◌, ◌<◌, ◌^
 ghost use Rattle.block_core.specs.Tdes.{inv_tdes};
 ghost use Rattle.mac_modes.specs.Cbc.{uncbc};
 ghost use Rattle.mac_modes.specs.Padding.{pad_count, padded};
-ghost use Rattle.p12.specs.AlgorithmIdentifier.{is_blocks, triple_des_text, unlock_pbes2, unpadded};
+ghost use Rattle.p12.specs.AlgorithmIdentifier.{ciphertext_length, is_blocks, triple_des_text, unlock_pbes2, unpadded};
 ghost use Rattle.pkcs5.specs.Kinds.{IsDes, key_size, rounds_of};
 ghost use Rattle.pkcs5.specs.Opening.{states_length};
 
@@ -42,6 +42,7 @@ pub(crate) fn seal_blocks(
     requires password { length password.now < 2 ^ 59 }
     requires salt { length params.now.salt < 2 ^ 59 }
     ensures blocks { IfOk result (λ c. is_blocks c ≡ true) }
+    ensures size { IfOk result (λ c. length c ≡ ciphertext_length (length plaintext.now)) }
     ensures opens { IfOk result
         (λ c. unpadded 8 (triple_des_text password.now params.now.salt params.now.iterations c)
         ≡ Some plaintext.now) }

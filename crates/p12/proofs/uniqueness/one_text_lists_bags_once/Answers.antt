@@ -1,4 +1,4 @@
-use Rattle.p12.proofs.Laws.{bags_sole}
+use Rattle.p12.proofs.DefinitionLaws.{bags_sole}
 use Rattle.p12.proofs.uniqueness.one_text_lists_bags_once.Goals as goal
 
 pub returns : goal.returns

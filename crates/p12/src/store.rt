@@ -1,0 +1,260 @@
+//! Making a store of a key and its certificates.
+ghost use Rattle.std.specs.Prelude.{◌≡◌, ◌<◌, ◌-◌, ◌^◌, List, ℕ, length, IfErr, IfOk, OnOk};
+ghost use Rattle.asn1_core.specs.Texts.{seen_option};
+ghost use Rattle.p12.specs.Building.{DrawsSalts, IsCiphertext, IsOuterText, IsStoreOf, IsTooLong, IsTooLongStore, RefusesDrawn, RefusesStore, certificate_bag, certificate_bags, entry_of, key_bag, own_attributes, seen_entry, seen_salts};
+ghost use Rattle.p12.specs.Collected.{at_most_one};
+ghost use Rattle.p12.specs.Password.{bmp_password};
+ghost use Rattle.p12.specs.Pfx.{StoreFits};
+
+use crate::attribute::PKCS12Attribute;
+use crate::building::{ITERATIONS, algorithm_under, draw_salt, seal_bags};
+use crate::cert_bag::CertBag;
+use crate::content_info::ContentInfo;
+use crate::encrypted_data::EncryptedData;
+use crate::encrypted_private_key_info::EncryptedPrivateKeyInfo;
+use crate::error::Error;
+use crate::mac_data::MacData;
+use crate::password::bmp_string;
+use crate::pfx::PFX;
+use crate::safe_bag::{SafeBag, SafeBagKind};
+use asn1_core::{Items, Octets, Text};
+use mac_modes::Draw;
+use sha1::Sha1;
+use std::alloc::Global;
+
+/// The version of a store (RFC 7292 section 4).
+const VERSION: u8 = 3;
+
+/// Whose certificate, key and further certificates a store holds, and the name of both.
+#[derive(Clone, Copy, Drop)]
+pub(crate) struct EntryParts<'p> {
+    pub(crate) certificate: &'p [u8],
+    pub(crate) key: &'p [u8],
+    pub(crate) others: &'p [Octets],
+    pub(crate) name: &'p str,
+}
+
+/// The salts of a store.
+#[derive(Drop)]
+pub(crate) struct DrawnSalts {
+    key: [u8; 8],
+    certificates: [u8; 8],
+    mac: [u8; 8],
+}
+
+/// Draws the salts for the key, for the certificates and for the MAC. `Rng` exactly where the draw fails.
+fn draw_salts<D: Draw>(draw: &mut D) -> Result<DrawnSalts, Error>
+    ensures ok { IfOk result (λ d. DrawsSalts (D.left draw.old) (D.left draw.new)
+        (λ s. s ≡ seen_salts d)) }
+    ensures err { IfErr result (RefusesDrawn ⊥ ⊥
+        (D.faults draw.old) (D.faults draw.new) (D.left draw.old) 24) }
+{
+    let key = draw_salt(draw)?;
+    let certificates = draw_salt(draw)?;
+    let mac = draw_salt(draw)?;
+    Ok(DrawnSalts {
+        key,
+        certificates,
+        mac,
+    })
+}
+
+/// The name, and the SHA-1 of the certificate.
+fn own_attributes(alloc: Global, entry: EntryParts<'_>) -> Result<Items<PKCS12Attribute>, Error>
+    ensures ok { IfOk result (λ found. found ≡ own_attributes (seen_entry entry.entry)) }
+    ensures err { IfErr result (λ e. e ≡ Error.Memory) }
+{
+    let name = Text::from_text(alloc, entry.name)?;
+    let key_id = Octets::from_slice(alloc, &Sha1::digest(entry.certificate))?;
+    let mut attributes = Items::new(alloc);
+    attributes.push(PKCS12Attribute::FriendlyName(name))?;
+    attributes.push(PKCS12Attribute::LocalKeyId(key_id))?;
+    Ok(attributes)
+}
+
+/// The bag of a certificate.
+fn certificate_bag(
+    alloc: Global,
+    certificate: &[u8],
+    attributes: Items<PKCS12Attribute>,
+) -> Result<SafeBag, Error>
+    ensures ok { IfOk result (λ g. g ≡ certificate_bag attributes certificate.now) }
+    ensures err { IfErr result (λ e. e ≡ Error.Memory) }
+{
+    Ok(SafeBag {
+        bag: SafeBagKind::CertBag(CertBag::X509(Octets::from_slice(alloc, certificate)?)),
+        attributes,
+    })
+}
+
+/// The bags of the certificates, that of the key first.
+fn certificate_bags(alloc: Global, entry: EntryParts<'_>) -> Result<Items<SafeBag>, Error>
+    ensures ok { IfOk result (λ bags. bags ≡ certificate_bags (seen_entry entry.entry)) }
+    ensures err { IfErr result (λ e. e ≡ Error.Memory) }
+{
+    let attributes = own_attributes(alloc, entry)?;
+    let mut bags = Items::new(alloc);
+    bags.push(certificate_bag(alloc, entry.certificate, attributes)?)?;
+    for other in entry.others {
+        bags.push(certificate_bag(alloc, other.as_slice(), Items::new(alloc))?)?;
+    }
+    Ok(bags)
+}
+
+/// The bag of the key, encrypted under a salt.
+fn key_bag(
+    alloc: Global,
+    entry: EntryParts<'_>,
+    password: &[u8],
+    salt: &[u8],
+) -> Result<SafeBag, Error>
+    requires password { length password.now < 2 ^ 59 }
+    requires salt { length salt.now ≡ 8 }
+    ensures ok { IfOk result (λ g. (v : List ℕ)
+        × IsCiphertext password.now salt.now (seen_entry entry.entry).key v
+        × (g ≡ key_bag (seen_entry entry.entry) salt.now v)) }
+    ensures fitting { OnOk result (¬ (IsTooLong (seen_entry entry.entry).key)) }
+    ensures err { IfErr result (RefusesStore (seen_entry entry.entry)) }
+{
+    let attributes = own_attributes(alloc, entry)?;
+    let encryption_algorithm = algorithm_under(alloc, salt)?;
+    let encrypted_data = encryption_algorithm.encrypt_pbe(alloc, entry.key, password)?;
+    Ok(SafeBag {
+        bag: SafeBagKind::Pkcs8ShroudedKeyBag(EncryptedPrivateKeyInfo {
+            encryption_algorithm,
+            encrypted_data,
+        }),
+        attributes,
+    })
+}
+
+/// The text of the two contents: the certificates encrypted, and the key.
+fn outer_text(
+    alloc: Global,
+    entry: EntryParts<'_>,
+    password: &[u8],
+    salts: &DrawnSalts,
+) -> Result<Octets, Error>
+    requires { length password.now < 2 ^ 59 }
+    ensures ok { IfOk result
+        (IsOuterText password.now (seen_entry entry.entry) (seen_salts salts.now)) }
+    ensures fitting { OnOk result (¬ (IsTooLongStore (seen_entry entry.entry))) }
+    ensures err { IfErr result (RefusesStore (seen_entry entry.entry)) }
+{
+    let key = key_bag(alloc, entry, password, &salts.key)?;
+    let certificates = certificate_bags(alloc, entry)?;
+    let sealed = seal_bags(
+        alloc,
+        certificates.as_slice(),
+        password,
+        &salts.certificates,
+    )?;
+    let plain = SafeBag::all_to_der(alloc, &[key])?;
+    let mut contents = Items::new(alloc);
+    contents.push(ContentInfo::EncryptedData(EncryptedData {
+        encrypted_content_info: sealed,
+    }))?;
+    contents.push(ContentInfo::Data(plain))?;
+    ContentInfo::all_to_der(alloc, contents.as_slice())
+}
+
+impl PFX {
+    /// A store of a certificate, its private key, and further certificates, all DER, under a password. Its first
+    /// content holds the certificates, that of the key first and the others in their order, encrypted under Triple DES;
+    /// its second holds the key, encrypted likewise. Key and certificate carry `name` as friendly name, and the SHA-1 of
+    /// the certificate as local key id. The MAC is under SHA-1. Each takes 2,048 rounds and a salt of 8 octets of the
+    /// draw: the key first, then the certificates, then the MAC. No octet of certificates and key is looked at.
+    ///
+    /// `Rng` exactly where the draw fails: over one that tells its octets, where fewer than 24 remain. `TooLong`
+    /// exactly where the encrypted key, the encrypted certificates or the list of contents would have more than
+    /// 2^32 - 1 octets. The other refusal is `Memory`. Triple DES and SHA-1 are for programs that read nothing newer.
+    ///
+    /// Caller: the password has fewer than 2^57 octets.
+    pub fn new_with_cas<D: Draw>(
+        alloc: Global,
+        cert_der: &[u8],
+        key_der: &[u8],
+        ca_der_list: &[Octets],
+        password: &str,
+        name: &str,
+        draw: &mut D,
+    ) -> Result<PFX, Error>
+        requires { length password.now < 2 ^ 57 }
+        ensures ok { IfOk result (λ s. DrawsSalts (D.left draw.old) (D.left draw.new)
+            (IsStoreOf (bmp_password password.now)
+            (entry_of cert_der.now key_der.now ca_der_list.now name.now)
+            s)) }
+        ensures fits { IfOk result (StoreFits (2 ^ 32 - 1)) }
+        ensures fitting { OnOk result (¬ (IsTooLongStore
+            (entry_of cert_der.now key_der.now ca_der_list.now name.now))) }
+        ensures err { IfErr result (RefusesDrawn ⊥
+            (IsTooLongStore
+            (entry_of cert_der.now key_der.now ca_der_list.now name.now))
+            (D.faults draw.old) (D.faults draw.new) (D.left draw.old) 24) }
+    {
+        let entry = EntryParts {
+            certificate: cert_der,
+            key: key_der,
+            others: ca_der_list,
+            name,
+        };
+        let salts = draw_salts(draw)?;
+        let units = bmp_string(alloc, password)?;
+        let outer = outer_text(alloc, entry, units.as_slice(), &salts)?;
+        let mac = MacData::with_salt(
+            alloc,
+            outer.as_slice(),
+            units.as_slice(),
+            &salts.mac,
+            ITERATIONS,
+        )?;
+        Ok(PFX {
+            version: VERSION,
+            auth_safe: ContentInfo::Data(outer),
+            mac_data: Some(mac),
+        })
+    }
+
+    /// `new_with_cas` with one further certificate, or none.
+    ///
+    /// Caller: the password has fewer than 2^57 octets.
+    pub fn new<D: Draw>(
+        alloc: Global,
+        cert_der: &[u8],
+        key_der: &[u8],
+        ca_der: Option<&[u8]>,
+        password: &str,
+        name: &str,
+        draw: &mut D,
+    ) -> Result<PFX, Error>
+        requires { length password.now < 2 ^ 57 }
+        ensures ok { IfOk result (λ s. DrawsSalts (D.left draw.old) (D.left draw.new)
+            (IsStoreOf (bmp_password password.now)
+            (entry_of cert_der.now key_der.now
+            (at_most_one (seen_option (λ c. c.now) ca_der.entry)) name.now)
+            s)) }
+        ensures fits { IfOk result (StoreFits (2 ^ 32 - 1)) }
+        ensures fitting { OnOk result (¬ (IsTooLongStore
+            (entry_of cert_der.now key_der.now
+            (at_most_one (seen_option (λ c. c.now) ca_der.entry)) name.now))) }
+        ensures err { IfErr result (RefusesDrawn ⊥
+            (IsTooLongStore
+            (entry_of cert_der.now key_der.now
+            (at_most_one (seen_option (λ c. c.now) ca_der.entry)) name.now))
+            (D.faults draw.old) (D.faults draw.new) (D.left draw.old) 24) }
+    {
+        let mut others = Items::new(alloc);
+        if let Some(certificate) = ca_der {
+            others.push(Octets::from_slice(alloc, certificate)?)?;
+        }
+        PFX::new_with_cas(
+            alloc,
+            cert_der,
+            key_der,
+            others.as_slice(),
+            password,
+            name,
+            draw,
+        )
+    }
+}
