@@ -18,7 +18,7 @@ use Rattle.p12.specs.declared.encrypted_private_key_info.EncryptedPrivateKeyInfo
 use Rattle.p12.specs.declared.safe_bag.BagView.{BagView}
 use Rattle.p12.specs.declared.safe_bag.BagView.TheVariants as view
 use Rattle.p12.specs.declared.safe_bag.SafeBag.{SafeBag}
-use Rattle.p12.proofs.Laws.{bags_fit, bags_sole}
+use Rattle.p12.proofs.DefinitionLaws.{bags_fit, bags_sole}
 use Rattle.asn1_core.specs.Sets.{Each}
 use Rattle.transfer.specs.declared.store.key_locks.KeyLock.{KeyLock}
 use Rattle.transfer.specs.InPlace.{AddsLocks, BagsAt, InOrder, LockFits, StandAt, locked_key, locked_keys, places_of}

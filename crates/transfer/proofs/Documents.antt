@@ -1,12 +1,14 @@
 -- Documents, by the words of the standards and by the definitions of the crates below.
-use Rattle.std.proofs.Common.{◌≡◌, ℕ, ◌<◌, List, [], ◌∷◌, ◌++◌, length, sym, ap, ◌∙◌, subst}
+use Rattle.std.proofs.Common.{◌≡◌, ℕ, ◌<◌, ◌≤◌, List, [], ◌∷◌, ◌++◌, length, sym, ap, ◌∙◌, subst, arith}
 use Rattle.std.specs.Prelude.{All}
 use Rattle.std.proofs.lemmas.List.{append-nil}
 use Rattle.std.proofs.lemmas.List.Elements.{All-tail}
 use Rattle.asn1_core.specs.Der.{el, len, null, octets, oid, seq, uint}
 use Rattle.pkcs5.specs.Generation.{pbkdf2_sha256}
 use Rattle.pkcs5.specs.Identifiers.{aes_256_cbc_oid, hmac_with_sha256_oid, pbes2_oid, pbkdf2_oid}
-use Rattle.pkcs5.specs.Opening.{Opens, OpensBy, derived, key_under, prf_of}
+use Rattle.pkcs5.specs.Kinds.{IsDes}
+use Rattle.pkcs5.specs.Opening.{FitsKey, Opens, OpensBy, derived, key_under, prf_of}
+use Rattle.pkcs5.specs.Parameters.{AreParameters}
 use Rattle.pkcs5.specs.declared.encryption_scheme.EncryptionScheme.TheVariants.{Pbes2}
 use Rattle.pkcs5.specs.declared.pbes2.encryption_scheme.EncryptionScheme.TheVariants.{Aes256Cbc}
 use Rattle.pkcs8.specs.EncryptedPrivateKeyInfo.{encrypted_key_text}
@@ -14,6 +16,7 @@ use Rattle.pkcs8.specs.Seen.{AnyPrivateKey, IsPrivateKey}
 use Rattle.pkcs8.specs.Sealing.{IsSealed}
 use Rattle.pkcs8.specs.Spelling.{private_key_text}
 use Rattle.transfer.specs.Document.{IsDocument, document_text}
+use Rattle.transfer.specs.Limits.{rounds_limit}
 
 pub document_canonical : (rounds : ℕ) (iv salt c : List ℕ) → document_text rounds iv salt c ≡ encrypted_key_text (Pbes2 (pbkdf2_sha256 rounds salt (Aes256Cbc iv))) c
 document_canonical rounds iv salt c =
@@ -38,6 +41,13 @@ pub document_sealed : (document : List ℕ) (rounds : ℕ) (iv salt q text : Lis
 unfolding OpensBy key_under derived prf_of
 document_sealed document rounds iv salt q text d =
     (d.ciphertext, record { blocks = record { some = d.some_blocks; whole = d.whole_blocks }; text = d.opens }, d.is_text ∙ document_canonical rounds iv salt d.ciphertext)
+
+-- These parameters are lawful, and give a key to a cipher other than DES.
+pub lawful : (rounds : ℕ) (iv salt : List ℕ) → rounds ≤ rounds_limit → length iv ≡ 16 → length salt ≡ 16 → AreParameters (pbkdf2_sha256 rounds salt (Aes256Cbc iv))
+lawful rounds iv salt r i s = ((omega (arith, s), omega (arith, r), tt), i)
+
+pub gives_key : (rounds : ℕ) (iv salt : List ℕ) → FitsKey (pbkdf2_sha256 rounds salt (Aes256Cbc iv)) × (IsDes (Aes256Cbc iv) → ⊥)
+gives_key rounds iv salt = ((tt, tt), λ des. des)
 
 -- ---- One document
 

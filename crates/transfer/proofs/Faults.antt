@@ -17,7 +17,7 @@ use Rattle.p12.specs.declared.error.Error.TheVariants as errors
 use Rattle.p12.specs.AlgorithmIdentifier.{cost, unlock}
 use Rattle.p12.specs.Error.{MalformedOnly}
 use Rattle.p12.specs.SafeBag.{NoBags}
-use Rattle.p12.proofs.Laws.{unlock_opened}
+use Rattle.p12.proofs.DefinitionLaws.{unlock_opened}
 use Rattle.transfer.specs.declared.store.error.TransferError.{TransferError}
 use Rattle.transfer.specs.declared.store.error.TransferError.TheVariants.{TooLong, Malformed, Unsupported, MacMissing, MacUnsupported, ZeroIterations, WorkLimit, MacMismatch, ContentMalformed, DecryptFailed, KeyMalformed, Rng, Memory}
 use Rattle.transfer.specs.TransferError.{RefusedBy}

@@ -7,7 +7,7 @@ use Rattle.p12.specs.declared.mac_data.MacData.{MacData}
 use Rattle.p12.specs.declared.pfx.PFX.{PFX}
 use Rattle.p12.specs.ContentInfo.{ContentFits, IsContents}
 use Rattle.p12.specs.Pfx.{IsStore}
-use Rattle.p12.proofs.Laws.{contents_fit, store_fits}
+use Rattle.p12.proofs.DefinitionLaws.{contents_fit, store_fits}
 use Rattle.transfer.specs.Limits.{store_limit}
 
 at_some : (P : MacData → Type 0) (o : Option MacData) (m : MacData) → o ≡ Some m → IfSome o P → P m

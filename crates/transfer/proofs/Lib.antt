@@ -18,3 +18,7 @@ mod Places
 mod Settling
 mod Answering
 pub mod Decided
+mod Generated
+mod SampleWords
+mod SampleStore
+mod SampleAnswering

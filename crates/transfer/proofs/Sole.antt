@@ -14,7 +14,7 @@ use Rattle.p12.specs.AlgorithmIdentifier.{cost, unlock}
 use Rattle.p12.specs.ContentInfo.{IsContents}
 use Rattle.p12.specs.Pfx.{IsStore}
 use Rattle.p12.specs.SafeBag.{IsBags, NoBags}
-use Rattle.p12.proofs.Laws.{bags_sole, contents_sole, store_sole, unlock_opened}
+use Rattle.p12.proofs.DefinitionLaws.{bags_sole, contents_sole, store_sole, unlock_opened}
 use Rattle.transfer.specs.declared.store.error.TransferError.{TransferError}
 use Rattle.transfer.specs.declared.store.error.TransferError.TheVariants.{ContentMalformed, KeyMalformed}
 use Rattle.asn1_core.specs.Sets.{Each}

@@ -18,3 +18,4 @@ pub mod InPlace
 pub mod Verdicts
 pub mod Transferred
 pub mod Answers
+pub mod Sample

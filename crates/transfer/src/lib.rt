@@ -7,6 +7,7 @@
 
 pub mod laws;
 mod program;
+mod sample;
 mod store;
 #[cfg(test)]
 mod tests;

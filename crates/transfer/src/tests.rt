@@ -102,6 +102,10 @@ fn words_of_another_form_are_usage(rt: HostRuntime) -> Result<(), Fail> {
         "transfer p q 100000001 9",
         "transfer p q 1 18446744073709551616",
         "sample p q 1 9",
+        "sample",
+        "sample 0",
+        "sample 01",
+        "sample 10001",
     ] {
         let words = words_of(alloc, line)?;
         ran::<Brand, _>(
@@ -113,6 +117,40 @@ fn words_of_another_form_are_usage(rt: HostRuntime) -> Result<(), Fail> {
             NEVER,
             Status::Usage,
             b"error: Usage\n",
+            Blank::new(1),
+        )?;
+    }
+    Ok(())
+}
+
+#[test]
+fn a_sample_is_the_same_on_every_machine(rt: HostRuntime) -> Result<(), Fail> {
+    let alloc = rt.alloc();
+    // by tests/vectors/sample.py; the first read would fail
+    for (line, text) in [
+        (
+            "sample 1",
+            "keys 1\ncerts 1\nstore 336\nsteps 7\nsha256 66ee4e1f3a3e43be86d309670f7fbf8044e256bcd362f12cacf6e9ce8bc2e447\n",
+        ),
+        (
+            "sample 3",
+            "keys 3\ncerts 3\nstore 674\nsteps 13\nsha256 c1d30648308cac77fba24fe64c16e9b1607dae700f960b3067411b3b39f3d349\n",
+        ),
+        (
+            "sample 500",
+            "keys 500\ncerts 500\nstore 80702\nsteps 1504\nsha256 315ce6ab6311271171186f383dcb33395946d6c7a3a7ef6f49bf5b676a1d70b3\n",
+        ),
+    ] {
+        let words = words_of(alloc, line)?;
+        ran::<Brand, _>(
+            &rt,
+            alloc,
+            words.as_slice(),
+            b"30",
+            0,
+            NEVER,
+            Status::Done,
+            text.as_bytes(),
             Blank::new(1),
         )?;
     }

@@ -31,7 +31,7 @@ fn line_size(label: &str, octets: &[u8]) -> Option<usize>
 }
 
 /// A line of a label and the lower-case digits of the octets.
-fn line_of(alloc: Global, label: &str, octets: &[u8]) -> Result<Octets, AllocError>
+pub(crate) fn line_of(alloc: Global, label: &str, octets: &[u8]) -> Result<Octets, AllocError>
     ensures { IfOk result (λ line. line ≡ digits_line label.now octets.now) }
 {
     let Some(size) = line_size(label, octets) else {

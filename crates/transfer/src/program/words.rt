@@ -3,14 +3,18 @@ ghost use Rattle.std.specs.Prelude.{IfSome, IfNone, map};
 ghost use Rattle.std.specs.String.{string_bytes};
 ghost use Rattle.transfer.specs.Words.{IsCommand, IsNoCommand};
 ghost use Rattle.transfer.specs.Asked.{command_in};
+ghost use Rattle.transfer.specs.Sample.{IsNoSample, IsSample};
 
-use octet_core::decimal_u64_of;
+use octet_core::{decimal_of, decimal_u64_of};
 
 /// The longest password, in octets.
 pub(crate) const PASSWORD_LIMIT: usize = 1024;
 
 /// The most rounds that documents are sealed with.
 pub(crate) const ROUNDS_LIMIT: u64 = 100_000_000;
+
+/// The most keys of a sample.
+pub(crate) const KEYS_LIMIT: u32 = 10_000;
 
 /// What the words ask for.
 #[derive(Clone, Copy)]
@@ -48,4 +52,22 @@ pub(crate) fn command_of(words: &[String]) -> Option<Words<'_>>
         rounds: rounds as u32,
         limit,
     })
+}
+
+/// The number of keys that the words ask for a sample of.
+pub(crate) fn sample_keys(words: &[String]) -> Option<u32>
+    ensures found { IfSome result (IsSample (map string_bytes words.now)) }
+    ensures none { IfNone result (IsNoSample (map string_bytes words.now)) }
+{
+    let [name, keys] = words else {
+        return None;
+    };
+    if name.as_str() != "sample" {
+        return None;
+    }
+    let keys = decimal_of(keys.as_str())?;
+    if keys < 1 || keys > KEYS_LIMIT {
+        return None;
+    }
+    Some(keys)
 }

@@ -1,5 +1,5 @@
 //! The work that is allowed.
-ghost use Rattle.std.specs.Prelude.{◌≡◌, ◌+◌, ◌<◌, ◌≤◌, OnOk, IfErr};
+ghost use Rattle.std.specs.Prelude.{◌≡◌, ◌≤◌, OnOk, IfErr};
 
 use crate::store::error::TransferError;
 
@@ -12,9 +12,11 @@ pub(crate) struct Budget {
 }
 
 impl Budget {
+    ghost use Rattle.transfer.specs.Budget.{IsUnspent, PassesLimit, Spends};
+
     /// A budget of which nothing is spent.
     pub(crate) fn new(limit: u64) -> Budget
-        ensures { (result.limit ≡ limit) × (result.spent ≡ 0) }
+        ensures { IsUnspent limit result }
     {
         Budget { limit, spent: 0 }
     }
@@ -22,10 +24,9 @@ impl Budget {
     /// Takes a share of so many steps. `WorkLimit` exactly where the running sum with it would pass the limit; then nothing
     /// is taken.
     pub(crate) fn share(&mut self, cost: u128) -> Result<(), TransferError>
-        ensures ok { OnOk result ((self.new.limit ≡ self.old.limit)
-            × (self.new.spent ≡ self.old.spent + cost)) }
+        ensures ok { OnOk result (Spends self.old self.new cost) }
         ensures err { IfErr result (λ e. (e ≡ TransferError.WorkLimit)
-            × (self.old.limit < self.old.spent + cost) × (self.new ≡ self.old)) }
+            × PassesLimit self.old cost × (self.new ≡ self.old)) }
     {
         if cost > u128::from(self.limit - self.spent) {
             return Err(TransferError::WorkLimit);

@@ -113,6 +113,7 @@ pub(crate) fn open_keys<L: Ledger>(
         (all_shrouded bags) (texts_at text.new keys)
         × (steps.new ≡ steps.old + sum_by key_share (all_shrouded bags))) }
     ensures order { IfOk result (λ keys. InOrder 0 keys (length text.new)) }
+    ensures long { length text.new ≡ length text.old }
     ensures refused { IfErr result (λ e. (bags : List (List SafeBag))
         → Each (BagsAt text.old) places.now bags
         → RefusedAfter (IsFirstFault (of_keys password.now budget.old.limit) budget.old.limit

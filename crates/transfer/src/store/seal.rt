@@ -1,6 +1,7 @@
 //! Sealing private keys anew, under octets that are drawn.
 ghost use Rattle.std.specs.Prelude.{◌≡◌, ◌≤◌, ◌<◌, ◌^◌, All, length, IfOk, IfErr};
-ghost use Rattle.transfer.specs.Limits.{rounds_limit};
+ghost use Rattle.pkcs8.specs.declared.error.Error.TheVariants as errors;
+ghost use Rattle.transfer.specs.Limits.{rounds_limit, store_limit};
 ghost use Rattle.transfer.specs.Document.{IsDocument};
 ghost use Rattle.transfer.specs.InPlace.{IsKeyAt, texts_at};
 ghost use Rattle.transfer.specs.Opening.{IsKeyText};
@@ -13,12 +14,25 @@ use asn1_core::{Items, Octets};
 use mac_modes::Draw;
 use p12::Place;
 use pkcs5::pbes2::Parameters;
-use pkcs8::private_keys_are_written;
+use pkcs8::{Error, private_keys_are_written, short_keys_are_encrypted, written_keys_are_shortest};
 use std::alloc::Global;
 
+/// The refusal to seal a key of a short text, which is want of memory.
+fn refusal_of(error: Error) -> TransferError
+    requires { error ≡ errors.Memory }
+    ensures { result ≡ TransferError.Memory }
+{
+    match error {
+        Error::Memory => TransferError::Memory,
+        Error::Asn1(_)
+        | Error::EncryptedPrivateKey(_)
+        | Error::KeyMalformed(_)
+        | Error::ParametersMalformed
+        | Error::PublicKey(_) => unreachable!(),
+    }
+}
+
 /// The document of a key with this IV and this salt. The only refusal is `Memory`.
-///
-/// A key out of a store of 16 MiB has no text that is too long, so no other refusal of its encryption comes.
 fn seal_key(
     alloc: Global,
     text: &[u8],
@@ -28,6 +42,7 @@ fn seal_key(
     salt: &[u8],
 ) -> Result<Octets, TransferError>
     requires key { IsKeyText text.now }
+    requires short { length text.now ≤ store_limit }
     requires rounds { (1 ≤ rounds) × (rounds ≤ rounds_limit) }
     requires salt { length salt.now ≡ 16 }
     ensures ok { IfOk result
@@ -36,11 +51,14 @@ fn seal_key(
 {
     let key = key_of(text);
     private_keys_are_written(&key);
+    written_keys_are_shortest();
+    short_keys_are_encrypted(&key);
     let Ok(parameters) = Parameters::generate_pbkdf2_sha256_aes256cbc(rounds, salt, iv) else {
         unreachable!()
     };
-    let Ok(document) = key.encrypt_with_params(alloc, parameters, new_password) else {
-        return Err(TransferError::Memory);
+    let document = match key.encrypt_with_params(alloc, parameters, new_password) {
+        Ok(document) => document,
+        Err(error) => return Err(refusal_of(error)),
     };
     Ok(Octets::from_slice(alloc, document.as_bytes())?)
 }
@@ -54,6 +72,7 @@ fn seal<D: Draw>(
     draw: &mut D,
 ) -> Result<Octets, TransferError>
     requires key { IsKeyText text.now }
+    requires short { length text.now ≤ store_limit }
     requires rounds { (1 ≤ rounds) × (rounds ≤ rounds_limit) }
     ensures count { D.faults draw.old ≤ D.faults draw.new }
     ensures sealed { IfOk result (λ document. Seals rounds new_password.now (D.left draw.old)
@@ -83,6 +102,7 @@ pub(crate) fn seal_all<D: Draw>(
     draw: &mut D,
 ) -> Result<Items<Octets>, TransferError>
     requires keys { All (IsKeyAt text.now) keys.now }
+    requires short { length text.now ≤ store_limit }
     requires rounds { (1 ≤ rounds) × (rounds ≤ rounds_limit) }
     ensures count { D.faults draw.old ≤ D.faults draw.new }
     ensures sealed { IfOk result (λ documents. SealsAll rounds new_password.now (D.left draw.old)

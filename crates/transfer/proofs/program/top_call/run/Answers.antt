@@ -1,7 +1,5 @@
-use Rattle.transfer.proofs.Answering.{answers}
+use Rattle.transfer.proofs.SampleAnswering.{answers_as}
 use Rattle.transfer.proofs.program.top_call.run.Goals as goal
 
-pub returns-clause-answers : goal.returns-clause-answers
-returns-clause-answers g c =
-    answers _ _ _ c.decide-decision.result _ c.decide-decision.ensures.usage c.decide-decision.ensures.made c.decide-decision.ensures.refused
-    c.decide-decision.ensures.counts c.decide-decision.ensures.last c.decide-decision.ensures.at_most c.write_decision.ensures.count c.write_decision.ensures.written
+pub returns-in-Some-clause-sample : goal.returns-in-Some-clause-sample
+returns-in-Some-clause-sample g c = λ keys is. answers_as _ c.in-Some.keys keys _ _ _ _ c.in-Some.ensures.found is c.run_sample.ensures

@@ -1,6 +1,6 @@
 use Rattle.std.proofs.Common.{◌++◌, ◌∙◌, ap, arith, length, sym, take}
 use Rattle.p12.specs.Place.{at_place}
-use Rattle.p12.proofs.Laws.{bags_sole}
+use Rattle.p12.proofs.DefinitionLaws.{bags_sole}
 use Rattle.transfer.specs.InPlace.{BagsAt}
 use Rattle.transfer.specs.Opening.{all_certificates, certificates_in}
 use Rattle.transfer.proofs.BagsInPlace.{each_length, mate_at, nth, nth_at, place_within}

@@ -2,7 +2,7 @@ use Rattle.std.proofs.Common.{◌≡◌, ◌≤◌, arith, length, take}
 use Rattle.std.specs.Prelude.{Some}
 use Rattle.p12.specs.AlgorithmIdentifier.{unlock}
 use Rattle.p12.specs.AlgorithmView.{seen_algorithm}
-use Rattle.p12.proofs.Laws.{taken_most, unlock_opened}
+use Rattle.p12.proofs.DefinitionLaws.{taken_most, unlock_opened}
 use Rattle.transfer.proofs.Overwriting.{if_at}
 use Rattle.transfer.proofs.store.lock.open_front.Goals as goal
 

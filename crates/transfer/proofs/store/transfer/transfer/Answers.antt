@@ -48,6 +48,9 @@ seal_all-requires-clause-keys g c =
     let a = c.in-Ok-open_keys.ensures.opened o.0.bags (rw (c.as_slice-places.ensures) o.0.stand.each) in
     rw (c.as_slice-2.ensures, c.as_slice-3.ensures) (keys_stand c.args.password.now (all_shrouded o.0.bags) c.open_keys.new.text 0 c.in-Ok-open_keys.keys a.0.each c.in-Ok-open_keys.ensures.order)
 
+pub seal_all-requires-clause-short : goal.seal_all-requires-clause-short
+seal_all-requires-clause-short g c = omega (arith, ap length c.as_slice-2.ensures, c.in-Ok-open_keys.ensures.long, c.in-Ok.ensures.opened.0.short)
+
 pub returns-in-Ok-seal_all-clause-opened : goal.returns-in-Ok-seal_all-clause-opened
 returns-in-Ok-seal_all-clause-opened g c =
     let o = c.in-Ok.ensures.opened in

@@ -1,0 +1,49 @@
+-- What a run of the sample answers.
+use Rattle.std.proofs.Common.{◌≡◌, ◌≢◌, ℕ, ◌≤◌, ◌<◌, ◌^◌, List, refl, sym, ◌∙◌, arith, subst}
+use Rattle.std.specs.Prelude.{Result, Ok, Err, IfOk, IfErr, decimal}
+use Rattle.std.proofs.lemmas.Fmt.{decimal_injective}
+use Rattle.transfer.specs.Answers.{IsWritten, cut, decided_status, decided_text, whole}
+use Rattle.transfer.specs.DueText.{joined}
+use Rattle.transfer.specs.Sample.{IsSample, SampleAnswers, SampleDue, SampleMakes}
+use Rattle.transfer.specs.Status.{error_text}
+use Rattle.transfer.specs.Stream.{Stream}
+use Rattle.transfer.specs.declared.program.status.Status.{Status}
+use Rattle.transfer.specs.declared.program.status.Status.TheVariants.{WriteFault, Memory}
+
+memory_due : (keys a b : ℕ) (s : Status) → s ≡ Memory → SampleDue keys a b s (error_text s)
+memory_due keys a b s is = rw is refl
+
+due : (keys a b : ℕ) (d : Result (List (List ℕ)) Status) → IfOk d (λ lines. SampleMakes keys a b (joined lines)) → IfErr d (λ s. s ≡ Memory) → SampleDue keys a b (decided_status d) (decided_text d)
+due keys a b (Ok lines) made memory = made
+due keys a b (Err s) made memory = memory_due keys a b s memory
+
+due_as : (keys a b : ℕ) (s t : Status) (text : List ℕ) → s ≡ t → SampleDue keys a b t text → SampleDue keys a b s text
+due_as keys a b s t text is h = rw is h
+
+answered : (keys a b : ℕ) (output : Stream) (t : Status) (text : List ℕ) (s : Status) → output.faults ≤ output.faults_after → SampleDue keys a b t text → IsWritten output t text s → SampleAnswers keys a b output s
+answered keys a b output t text s count is (whole same all) = record {
+  written = λ other. (text, due_as keys a b s t text same is, all);
+  part = λ fault. absurd (due_as keys a b WriteFault t text (sym fault ∙ same) is);
+  write_fault = λ fault. absurd (due_as keys a b WriteFault t text (sym fault ∙ same) is);
+  count = count;
+}
+answered keys a b output t text s count is (cut fault rose some) = record {
+  written = λ other. absurd (other fault);
+  part = λ fault. (t, text, is, some);
+  write_fault = λ fault. rose;
+  count = count;
+}
+
+pub sample_answers : (keys a b : ℕ) (output : Stream) (d : Result (List (List ℕ)) Status) (s : Status) → output.faults ≤ output.faults_after → IfOk d (λ lines. SampleMakes keys a b (joined lines))
+    → IfErr d (λ s. s ≡ Memory) → IsWritten output (decided_status d) (decided_text d) s → SampleAnswers keys a b output s
+sample_answers keys a b output d s count made memory written = answered keys a b output (decided_status d) (decided_text d) s count (due keys a b d made memory) written
+
+-- the words of a sample have one number
+pub one_sample : (words : List (List ℕ)) (m n : ℕ) → IsSample words m → IsSample words n → m ≡ n
+one_sample words m n p q =
+    let s = sym p.spelled ∙ q.spelled in
+    let e : decimal m ≡ decimal n = cc in
+    decimal_injective m n (omega (arith, p.at_most)) (omega (arith, q.at_most)) e
+
+pub answers_as : (words : List (List ℕ)) (m n a b : ℕ) (output : Stream) (s : Status) → IsSample words m → IsSample words n → SampleAnswers m a b output s → SampleAnswers n a b output s
+answers_as words m n a b output s p q h = subst (λ k. SampleAnswers k a b output s) (one_sample words m n p q) h
