@@ -20,7 +20,9 @@ _pkcs12() {
         --rounds | --limit) return ;;
     esac
     if [ "$COMP_CWORD" -eq 1 ]; then
-        mapfile -t COMPREPLY < <(compgen -W "check export --help --version" -- "$word")
+        mapfile -t COMPREPLY < <(compgen -W "check export self-test --help --version" -- "$word")
+    elif [ "${COMP_WORDS[1]}" = self-test ]; then
+        mapfile -t COMPREPLY < <(compgen -W "--help" -- "$word")
     elif [ "${word#-}" = "$word" ]; then
         mapfile -t COMPREPLY < <(compgen -f -- "$word")
     elif [ "${COMP_WORDS[1]}" = export ]; then

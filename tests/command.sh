@@ -66,6 +66,17 @@ names_and_pairs() {
 }
 holds check_names_bags_and_pairs names_and_pairs
 
+# What sample.py computes, which shares no code with the program.
+self_test() {
+    ends 0 self-test && [ "$(wc -l <"$work/said")" -eq 5 ] || return 1
+    if ! PYTHONPATH="$home/tests" PYTHONDONTWRITEBYTECODE=1 python3 "$home/tests/vectors/sample.py" 10 >"$work/sample" 2>/dev/null; then
+        echo "skipped the comparison of self_test: python3 has no cryptography"
+        return 0
+    fi
+    cmp "$work/sample" "$work/said"
+}
+holds the_self_test_gives_its_lines self_test
+
 # --- passwords ---
 
 holds empty_new_password_file fails 22 PasswordUnusable empty export "$keyed" --out "$work/none" --password-file "$keyed_password" \

@@ -1,7 +1,7 @@
 -- How the command ends where it has not done what was asked.
 use Rattle.std.specs.Prelude.{ℕ}
 use Rattle.pkcs12.specs.declared.ending.Ending.{Ending}
-use Rattle.pkcs12.specs.declared.ending.Ending.TheVariants.{Usage, ReadFault, WriteFault, Memory, PasswordMissing, NewPasswordMissing, PasswordUnusable, OutputExists, Refused}
+use Rattle.pkcs12.specs.declared.ending.Ending.TheVariants.{Usage, ReadFault, WriteFault, Memory, PasswordMissing, NewPasswordMissing, PasswordUnusable, OutputExists, SelfTestFailed, Refused}
 use Rattle.transfer.specs.Status.{status_code, status_of}
 
 -- the number that the program ends with: for a store that is refused it is that of the refusal's status
@@ -14,4 +14,5 @@ code_of PasswordMissing = 8
 code_of NewPasswordMissing = 9
 code_of PasswordUnusable = 22
 code_of OutputExists = 23
+code_of SelfTestFailed = 24
 code_of (Refused refusal) = status_code (status_of refusal)

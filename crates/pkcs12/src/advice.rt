@@ -41,6 +41,8 @@ pub fn advice(ending: Ending) -> &'static str {
             "A password is 1 to 1,024 octets of UTF-8; a new one may be empty with --allow-empty-password. To convert:\n    iconv -f LATIN1 -t UTF-8 FILE >NEWFILE",
         Ending::OutputExists =>
             "Give the name of a new folder, or --force to replace a folder with all that is in it.",
+        Ending::SelfTestFailed =>
+            "Do not use this program: it, or the machine, does not do what was proved. Build it anew:\n    rm crates/pkcs12/out/pkcs12\n    ./pkcs12 self-test",
         Ending::Refused(refusal) => advice_on_store(refusal),
     }
 }

@@ -14,6 +14,7 @@ Examples:
   pkcs12 export store.p12 --out pem
   pkcs12 export store.p12 --out der --format der --password-file old --new-password-file new
   pkcs12 export - --out pem --password-env OLD --new-password-env NEW <store.p12
+  pkcs12 self-test
 
 Exit numbers:
    0  Done                the store was opened, and the answer written whole
@@ -37,7 +38,8 @@ Exit numbers:
   20  Rng                 no random octets could be had
   21  TooLong             the store has more than 16,777,215 octets
   22  PasswordUnusable    a password is not UTF-8, too long, or an empty new one
-  23  OutputExists        the output folder is there and not empty, or is no folder";
+  23  OutputExists        the output folder is there and not empty, or is no folder
+  24  SelfTestFailed      the self-test did not give what it has to";
 
 fn store<'a>(alloc: Global) -> Arg<'a> {
     Arg::new(alloc, "store")
@@ -173,6 +175,12 @@ fn check<'a>(alloc: Global) -> Result<Command<'a>, AllocError> {
     with_password(alloc, command)?.arg(limit(alloc))
 }
 
+fn self_test<'a>(alloc: Global) -> Command<'a> {
+    Command::new(alloc, "self-test").about(
+        "Make a sample store and transfer it, and tell whether what comes of it is right",
+    )
+}
+
 /// The whole command.
 pub fn command<'a>(alloc: Global) -> Result<Command<'a>, AllocError> {
     Command::new(alloc, "pkcs12")
@@ -184,5 +192,6 @@ pub fn command<'a>(alloc: Global) -> Result<Command<'a>, AllocError> {
         .arg_required_else_help(true)
         .disable_help_subcommand(true)
         .subcommand(export(alloc)?)?
-        .subcommand(check(alloc)?)
+        .subcommand(check(alloc)?)?
+        .subcommand(self_test(alloc))
 }

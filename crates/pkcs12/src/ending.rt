@@ -25,6 +25,8 @@ pub enum Ending {
     PasswordUnusable,
     /// The output folder is there, and is not an empty folder.
     OutputExists,
+    /// The self-test did not give what it has to.
+    SelfTestFailed,
     /// The store is refused.
     Refused(TransferError),
 }
@@ -44,6 +46,7 @@ impl Ending {
             Ending::NewPasswordMissing => 9,
             Ending::PasswordUnusable => 22,
             Ending::OutputExists => 23,
+            Ending::SelfTestFailed => 24,
             Ending::Refused(refusal) => Status::from(refusal).code(),
         }
     }
@@ -60,6 +63,7 @@ impl fmt::Display for Ending {
             Ending::NewPasswordMissing => f.write_str("NewPasswordMissing"),
             Ending::PasswordUnusable => f.write_str("PasswordUnusable"),
             Ending::OutputExists => f.write_str("OutputExists"),
+            Ending::SelfTestFailed => f.write_str("SelfTestFailed"),
             Ending::Refused(refusal) => write!(f, "{refusal}"),
         }
     }

@@ -1,4 +1,4 @@
-//! The command for people: `pkcs12 export STORE --out DIR` and `pkcs12 check STORE`.
+//! The command for people: `pkcs12 export STORE --out DIR`, `pkcs12 check STORE` and `pkcs12 self-test`.
 #![tactic(auto)]
 
 mod advice;
@@ -15,6 +15,7 @@ mod password;
 mod refusal;
 mod request;
 mod run;
+mod self_test;
 mod summary;
 
 use run::Surroundings;

@@ -54,6 +54,7 @@ pub struct Export<'a> {
 pub enum Request<'a> {
     Check(Check<'a>),
     Export(Export<'a>),
+    SelfTest,
 }
 
 /// The number of rounds. `Usage` where the text is no number from 1 to 100,000,000.
@@ -191,6 +192,7 @@ pub fn request_of<'a>(alloc: Global, matches: &ArgMatches<'a>) -> Result<Request
     match matches.subcommand() {
         Some(("export", inner)) => Ok(Request::Export(export_asked(alloc, inner)?)),
         Some(("check", inner)) => Ok(Request::Check(check_asked(alloc, inner)?)),
-        _ => Err(Failure::new(Ending::Usage, "give export or check; see --help")),
+        Some(("self-test", _)) => Ok(Request::SelfTest),
+        _ => Err(Failure::new(Ending::Usage, "give export, check or self-test; see --help")),
     }
 }

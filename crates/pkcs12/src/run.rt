@@ -9,6 +9,7 @@ use crate::origin::{Origin, read_password};
 use crate::password::{Password, as_new_password};
 use crate::refusal::with_detail;
 use crate::request::{Check, Export, Request, request_of};
+use crate::self_test::self_test;
 use crate::summary::{Counts, summary};
 use clap::error::ErrorKind;
 use std::alloc::{AllocError, Global};
@@ -272,6 +273,20 @@ fn run_export<R: Runtime + AllocGlobal>(
     }
 }
 
+fn run_self_test<R: Runtime + AllocGlobal>(rt: &R) -> Result<(), Failure> {
+    let lines = self_test(rt.alloc())?;
+    match print!(rt; "{lines}") {
+        Ok(()) => Ok(()),
+        Err(error) => Err(Failure::io(
+            rt.alloc(),
+            Ending::WriteFault,
+            "the",
+            "standard output",
+            error,
+        )),
+    }
+}
+
 /// The failure of arguments that clap refuses; none where it shows help or the version, which is printed.
 fn shown<R: Runtime + AllocGlobal>(rt: &R, error: clap::Error) -> Result<(), Failure> {
     match error.kind() {
@@ -320,6 +335,7 @@ pub fn run<R: Runtime + AllocGlobal>(rt: &R, around: Surroundings) -> Result<(),
         Ok(matches) => match request_of(rt.alloc(), &matches)? {
             Request::Check(asked) => run_check(rt, around, &asked),
             Request::Export(asked) => run_export(rt, around, &asked),
+            Request::SelfTest => run_self_test(rt),
         },
         Err(error) => shown(rt, error),
     }
