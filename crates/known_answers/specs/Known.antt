@@ -1,5 +1,5 @@
 -- What each call answers, by the definitions of the crates; which lines are cases, and which cases hold.
-use Rattle.std.specs.Prelude.{◌≡◌, ℕ, ◌^◌, ◌-◌, List, [], length, get_or, codes, Ok}
+use Rattle.std.specs.Prelude.{◌≡◌, ℕ, ◌^◌, ◌-◌, List, [], ◌++◌, drop, length, get_or, codes, Ok}
 use Rattle.sha1.specs.Sha1.{sha1}
 use Rattle.sha2.specs.Sha256.{sha224, sha256}
 use Rattle.sha2.specs.Sha512.{sha384, sha512}
@@ -17,12 +17,17 @@ use Rattle.asn1_core.specs.Reading.{uint_of, whole}
 use Rattle.phc_core.specs.PasswordHash.{Phc, phc_text}
 use Rattle.phc_core.specs.declared.password_hash.PasswordHash.{PasswordHash}
 use Rattle.pbkdf2.specs.Hashes.{Agrees}
+use Rattle.p12.specs.Building.{IsStoreOf, Salts}
+use Rattle.p12.specs.Canonical.{store_canon}
 use Rattle.p12.specs.Derivation.{derive12}
+use Rattle.p12.specs.Password.{bmp_password}
+use Rattle.p12.specs.Pfx.{IsStore}
+use Rattle.p12.specs.declared.pfx.PFX.{PFX}
 use Rattle.pkcs5.specs.Scheme.{scheme_at, scheme_text}
 use Rattle.pkcs5.specs.SchemeOpening.{SchemeOpens}
 use Rattle.pkcs5.specs.declared.encryption_scheme.EncryptionScheme.{EncryptionScheme}
 use Rattle.known_answers.specs.declared.call.Call.{Call}
-use Rattle.known_answers.specs.declared.call.Call.TheVariants.{Aes128Encrypt, Aes128Decrypt, Aes192Encrypt, Aes192Decrypt, Aes256Encrypt, Aes256Decrypt, DesEncrypt, DesDecrypt, TdesEncrypt, TdesDecrypt, CbcAes128Decrypt, CbcAes192Decrypt, CbcAes256Decrypt, CbcDesDecrypt, CbcTdesDecrypt, GcmAes128Encrypt, GcmAes128Decrypt, GcmAes192Encrypt, GcmAes192Decrypt, GcmAes256Encrypt, GcmAes256Decrypt, HmacSha1, HmacSha224, HmacSha256, HmacSha384, HmacSha512, Pbkdf2Sha1, Pbkdf2Sha256, Pbkdf2Sha512, Scrypt, Pkcs12Key, PhcVerify, PhcString, Pkcs5Decrypt, Pkcs5Encrypt, Pkcs5Scheme, SpkiFingerprint, Identifier}
+use Rattle.known_answers.specs.declared.call.Call.TheVariants.{Aes128Encrypt, Aes128Decrypt, Aes192Encrypt, Aes192Decrypt, Aes256Encrypt, Aes256Decrypt, DesEncrypt, DesDecrypt, TdesEncrypt, TdesDecrypt, CbcAes128Decrypt, CbcAes192Decrypt, CbcAes256Decrypt, CbcDesDecrypt, CbcTdesDecrypt, GcmAes128Encrypt, GcmAes128Decrypt, GcmAes192Encrypt, GcmAes192Decrypt, GcmAes256Encrypt, GcmAes256Decrypt, HmacSha1, HmacSha224, HmacSha256, HmacSha384, HmacSha512, Pbkdf2Sha1, Pbkdf2Sha256, Pbkdf2Sha512, Scrypt, Pkcs12Key, Pkcs12Store, Pkcs12Written, PhcVerify, PhcString, Pkcs5Decrypt, Pkcs5Encrypt, Pkcs5Scheme, SpkiFingerprint, Identifier}
 
 -- the name of a call
 abbrev pub name_of : Call → List ℕ
@@ -57,6 +62,8 @@ name_of Pbkdf2Sha256 = codes "pbkdf2-sha256"
 name_of Pbkdf2Sha512 = codes "pbkdf2-sha512"
 name_of Scrypt = codes "scrypt"
 name_of Pkcs12Key = codes "pkcs12-key"
+name_of Pkcs12Store = codes "pkcs12-store"
+name_of Pkcs12Written = codes "pkcs12-written"
 name_of PhcVerify = codes "phc-verify"
 name_of Pkcs5Decrypt = codes "pkcs5-decrypt"
 name_of PhcString = codes "phc-string"
@@ -96,6 +103,20 @@ Costs words log_n r p = (uint_of 63 (word words 2) ≡ Ok log_n) × (uint_of (2 
 abbrev pub IsRewritten : List ℕ → List ℕ → Type 0
 IsRewritten t o = (hash : PasswordHash) × Phc t hash × (o ≡ phc_text hash)
 
+-- o is the text of a store that is made of a certificate, its key and further certificates, under a password and a name, and
+-- under the octets that are drawn for its salts
+pub record IsMade (certificate key password name drawn : List ℕ) (others : List (List ℕ)) (o : List ℕ) : Type 0 where
+  pub store : PFX
+  pub salts : Salts
+  pub rest : List ℕ
+  pub took : drawn ≡ (salts.key ++ (salts.certificates ++ salts.mac)) ++ rest
+  pub is : IsStoreOf (bmp_password password) (record { certificate = certificate; key = key; others = others; name = name }) store salts
+  pub text : o ≡ store_canon store
+
+-- o is the text of the store that the text t has
+abbrev pub IsWritten : List ℕ → List ℕ → Type 0
+IsWritten t o = (store : PFX) × IsStore t store × (o ≡ store_canon store)
+
 -- o is what the call answers at these words
 abbrev pub IsAnswer : Call → List (List ℕ) → List ℕ → Type 0
 IsAnswer Aes128Encrypt words o = o ≡ aes_128 (word words 0) (word words 1)
@@ -132,6 +153,8 @@ IsAnswer Scrypt words o = (log_n r p : ℕ) × Costs words log_n r p × (uint_of
 IsAnswer Pkcs12Key words o = (rounds id size : ℕ) × (uint_of (2 ^ 32 - 1) (word words 2) ≡ Ok rounds)
     × (uint_of 255 (word words 3) ≡ Ok id) × (uint_of 1024 (word words 4) ≡ Ok size)
     × (o ≡ derive12 sha1 20 (word words 0) (word words 1) rounds id size)
+IsAnswer Pkcs12Store words o = IsMade (word words 0) (word words 1) (word words 2) (word words 3) (word words 4) (drop 5 words) o
+IsAnswer Pkcs12Written words o = IsWritten (word words 0) o
 IsAnswer PhcVerify words o = (hash : PasswordHash) × Phc (word words 1) hash × Agrees (word words 0) hash
 IsAnswer Pkcs5Decrypt words o = (scheme : EncryptionScheme) × (whole scheme_at (word words 0) ≡ Ok scheme)
     × SchemeOpens scheme (word words 1) (word words 2) o

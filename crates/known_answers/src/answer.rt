@@ -4,8 +4,8 @@ ghost use Rattle.phc_core.specs.PasswordHash.{Phc};
 ghost use Rattle.phc_core.specs.declared.password_hash.PasswordHash.{PasswordHash};
 ghost use Rattle.pbkdf2.specs.Hashes.{Agrees};
 ghost use Rattle.mac_modes.specs.Hmac.{hmac};
-ghost use Rattle.known_answers.specs.Known.{word, Costs, IsAnswer, IsDerived, IsGcmOpened, IsGcmSealed, IsOpened, IsRewritten};
-ghost use Rattle.known_answers.specs.declared.call.Call.TheVariants.{Pkcs12Key, Scrypt, PhcVerify, PhcString, Pkcs5Decrypt, Pkcs5Encrypt, Pkcs5Scheme, SpkiFingerprint, Identifier};
+ghost use Rattle.known_answers.specs.Known.{word, Costs, IsAnswer, IsDerived, IsGcmOpened, IsGcmSealed, IsMade, IsOpened, IsRewritten};
+ghost use Rattle.known_answers.specs.declared.call.Call.TheVariants.{Pkcs12Key, Pkcs12Store, Pkcs12Written, Scrypt, PhcVerify, PhcString, Pkcs5Decrypt, Pkcs5Encrypt, Pkcs5Scheme, SpkiFingerprint, Identifier};
 
 use crate::call::Call;
 use crate::refused::Refused;
@@ -13,17 +13,20 @@ use asn1_core::{ObjectIdentifier, uint_value};
 use block_core::{Aes128, Aes192, Aes256, BlockCipher, Des, TdesEde3};
 use der_core::{Decode, Encode};
 use mac_modes::{
-    HashFn, Hmac, Prf, Sha1, Sha224, Sha256, Sha384, Sha512, answer_at, cbc_decrypt_padded,
-    gcm_decrypt, gcm_encrypt,
+    DrawnBytes, HashFn, Hmac, Prf, Sha1, Sha224, Sha256, Sha384, Sha512, answer_at,
+    cbc_decrypt_padded, gcm_decrypt, gcm_encrypt,
 };
 use octet_core::{Octets, Text};
-use p12::pbepkcs12sha1;
+use p12::{PFX, pbepkcs12sha1};
 use pbkdf2::{PasswordVerifier, Pbkdf2, pbkdf2_hmac};
 use phc_core::PasswordHash;
 use pkcs5::EncryptionScheme;
 use scrypt_core::{Params, scrypt};
 use spki::SubjectPublicKeyInfoRef;
 use std::alloc::Global;
+
+/// The longest password, in octets.
+const LONGEST_PASSWORD: usize = 1_024;
 
 /// The block that a cipher makes of a block: key, block.
 fn encrypted<C: BlockCipher + Drop>(alloc: Global, words: &[Octets]) -> Result<Octets, Refused>
@@ -244,6 +247,56 @@ fn verified(alloc: Global, words: &[Octets]) -> Result<Octets, Refused>
     }
 }
 
+/// The text of a store that is made of a certificate, its key and further certificates, under a password and a name, and
+/// under drawn octets.
+fn made(
+    alloc: Global,
+    certificate: &[u8],
+    key: &[u8],
+    others: &[Octets],
+    password: &str,
+    name: &str,
+    drawn: Octets,
+) -> Result<Octets, Refused>
+    requires { length password.now ≤ 1024 }
+    ensures { IfOk result
+        (IsMade certificate.now key.now password.now name.now drawn others.now) }
+{
+    let mut draw = DrawnBytes::new(drawn);
+    let store = PFX::new_with_cas(alloc, certificate, key, others, password, name, &mut draw)?;
+    Ok(store.to_der(alloc)?)
+}
+
+/// The text of a store that is made: certificate, key, password, name, the octets that are drawn for its salts, and further
+/// certificates.
+fn store_made(alloc: Global, words: &[Octets]) -> Result<Octets, Refused>
+    ensures { IfOk result (λ o. IsAnswer Pkcs12Store words.now o) }
+{
+    if words.len() < 5 || words[2].len() > LONGEST_PASSWORD {
+        return Err(Refused::Words);
+    }
+    let Ok(password) = str::from_utf8(words[2].as_slice()) else {
+        return Err(Refused::Utf8);
+    };
+    let Ok(name) = str::from_utf8(words[3].as_slice()) else {
+        return Err(Refused::Utf8);
+    };
+    let drawn = words[4].try_clone(alloc)?;
+    let certificate = words[0].as_slice();
+    let key = words[1].as_slice();
+    made(alloc, certificate, key, &words[5..], password, name, drawn)
+}
+
+/// The text that is written of a store: a text of it.
+fn store_written(alloc: Global, words: &[Octets]) -> Result<Octets, Refused>
+    ensures { IfOk result (λ o. IsAnswer Pkcs12Written words.now o) }
+{
+    if words.len() != 1 {
+        return Err(Refused::Words);
+    }
+    Ok(PFX::parse(alloc, words[0].as_slice())?.to_der(alloc)?)
+}
+
 /// The text of a ciphertext under a password: scheme, password, ciphertext.
 fn scheme_opened(alloc: Global, words: &[Octets]) -> Result<Octets, Refused>
     ensures { IfOk result (λ o. IsAnswer Pkcs5Decrypt words.now o) }
@@ -352,6 +405,8 @@ pub fn answer(alloc: Global, call: Call, words: &[Octets]) -> Result<Octets, Ref
         Call::Pbkdf2Sha512 => derived::<Sha512>(alloc, words),
         Call::Scrypt => scrypt_key(alloc, words),
         Call::Pkcs12Key => pkcs12_key(alloc, words),
+        Call::Pkcs12Store => store_made(alloc, words),
+        Call::Pkcs12Written => store_written(alloc, words),
         Call::PhcVerify => verified(alloc, words),
         Call::PhcString => string_written(alloc, words),
         Call::Pkcs5Decrypt => scheme_opened(alloc, words),

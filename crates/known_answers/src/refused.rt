@@ -19,6 +19,7 @@ pub enum Refused {
     Scrypt(ScryptError),
     Phc(phc_core::Error),
     Pkcs5(pkcs5::Error),
+    Pkcs12(p12::Error),
     Spki(spki::Error),
 }
 
@@ -64,6 +65,12 @@ impl From<pkcs5::Error> for Refused {
     }
 }
 
+impl From<p12::Error> for Refused {
+    fn from(e: p12::Error) -> Refused {
+        Refused::Pkcs12(e)
+    }
+}
+
 impl From<spki::Error> for Refused {
     fn from(e: spki::Error) -> Refused {
         Refused::Spki(e)
@@ -104,6 +111,7 @@ impl Refused {
             Refused::Scrypt(e) => format!(in alloc; "!{e:?}"),
             Refused::Phc(e) => format!(in alloc; "!{e:?}"),
             Refused::Pkcs5(e) => pkcs5_word(alloc, e),
+            Refused::Pkcs12(e) => format!(in alloc; "!{e:?}"),
             Refused::Spki(e) => format!(in alloc; "!{e:?}"),
         }
     }
