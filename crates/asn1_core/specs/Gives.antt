@@ -20,7 +20,7 @@ abbrev pub Gives : {X Y : Type 0} → (X → Y) → Result X Error → Result Y 
 Gives view (Ok x) read = read ≡ Ok (view x)
 Gives view (Err e) read = Fails ⊥ e read
 
--- the same of a call on a reader, which stands where it stood after a refusal
+-- the same of a call on a reader, which a refusal does not move
 abbrev pub ReadsAs : {X A : Type 0} → Front A → (X → A) → List ℕ → List ℕ → Result X Error → Type 0
 ReadsAs at view old new (Ok x) = at old ≡ Ok (view x, new)
 ReadsAs at view old new (Err e) = (new ≡ old) × Fails ⊥ e (at old)

@@ -14,8 +14,8 @@ use crate::tag::Tag;
 use octet_core::Text;
 use std::alloc::Global;
 
-/// The value of one element of this tag, as a reader of its own. `Malformed` exactly where no such element stands next; the
-/// reader then stands where it stood.
+/// The value of one element of this tag, as a reader of its own. `Malformed` exactly where no such element stands next; a refusal
+/// does not move the reader.
 pub fn read_inner<'a>(r: &mut SliceReader<'a>, tag: Tag) -> Result<SliceReader<'a>, Error>
     ensures stands { Reads (Inside tag.first)
         (λ x. x.rest.now) r.old.rest.now r.new.rest.now result }
@@ -27,8 +27,8 @@ pub fn read_inner<'a>(r: &mut SliceReader<'a>, tag: Tag) -> Result<SliceReader<'
     inner_in_front(r, tag)
 }
 
-/// An INTEGER that is not negative and at most `max`. `Malformed` exactly where none stands next; the reader then stands
-/// where it stood.
+/// An INTEGER that is not negative and at most `max`. `Malformed` exactly where none stands next; a refusal does not move
+/// the reader.
 pub fn read_uint(r: &mut SliceReader<'_>, max: u64) -> Result<u64, Error>
     ensures stands { Reads (Uint max) (λ n. n) r.old.rest.now r.new.rest.now result }
     ensures exact { ReadsAs (uint_at max) (λ n. n) r.old.rest.now r.new.rest.now result }
@@ -38,7 +38,7 @@ pub fn read_uint(r: &mut SliceReader<'_>, max: u64) -> Result<u64, Error>
     uint_in_front(r, max)
 }
 
-/// An OBJECT IDENTIFIER. `Malformed` exactly where none stands next; the reader then stands where it stood.
+/// An OBJECT IDENTIFIER. `Malformed` exactly where none stands next; a refusal does not move the reader.
 pub fn read_identifier(r: &mut SliceReader<'_>) -> Result<ObjectIdentifier, Error>
     ensures stands { Reads Oid (λ o. o) r.old.rest.now r.new.rest.now result }
     ensures exact { ReadsAs oid_at (λ o. o) r.old.rest.now r.new.rest.now result }
@@ -47,7 +47,7 @@ pub fn read_identifier(r: &mut SliceReader<'_>) -> Result<ObjectIdentifier, Erro
     identifier_in_front(r)
 }
 
-/// One whole element, uninterpreted. `Malformed` exactly where none stands next; the reader then stands where it stood.
+/// One whole element, uninterpreted. `Malformed` exactly where none stands next; a refusal does not move the reader.
 pub fn read_raw<'a>(r: &mut SliceReader<'a>) -> Result<&'a [u8], Error>
     ensures stands { Reads Raw (λ x. x.now) r.old.rest.now r.new.rest.now result }
     ensures exact { ReadsAs raw_at (λ x. x.now) r.old.rest.now r.new.rest.now result }
@@ -57,8 +57,8 @@ pub fn read_raw<'a>(r: &mut SliceReader<'a>) -> Result<&'a [u8], Error>
     raw_in_front(r)
 }
 
-/// An IA5String. `Malformed` exactly where none stands next, `Memory` for want of memory; the reader then stands where it
-/// stood.
+/// An IA5String. `Malformed` exactly where none stands next, `Memory` for want of memory; a refusal does not move the
+/// reader.
 pub fn read_ia5(alloc: Global, r: &mut SliceReader<'_>) -> Result<Text, Error>
     ensures stands { Reads Ia5 (λ t. t) r.old.rest.now r.new.rest.now result }
     ensures exact { ReadsIn ia5_at (λ t. t) r.old.rest.now r.new.rest.now result }
@@ -68,7 +68,7 @@ pub fn read_ia5(alloc: Global, r: &mut SliceReader<'_>) -> Result<Text, Error>
 }
 
 /// A BMPString, whose pairs of surrogates are characters. `Malformed` exactly where none stands next, `Memory` for want of
-/// memory; the reader then stands where it stood.
+/// memory; a refusal does not move the reader.
 pub fn read_bmp(alloc: Global, r: &mut SliceReader<'_>) -> Result<Text, Error>
     ensures stands { Reads Bmp (λ t. t) r.old.rest.now r.new.rest.now result }
     ensures exact { ReadsIn bmp_at (λ t. t) r.old.rest.now r.new.rest.now result }

@@ -9,7 +9,7 @@ use crate::tag::Tag;
 use std::convert::AsSlice;
 
 /// A reader of elements, by the octets that it has left and how many it has taken. `S` is the type of the octets that it
-/// lends. A call that refuses leaves it where it stood.
+/// lends. A refusal does not move it.
 pub trait Reader<S: AsSlice<u8>>: Copy {
     ghost left: { Self → List ℕ };
 
