@@ -1,6 +1,7 @@
 -- What the calls of a scheme answer: under PBES2 (RFC 8018 section 6.2) what those of its parameters do, and nothing is opened or
 -- sealed under PBES1.
 use Rattle.std.specs.Prelude.{◌≡◌, ℕ, List}
+use Rattle.pkcs5.specs.Kinds.{IsDes}
 use Rattle.pkcs5.specs.Opening.{FitsKey, IsBehind, Opens, ciphertext_size}
 use Rattle.pkcs5.specs.Refusals.{LeftUnopened, RefusesToEncryptIn, RefusesToOpen, RefusesToOpenIn, RefusesToOpenInPlace, RefusesToSeal}
 use Rattle.pkcs5.specs.declared.error.Error.{Error}
@@ -42,6 +43,11 @@ SchemeIsBehind (Pbes2 par) before now len = IsBehind par.encryption before now l
 abbrev pub SchemeSizes : EncryptionScheme → ℕ → ℕ → Type 0
 SchemeSizes (Pbes1 a) n len = ⊥
 SchemeSizes (Pbes2 par) n len = len ≡ ciphertext_size par.encryption n
+
+-- the scheme encrypts, which is PBES2 with another cipher than DES
+abbrev pub SchemeEncrypts : EncryptionScheme → Type 0
+SchemeEncrypts (Pbes1 a) = ⊥
+SchemeEncrypts (Pbes2 par) = ¬ IsDes par.encryption
 
 -- the ciphertext of n octets of text does not fit so much room, or the key or the cipher is refused
 abbrev pub SchemeRefusesToSeal : EncryptionScheme → ℕ → ℕ → Error → Type 0

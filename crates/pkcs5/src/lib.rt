@@ -9,8 +9,6 @@ pub mod opening_laws;
 pub mod pbes1;
 pub mod pbes2;
 mod scheme_encryption;
-#[cfg(test)]
-mod tests;
 
 pub use asn1_core::ObjectIdentifier;
 pub use encryption_scheme::EncryptionScheme;

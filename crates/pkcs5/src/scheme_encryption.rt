@@ -1,6 +1,6 @@
 //! Encryption and decryption by a scheme.
-ghost use Rattle.std.specs.Prelude.{◌≡◌, ◌≤◌, length, take, drop, IfOk, IfErr, OnErr};
-ghost use Rattle.pkcs5.specs.SchemeOpening.{SchemeIsBehind, SchemeLeftUnopened, SchemeOpens, SchemeRefusesToEncryptIn, SchemeRefusesToOpenIn, SchemeRefusesToOpenInPlace, SchemeRefusesToSeal, SchemeSizes};
+ghost use Rattle.std.specs.Prelude.{◌≡◌, ◌≤◌, length, take, drop, IfOk, IfErr, OnErr, OnOk};
+ghost use Rattle.pkcs5.specs.SchemeOpening.{SchemeEncrypts, SchemeIsBehind, SchemeLeftUnopened, SchemeOpens, SchemeRefusesToEncryptIn, SchemeRefusesToOpenIn, SchemeRefusesToOpenInPlace, SchemeRefusesToSeal, SchemeSizes};
 
 use crate::encryption_scheme::EncryptionScheme;
 use crate::error::{Error, Result};
@@ -82,6 +82,7 @@ impl EncryptionScheme {
     pub fn encrypt(&self, alloc: Global, password: &[u8], plaintext: &[u8]) -> Result<Octets>
         ensures ok { IfOk result (λ c. SchemeOpens self.now password.now c plaintext.now) }
         ensures length { IfOk result (λ c. SchemeSizes self.now (length plaintext.now) (length c)) }
+        ensures other_than_des { OnOk result (SchemeEncrypts self.now) }
         ensures err { IfErr result (λ e. SchemeRefusesToEncryptIn self.now e) }
     {
         match self {
@@ -102,6 +103,7 @@ impl EncryptionScheme {
             (λ c. SchemeOpens self.now password.now c.now (take pos buffer.old)) }
         ensures length { IfOk result (λ c. (length c.now ≤ length buffer.old)
             × SchemeSizes self.now pos (length c.now)) }
+        ensures other_than_des { OnOk result (SchemeEncrypts self.now) }
         ensures err { IfErr result (λ e. SchemeRefusesToSeal self.now pos (length buffer.old) e) }
     {
         let len = self.encrypt_in_place_len(alloc, password, buffer, pos)?;
@@ -129,6 +131,7 @@ impl EncryptionScheme {
         ensures length { IfOk result (λ len. (len ≤ length buffer.old)
             × SchemeSizes self.now pos len) }
         ensures behind { IfOk result (λ len. drop len buffer.new ≡ drop len buffer.old) }
+        ensures other_than_des { OnOk result (SchemeEncrypts self.now) }
         ensures err { IfErr result (λ e. SchemeRefusesToSeal self.now pos (length buffer.old) e) }
         ensures unchanged { OnErr result (buffer.new ≡ buffer.old) }
     {

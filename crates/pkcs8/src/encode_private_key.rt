@@ -45,6 +45,9 @@ pub trait EncodePrivateKey {
         ensures err { IfErr result (λ e. refuses self.now e ⊎ ((m : List ℕ) × text self.now m
             × RefusesToSealDrawn (Lacks (D.faults draw.old) (D.faults draw.new)
             (D.left draw.old) 32) password.now m e)) }
+        ensures undrawn { IfErr result (λ e. (draw.new ≡ draw.old) ⊎ ((m : List ℕ)
+            × text self.now m × RefusesToSealDrawn (Lacks (D.faults draw.old) (D.faults draw.new)
+            (D.left draw.old) 32) password.now m e)) }
     {
         match self.to_pkcs8_der(alloc) {
             Ok(document) => seal_drawn(alloc, draw, password, document.as_bytes()),
@@ -69,7 +72,8 @@ pub trait EncodePrivateKey {
 }
 
 impl<'a> EncodePrivateKey for PrivateKeyInfoRef<'a> {
-    ghost text = { λ k b. (b ≡ ⟦<PrivateKeyInfoRef<'a> as Encode>⟧.canon k) };
+    ghost text = { λ k b. ⟦<PrivateKeyInfoRef<'a> as Encode>⟧.writable k
+        × (b ≡ ⟦<PrivateKeyInfoRef<'a> as Encode>⟧.canon k) };
 
     ghost refuses = { λ k e. RefusesToWrite (⟦<PrivateKeyInfoRef<'a> as Encode>⟧.writable k)
         (⟦<PrivateKeyInfoRef<'a> as Encode>⟧.canon k) e };
@@ -85,7 +89,8 @@ impl<'a> EncodePrivateKey for PrivateKeyInfoRef<'a> {
 }
 
 impl EncodePrivateKey for PrivateKeyInfoOwned {
-    ghost text = { λ k b. (b ≡ ⟦<PrivateKeyInfoOwned as Encode>⟧.canon k) };
+    ghost text = { λ k b. ⟦<PrivateKeyInfoOwned as Encode>⟧.writable k
+        × (b ≡ ⟦<PrivateKeyInfoOwned as Encode>⟧.canon k) };
 
     ghost refuses = { λ k e. RefusesToWrite (⟦<PrivateKeyInfoOwned as Encode>⟧.writable k)
         (⟦<PrivateKeyInfoOwned as Encode>⟧.canon k) e };

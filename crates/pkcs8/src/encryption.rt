@@ -1,8 +1,9 @@
 //! Encrypting private keys.
-ghost use Rattle.std.specs.Prelude.{◌≡◌, length, None, IfOk, IfErr, OnOk};
+ghost use Rattle.std.specs.Prelude.{◌≡◌, ◌⊎◌, length, None, IfOk, IfErr, OnOk};
 ghost use Rattle.asn1_core.specs.Writing.{Cause, IsOverlong};
 ghost use Rattle.outside.specs.Draw.{DrawsIvAndSalt, Lacks};
 ghost use Rattle.pkcs5.specs.Generation.{recommended};
+ghost use Rattle.pkcs5.specs.Kinds.{IsDes};
 ghost use Rattle.pkcs5.specs.Opening.{FitsKey};
 ghost use Rattle.pkcs5.specs.declared.encryption_scheme.EncryptionScheme.TheVariants.{Pbes2};
 ghost use Rattle.pkcs8.specs.EncryptedPrivateKeyInfo.{encrypted_key_text};
@@ -54,6 +55,7 @@ pub(crate) fn seal(
 ) -> Result<SecretDocument>
     ensures ok { IfOk result (λ d. IsSealed parameters password.now text.now d.document.octets) }
     ensures fits { OnOk result (FitsKey parameters) }
+    ensures other_than_des { OnOk result (¬ IsDes parameters.encryption) }
     ensures err { IfErr result (λ e. RefusesToSeal parameters password.now text.now e) }
 {
     let ciphertext = match parameters.encrypt(alloc, password, text) {
@@ -108,6 +110,9 @@ impl<Params: Encode, Key: Encode, PubKey: BitStringLike> PrivateKeyInfo<Params, 
             (⟦<PrivateKeyInfo<Params, Key, PubKey> as Encode>⟧.writable self.now)
             (Lacks (D.faults draw.old) (D.faults draw.new) (D.left draw.old) 32) password.now
             (⟦<PrivateKeyInfo<Params, Key, PubKey> as Encode>⟧.canon self.now) e) }
+        ensures undrawn { IfErr result (λ e. (draw.new ≡ draw.old) ⊎ RefusesToSealDrawn
+            (Lacks (D.faults draw.old) (D.faults draw.new) (D.left draw.old) 32) password.now
+            (⟦<PrivateKeyInfo<Params, Key, PubKey> as Encode>⟧.canon self.now) e) }
     {
         self.encrypt_with_rng(alloc, draw, password)
     }
@@ -126,6 +131,9 @@ impl<Params: Encode, Key: Encode, PubKey: BitStringLike> PrivateKeyInfo<Params, 
             (⟦<PrivateKeyInfo<Params, Key, PubKey> as Encode>⟧.writable self.now) }
         ensures err { IfErr result (λ e. RefusesToEncryptDrawn
             (⟦<PrivateKeyInfo<Params, Key, PubKey> as Encode>⟧.writable self.now)
+            (Lacks (D.faults draw.old) (D.faults draw.new) (D.left draw.old) 32) password.now
+            (⟦<PrivateKeyInfo<Params, Key, PubKey> as Encode>⟧.canon self.now) e) }
+        ensures undrawn { IfErr result (λ e. (draw.new ≡ draw.old) ⊎ RefusesToSealDrawn
             (Lacks (D.faults draw.old) (D.faults draw.new) (D.left draw.old) 32) password.now
             (⟦<PrivateKeyInfo<Params, Key, PubKey> as Encode>⟧.canon self.now) e) }
     {
@@ -151,6 +159,7 @@ impl<Params: Encode, Key: Encode, PubKey: BitStringLike> PrivateKeyInfo<Params, 
         ensures ok { IfOk result (λ d. IsSealed params password.now
             (⟦<PrivateKeyInfo<Params, Key, PubKey> as Encode>⟧.canon self.now) d.document.octets) }
         ensures fits { OnOk result (FitsKey params) }
+        ensures other_than_des { OnOk result (¬ IsDes params.encryption) }
         ensures lawful { OnOk result
             (⟦<PrivateKeyInfo<Params, Key, PubKey> as Encode>⟧.writable self.now) }
         ensures err { IfErr result (λ e. RefusesToEncryptKey

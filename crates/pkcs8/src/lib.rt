@@ -35,6 +35,3 @@ pub use spki::{
     SubjectPublicKeyInfoRef,
 };
 pub use version::Version;
-
-#[cfg(test)]
-mod tests;

@@ -42,6 +42,3 @@ pub use read_algorithm::read_algorithm_as;
 pub use subject_public_key_info::{
     SubjectPublicKeyInfo, SubjectPublicKeyInfoOwned, SubjectPublicKeyInfoRef,
 };
-
-#[cfg(test)]
-mod tests;

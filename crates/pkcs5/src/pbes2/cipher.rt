@@ -1,7 +1,7 @@
 //! The ciphers of PBES2 under a key, in place.
-ghost use Rattle.std.specs.Prelude.{◌≡◌, ◌≤◌, ◌<◌, ◌+◌, ℕ, List, length, take, drop, IfOk, IfErr, OnErr};
+ghost use Rattle.std.specs.Prelude.{◌≡◌, ◌≤◌, ◌<◌, ◌+◌, ℕ, List, length, take, drop, IfOk, IfErr, OnErr, OnOk};
 ghost use Rattle.mac_modes.specs.Padding.{pad_count, padded};
-ghost use Rattle.pkcs5.specs.Kinds.{key_size};
+ghost use Rattle.pkcs5.specs.Kinds.{IsDes, key_size};
 ghost use Rattle.pkcs5.specs.Opening.{Decrypts, IsBehind, LeftBlocks, LeftBy, OpensBy, Unseals, ciphertext_size};
 ghost use Rattle.pkcs5.specs.Refusals.{RefusesUnder};
 
@@ -212,6 +212,7 @@ pub(crate) fn encrypt_under(
     ensures sealed { IfOk result (λ len. OpensBy scheme.now key.now (take len buffer.new)
         (take pos buffer.old)) }
     ensures behind { IfOk result (λ len. drop len buffer.new ≡ drop len buffer.old) }
+    ensures other_than_des { OnOk result (¬ IsDes scheme.now) }
     ensures refused { IfErr result (λ e. RefusesUnder scheme.now pos (length buffer.old) e) }
     ensures unchanged { OnErr result (buffer.new ≡ buffer.old) }
 {

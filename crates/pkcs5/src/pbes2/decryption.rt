@@ -1,5 +1,6 @@
 //! Decryption by PBES2 (RFC 8018 section 6.2.2).
 ghost use Rattle.std.specs.Prelude.{◌≡◌, ◌+◌, ◌≤◌, length, take, IfOk, IfErr, OnOk};
+ghost use Rattle.pkcs5.specs.Kinds.{IsScrypt};
 ghost use Rattle.pkcs5.specs.Opening.{FitsKey, IsBehind, Opens, opening_steps};
 ghost use Rattle.pkcs5.specs.Refusals.{LeftUnopened, RefusedAfter, RefusesToOpenByRounds, RefusesToOpenIn, RefusesToOpenInPlace};
 
@@ -90,6 +91,7 @@ impl Parameters {
             × Opens self.now password.now buffer.old (take len buffer.new)) }
         ensures behind { IfOk result (λ len. (len ≤ length buffer.old)
             × IsBehind self.now.encryption buffer.old buffer.new len) }
+        ensures by_rounds { OnOk result (¬ IsScrypt self.now.kdf) }
         ensures err { IfErr result (λ e. RefusesToOpenByRounds self.now password.now buffer.old e) }
         ensures left { IfErr result
             (λ e. LeftUnopened self.now password.now buffer.old buffer.new e) }

@@ -1,5 +1,6 @@
 //! Encryption by PBES2 (RFC 8018 section 6.2.1).
-ghost use Rattle.std.specs.Prelude.{◌≡◌, ◌≤◌, ◌+◌, length, take, drop, IfOk, IfErr, OnErr};
+ghost use Rattle.std.specs.Prelude.{◌≡◌, ◌≤◌, ◌+◌, length, take, drop, IfOk, IfErr, OnErr, OnOk};
+ghost use Rattle.pkcs5.specs.Kinds.{IsDes};
 ghost use Rattle.pkcs5.specs.Opening.{FitsKey, Opens, ciphertext_size};
 ghost use Rattle.pkcs5.specs.Refusals.{RefusesToEncryptIn, RefusesToSeal};
 
@@ -37,6 +38,7 @@ impl Parameters {
             × Opens self.now password.now c plaintext.now) }
         ensures length { IfOk result
             (λ c. length c ≡ ciphertext_size self.now.encryption (length plaintext.now)) }
+        ensures other_than_des { OnOk result (¬ IsDes self.now.encryption) }
         ensures err { IfErr result (λ e. RefusesToEncryptIn self.now e) }
     {
         let mut text = Vec::from_slice(alloc, plaintext)?;
@@ -57,6 +59,7 @@ impl Parameters {
             (take pos buffer.old)) }
         ensures length { IfOk result (λ c. (length c.now ≤ length buffer.old)
             × (length c.now ≡ ciphertext_size self.now.encryption pos)) }
+        ensures other_than_des { OnOk result (¬ IsDes self.now.encryption) }
         ensures err { IfErr result (λ e. RefusesToSeal self.now pos (length buffer.old) e) }
     {
         let len = self.encrypt_in_place_len(alloc, password, buffer, pos)?;
@@ -83,6 +86,7 @@ impl Parameters {
         ensures length { IfOk result (λ len. (len ≤ length buffer.old)
             × (len ≡ ciphertext_size self.now.encryption pos)) }
         ensures behind { IfOk result (λ len. drop len buffer.new ≡ drop len buffer.old) }
+        ensures other_than_des { OnOk result (¬ IsDes self.now.encryption) }
         ensures err { IfErr result (λ e. RefusesToSeal self.now pos (length buffer.old) e) }
         ensures unchanged { OnErr result (buffer.new ≡ buffer.old) }
     {

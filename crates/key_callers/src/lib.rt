@@ -1,0 +1,13 @@
+//! Callers of `spki`, `pkcs5` and `pkcs8`: tests of their public calls, and those that their pages CALLING show.
+//!
+//! They stand here and not in those crates since a test is proved with the whole crate that it stands in.
+#![tactic(auto)]
+
+#[cfg(test)]
+mod password_schemes;
+#[cfg(test)]
+mod private_keys;
+#[cfg(test)]
+mod public_keys;
+#[cfg(test)]
+mod values;
