@@ -23,6 +23,7 @@ pub mod SpelledStores
 mod HeldBags
 pub mod TextRefusals
 pub mod Again
+pub mod MadeTexts
 mod Made
 mod MadeSizes
 mod MadeRefusals

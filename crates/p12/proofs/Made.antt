@@ -1,73 +1,43 @@
 -- Stores that are made here open here.
 use Rattle.std.proofs.Common.{◌≡◌, ℕ, ◌-◌, ◌^◌, List, [], ◌∷◌, ◌++◌, map, length, Some, None, refl, sym, ap, subst, ◌∙◌, inl, inr, arith, append-nil, true}
 use Rattle.std.specs.Str.{IsUtf8}
-use Rattle.asn1_core.specs.Der.{IsShort, el, null, seq, set, oid, octets, uint, ctx, joined, shortest}
-use Rattle.asn1_core.specs.Oid.{oid_octets, oid_of}
-use Rattle.asn1_core.specs.Texts.{Many, Perhaps, Uint, Inside}
+use Rattle.asn1_core.specs.Der.{IsShort, el, seq, set, octets}
+use Rattle.asn1_core.specs.Oid.{oid_of}
+use Rattle.asn1_core.specs.Texts.{Many, Inside}
 use Rattle.asn1_core.specs.Sets.{Each, IsRead}
 use Rattle.asn1_core.specs.Unicode.{Bmp, text_units}
-use Rattle.asn1_core.specs.declared.identifier.ObjectIdentifier.{ObjectIdentifier}
 use Rattle.asn1_core.proofs.TextLaws.{bmp_written}
 use Rattle.sha1.specs.Sha1.{sha1}
-use Rattle.p12.specs.Identifiers.{triple_des_scheme_oid, sha1_oid, data_oid, encrypted_data_oid, friendly_name_oid, local_key_id_oid, x509_certificate_oid, shrouded_key_bag_oid, cert_bag_oid}
-use Rattle.p12.specs.AlgorithmIdentifier.{AlgorithmCase, AlgorithmText, unlock}
-use Rattle.p12.specs.Building.{Entry, Salts, GivesBack, IsCiphertext, IsOuterText, IsStoreOf, certificate_bag, certificate_bags, key_bag, own_attributes, sealed_content, store_over, triple_des, two_contents}
-use Rattle.p12.specs.Canonical.{WritableStore, algorithm_canon, attribute_canon, bags_canon, cert_bag_canon, content_canon, contents_canon, digest_canon, encrypted_data_canon, encrypted_key_canon, mac_canon, params_canon, store_canon}
-use Rattle.p12.specs.CertBag.{CertBagCase}
+use Rattle.p12.specs.Identifiers.{friendly_name_oid, local_key_id_oid, shrouded_key_bag_oid, cert_bag_oid}
+use Rattle.p12.specs.AlgorithmIdentifier.{unlock}
+use Rattle.p12.specs.Building.{Entry, Salts, GivesBack, IsCiphertext, IsOuterText, IsStoreOf, certificate_bag, certificate_bags, key_bag, own_attributes, store_over, triple_des, two_contents}
+use Rattle.p12.specs.Canonical.{WritableStore, attribute_canon, bags_canon, cert_bag_canon, contents_canon, encrypted_key_canon, store_canon}
 use Rattle.p12.specs.Collected.{ContentFault, FirstFault, HoldAll, HoldsBags, StoreFault, StoreHolds, certificates_among, keys_among, store_agrees}
-use Rattle.p12.specs.ContentInfo.{ContentCase, ContentFits, ContentText, IsContents}
+use Rattle.p12.specs.ContentInfo.{ContentFits, IsContents}
 use Rattle.p12.specs.Attribute.{AttributeCase, AttributeText, AttributesText}
-use Rattle.asn1_core.specs.Fields.{OrNothing}
-use Rattle.p12.specs.DigestInfo.{DigestText}
-use Rattle.p12.specs.MacData.{MacText, mac_of, mac_value}
+use Rattle.p12.specs.MacData.{mac_of, mac_value}
 use Rattle.p12.specs.Password.{bmp_password}
 use Rattle.p12.specs.Pfx.{IsStore, PfxText, StoreFits}
-use Rattle.p12.specs.SafeBag.{BagText, IsBags, KindCase}
+use Rattle.p12.specs.SafeBag.{BagText, IsBags}
 use Rattle.p12.specs.Same.{SameBag}
-use Rattle.p12.proofs.Again.{known, one_left, latest_again, bags_again, encrypted_content_of, encrypted_data_of, encrypted_key_of}
+use Rattle.p12.proofs.Again.{known, latest_again, bags_again}
 use Rattle.p12.proofs.DefinitionLaws.{bags_sole, contents_fit, contents_sole}
-use Rattle.p12.proofs.Macs.{made_mac, mac_of_agrees}
+use Rattle.p12.proofs.Macs.{mac_of_agrees}
+use Rattle.p12.proofs.MadeTexts.{bag_text, both_made, certificate_made, key_made, sealed_key, store_made}
 use Rattle.p12.specs.declared.algorithm_identifier.AlgorithmIdentifier.TheVariants.{Sha1}
 use Rattle.p12.specs.declared.attribute.PKCS12Attribute.{PKCS12Attribute}
 use Rattle.p12.specs.declared.attribute.PKCS12Attribute.TheVariants.{FriendlyName, LocalKeyId}
 use Rattle.p12.specs.declared.cert_bag.CertBag.TheVariants.{X509}
 use Rattle.p12.specs.declared.content_info.ContentInfo.{ContentInfo}
 use Rattle.p12.specs.declared.content_info.ContentInfo.TheVariants as content
-use Rattle.p12.specs.declared.algorithm_identifier.Pkcs12PbeParams.{Pkcs12PbeParams}
-use Rattle.p12.specs.declared.digest_info.DigestInfo.{DigestInfo}
-use Rattle.p12.specs.declared.encrypted_data.EncryptedContentInfo.{EncryptedContentInfo}
-use Rattle.p12.specs.declared.encrypted_data.EncryptedData.{EncryptedData}
-use Rattle.p12.specs.declared.encrypted_private_key_info.EncryptedPrivateKeyInfo.{EncryptedPrivateKeyInfo}
-use Rattle.p12.specs.declared.mac_data.MacData.{MacData}
 use Rattle.p12.specs.declared.error.Error.{Error}
 use Rattle.p12.specs.declared.pfx.PFX.{PFX}
 use Rattle.p12.specs.declared.safe_bag.SafeBag.{SafeBag}
-use Rattle.p12.specs.declared.safe_bag.SafeBagKind.TheVariants as kind
 
 -- ---- the parts have texts
 
-algorithm_made : (salt : List ℕ) → AlgorithmText (algorithm_canon (triple_des salt)) (triple_des salt)
-algorithm_made salt =
-    let p : Pkcs12PbeParams = record { salt = salt; iterations = 2048 } in
-    known AlgorithmCase (oid_of triple_des_scheme_oid refl) triple_des_scheme_oid (params_canon p) (triple_des salt) refl
-    (refl, (octets salt ++ uint 2048, (octets salt, uint 2048, (salt, refl, refl), one_left (Uint (2 ^ 64 - 1)) p (λ p. p.iterations) (uint 2048) (shortest 2048, (omega arith, refl), refl), refl), refl))
-
-sealed_made : (salt c : List ℕ) → ContentText (content_canon (sealed_content salt c)) (sealed_content salt c)
-sealed_made salt c =
-    let e : EncryptedContentInfo = record { content_encryption_algorithm = triple_des salt; encrypted_content = c } in
-    let d : EncryptedData = record { encrypted_content_info = e } in
-    known ContentCase (oid_of encrypted_data_oid refl) encrypted_data_oid (ctx 0 (encrypted_data_canon d)) (sealed_content salt c) refl
-    (refl, (encrypted_data_canon d, encrypted_data_of d (encrypted_content_of e (algorithm_made salt)), refl))
-
-data_made : (v : List ℕ) → ContentText (content_canon (content.Data v)) (content.Data v)
-data_made v = known ContentCase (oid_of data_oid refl) data_oid (ctx 0 (octets v)) (content.Data v) refl (refl, (octets v, (v, refl, refl), refl))
-
 two_made : (e : Entry) (s : Salts) (c v : List ℕ) → IsShort (contents_canon (two_contents e s c v)) → IsContents (contents_canon (two_contents e s c v)) (two_contents e s c v)
-unfolding IsContents
-two_made e s c v short =
-    let one = sealed_content s.certificates c in
-    let two = content.Data (bags_canon (key_bag e s.key v ∷ [])) in
-    ((joined (map content_canon (two_contents e s c v)), (content_canon one, content_canon two ++ [], sealed_made s.certificates c, (content_canon two, [], data_made (bags_canon (key_bag e s.key v ∷ [])), refl, refl), refl), refl), short)
+two_made e s c v short = both_made s.certificates 2048 c (bags_canon (key_bag e s.key v ∷ [])) (omega arith) short
 
 name_made : (t : List ℕ) → IsUtf8 t → AttributeText (attribute_canon (FriendlyName t)) (FriendlyName t)
 name_made t u =
@@ -86,20 +56,13 @@ own_made e u =
 none_made : IsRead AttributesText []
 none_made = ([], inl (refl, refl))
 
-bag_made : (k : ObjectIdentifier) (q : List ℕ) (g : SafeBag) → KindCase k q g.bag → IsRead AttributesText g.attributes → IsRead BagText g
-bag_made k q g r (a, s) =
-    let w = oid (oid_octets k) ++ (ctx 0 q ++ a) in
-    (seq w, (w, (oid (oid_octets k), ctx 0 q ++ a, k, (oid_octets k, refl, refl), (ctx 0 q, a, (q, r, refl), one_left AttributesText g (λ g. g.attributes) a s, refl), refl), refl))
+certificate_read : (vs : List PKCS12Attribute) (v : List ℕ) → IsRead AttributesText vs → IsRead BagText (certificate_bag vs v)
+certificate_read vs v (a, s) = (bag_text (oid_of cert_bag_oid refl) (cert_bag_canon (X509 v)) a, certificate_made v a vs s)
 
-certificate_made : (vs : List PKCS12Attribute) (v : List ℕ) → IsRead AttributesText vs → IsRead BagText (certificate_bag vs v)
-certificate_made vs v a =
-    bag_made (oid_of cert_bag_oid refl) (cert_bag_canon (X509 v)) (certificate_bag vs v)
-    (refl, known CertBagCase (oid_of x509_certificate_oid refl) x509_certificate_oid (ctx 0 (octets v)) (X509 v) refl (refl, (octets v, (v, refl, refl), refl))) a
-
-key_made : (e : Entry) (salt v : List ℕ) → IsUtf8 e.name → IsRead BagText (key_bag e salt v)
-key_made e salt v u =
-    let k : EncryptedPrivateKeyInfo = record { encryption_algorithm = triple_des salt; encrypted_data = v } in
-    bag_made (oid_of shrouded_key_bag_oid refl) (encrypted_key_canon k) (key_bag e salt v) (refl, encrypted_key_of k (algorithm_made salt)) (own_made e u)
+key_read : (e : Entry) (salt v : List ℕ) → IsUtf8 e.name → IsRead BagText (key_bag e salt v)
+key_read e salt v u =
+    let own = own_made e u in
+    (bag_text (oid_of shrouded_key_bag_oid refl) (encrypted_key_canon (sealed_key salt 2048 v)) own.0, key_made salt 2048 v own.0 (own_attributes e) (omega arith) own.1)
 
 -- ---- lists of bags
 
@@ -108,10 +71,10 @@ more_made g gs (t, r) (b, m) = (t ++ b, (t, b, r, m, refl))
 
 others_made : (vs : List (List ℕ)) → IsRead (Many BagText) (map (certificate_bag []) vs)
 others_made [] = ([], refl)
-others_made (v ∷ vs) = more_made (certificate_bag [] v) (map (certificate_bag []) vs) (certificate_made [] v none_made) (others_made vs)
+others_made (v ∷ vs) = more_made (certificate_bag [] v) (map (certificate_bag []) vs) (certificate_read [] v none_made) (others_made vs)
 
 certificates_made : (e : Entry) → IsUtf8 e.name → IsRead (Many BagText) (certificate_bags e)
-certificates_made e u = more_made (certificate_bag (own_attributes e) e.certificate) (map (certificate_bag []) e.others) (certificate_made (own_attributes e) e.certificate (own_made e u)) (others_made e.others)
+certificates_made e u = more_made (certificate_bag (own_attributes e) e.certificate) (map (certificate_bag []) e.others) (certificate_read (own_attributes e) e.certificate (own_made e u)) (others_made e.others)
 
 -- what a list of bags is read as, of which the canonical text was written
 bags_back : (gs hs : List SafeBag) → IsRead (Many BagText) hs → IsBags (bags_canon hs) gs → Each SameBag gs hs
@@ -174,7 +137,7 @@ contents_back : (p : List ℕ) (e : Entry) (s : Salts) (c v : List ℕ) (gs : Li
 contents_back p e s c v gs u o (first, more, (m, is, b), (second, last, (n, js, d), none, f), g) =
     let one = opens_back p m first (certificate_bags e) (some_is m (bags_canon (certificate_bags e)) (sym is ∙ opens_here p s.certificates (bags_canon (certificate_bags e)) c o)) (certificates_made e u) b in
     let k = key_bag e s.key v in
-    let two = opens_back p n second (k ∷ []) (sym (some_is (bags_canon (k ∷ [])) n js)) (more_made k [] (key_made e s.key v u) ([], refl)) d in
+    let two = opens_back p n second (k ∷ []) (sym (some_is (bags_canon (k ∷ [])) n js)) (more_made k [] (key_read e s.key v u) ([], refl)) d in
     let all = each_joined SameBag first second (certificate_bags e) (k ∷ []) one two in
     let rest : more ≡ second = f ∙ ap (λ (l : List SafeBag). second ++ l) none ∙ append-nil second in
     subst (λ (l : List SafeBag). Each SameBag l (certificate_bags e ++ k ∷ [])) (sym (g ∙ ap (λ (l : List SafeBag). first ++ l) rest)) all
@@ -216,7 +179,7 @@ pub made_holds : (p : List ℕ) (e : Entry) (s : Salts) (store : PFX) → IsUtf8
 made_holds p e s store u (t, o, is) =
     let k = key_bag e s.key o.key in
     let first = some_bags (certificate_bags e) (certificates_made e u) o.certificates_short in
-    let second = some_bags (k ∷ []) (more_made k [] (key_made e s.key o.key u) ([], refl)) (key_short (bmp_password p) e s t o) in
+    let second = some_bags (k ∷ []) (more_made k [] (key_read e s.key o.key u) ([], refl)) (key_short (bmp_password p) e s t o) in
     let gs = first.0 ++ (second.0 ++ []) in
     let holds : StoreHolds p (store_over (bmp_password p) s.mac t) gs = (
       t,
@@ -262,37 +225,9 @@ made_fits q salt t short long = ((omega (arith, short), omega arith), omega (ari
 
 -- ---- the whole store has its text
 
-sha1_made : AlgorithmText (algorithm_canon Sha1) Sha1
-sha1_made = known AlgorithmCase (oid_of sha1_oid refl) sha1_oid null Sha1 refl (refl, inr refl)
-
-abbrev under_sha1 : List ℕ → DigestInfo
-under_sha1 d = record { digest_algorithm = Sha1; digest = d }
-
-digest_made : (d : List ℕ) → DigestText (digest_canon (under_sha1 d)) (under_sha1 d)
-digest_made d =
-    let a = algorithm_canon Sha1 in
-    (a ++ octets d, (a, octets d, sha1_made, one_left (Inside 0x04) (under_sha1 d) (λ i. i.digest) (octets d) (d, refl, refl), refl), refl)
-
-mac_text : (d salt : List ℕ) → MacText (mac_canon (made_mac Sha1 d salt 2048)) (made_mac Sha1 d salt 2048)
-mac_text d salt =
-    let m = made_mac Sha1 d salt 2048 in
-    let a = digest_canon m.mac in
-    let rest = octets salt ++ uint 2048 in
-    (a ++ rest, (a, rest, digest_made d, (octets salt, uint 2048, (salt, refl, refl), one_left (OrNothing 1 (Uint (2 ^ 32 - 1))) m (λ m. m.iterations) (uint 2048) (inr (shortest 2048, (omega arith, refl), refl)), refl), refl), refl)
-
-abbrev made_store : List ℕ → MacData → PFX
-made_store outer m = record { version = 3; auth_safe = content.Data outer; mac_data = Some m }
-
-made_text : (outer d salt : List ℕ) → PfxText (store_canon (made_store outer (made_mac Sha1 d salt 2048))) (made_store outer (made_mac Sha1 d salt 2048))
-made_text outer d salt =
-    let m = made_mac Sha1 d salt 2048 in
-    let s = made_store outer m in
-    let a = content_canon (content.Data outer) in
-    (uint 3 ++ (a ++ mac_canon m), (uint 3, a ++ mac_canon m, (shortest 3, (omega arith, refl), refl), (a, mac_canon m, data_made outer, one_left (Perhaps MacText) s (λ s. s.mac_data) (mac_canon m) (mac_text d salt), refl), refl), refl)
-
 pub made_is_read : (q : List ℕ) (e : Entry) (s : Salts) (store : PFX) → IsStoreOf q e store s → IsShort (store_canon store) → IsStore (store_canon store) store
 unfolding IsStore mac_of
-made_is_read q e s store (t, o, is) short = (subst (λ (x : PFX). PfxText (store_canon x) x) (sym is) (made_text t (mac_value Sha1 q s.mac 2048 t) s.mac), short)
+made_is_read q e s store (t, o, is) short = (subst (λ (x : PFX). PfxText (store_canon x) x) (sym is) (store_made t (mac_value Sha1 q s.mac 2048 t) s.mac 2048 (omega arith)), short)
 
 pub made_is_written : (q : List ℕ) (e : Entry) (s : Salts) (store : PFX) → IsStoreOf q e store s → WritableStore store
 unfolding mac_of

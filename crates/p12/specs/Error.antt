@@ -24,7 +24,7 @@ MalformedOnly Rng P = ⊥
 MalformedOnly TooLong P = ⊥
 MalformedOnly Memory P = ⊤
 
--- The value of the text in front, or Malformed exactly where none stands there; the reader then stands where it stood.
+-- The value of the text in front, or Malformed exactly where none stands there; a refusal does not move the reader.
 abbrev pub Reads : {A : Type 0} → (List ℕ → A → Type 0) → List ℕ → List ℕ → Result A Error → Type 0
 Reads R old new (Ok x) = Taken R old x new
 Reads R old new (Err e) = (new ≡ old) × MalformedOnly e (NoneStands R old)

@@ -247,7 +247,7 @@ impl<'a> ParamsView<'a> {
 
 impl<'a> AlgorithmView<'a> {
     /// The same in memory of its own. The only refusal is `Memory`.
-    pub(crate) fn owned(&self, alloc: Global) -> Result<AlgorithmIdentifier, asn1_core::Error>
+    pub fn owned(&self, alloc: Global) -> Result<AlgorithmIdentifier, asn1_core::Error>
         ensures ok { IfOk result (λ a. a ≡ seen_algorithm self.now) }
         ensures err { IfErr result (λ e. e ≡ asn1.Memory) }
     {
@@ -316,7 +316,7 @@ fn algorithm_in_front(
 }
 
 impl Pkcs12PbeParams {
-    /// The parameters that stand next. `Malformed` exactly where none do; the reader then stands where it stood.
+    /// The parameters that stand next. `Malformed` exactly where none do; a refusal does not move the reader.
     pub fn parse(alloc: Global, r: &mut SliceReader<'_>) -> Result<Pkcs12PbeParams, Error>
         ensures stands { Reads ParamsText r.old.rest.now r.new.rest.now result }
         ensures place { r.new.read + length r.new.rest.now ≡ r.old.read + length r.old.rest.now }
@@ -326,7 +326,7 @@ impl Pkcs12PbeParams {
 }
 
 impl AlgorithmIdentifier {
-    /// The algorithm that stands next. `Malformed` exactly where none does; the reader then stands where it stood.
+    /// The algorithm that stands next. `Malformed` exactly where none does; a refusal does not move the reader.
     pub fn parse(alloc: Global, r: &mut SliceReader<'_>) -> Result<AlgorithmIdentifier, Error>
         ensures stands { Reads AlgorithmText r.old.rest.now r.new.rest.now result }
         ensures place { r.new.read + length r.new.rest.now ≡ r.old.read + length r.old.rest.now }

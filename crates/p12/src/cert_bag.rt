@@ -149,7 +149,7 @@ fn certificate_in_front(alloc: Global, r: &mut SliceReader<'_>) -> Result<CertBa
 }
 
 impl CertBag {
-    /// The certificate that stands next. `Malformed` exactly where none does; the reader then stands where it stood.
+    /// The certificate that stands next. `Malformed` exactly where none does; a refusal does not move the reader.
     pub fn parse(alloc: Global, r: &mut SliceReader<'_>) -> Result<CertBag, Error>
         ensures stands { Reads CertBagText r.old.rest.now r.new.rest.now result }
         ensures place { r.new.read + length r.new.rest.now ≡ r.old.read + length r.old.rest.now }

@@ -232,7 +232,7 @@ fn all_contents(alloc: Global, bytes: &[u8]) -> Result<Items<ContentInfo>, asn1_
 }
 
 impl ContentInfo {
-    /// The content that stands next. `Malformed` exactly where none does; the reader then stands where it stood.
+    /// The content that stands next. `Malformed` exactly where none does; a refusal does not move the reader.
     pub fn parse(alloc: Global, r: &mut SliceReader<'_>) -> Result<ContentInfo, Error>
         ensures stands { Reads ContentText r.old.rest.now r.new.rest.now result }
         ensures place { r.new.read + length r.new.rest.now ≡ r.old.read + length r.old.rest.now }

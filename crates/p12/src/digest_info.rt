@@ -75,7 +75,7 @@ fn digest_in_front(alloc: Global, r: &mut SliceReader<'_>) -> Result<DigestInfo,
 }
 
 impl DigestInfo {
-    /// The digest that stands next. `Malformed` exactly where none does; the reader then stands where it stood.
+    /// The digest that stands next. `Malformed` exactly where none does; a refusal does not move the reader.
     pub fn parse(alloc: Global, r: &mut SliceReader<'_>) -> Result<DigestInfo, Error>
         ensures stands { Reads DigestText r.old.rest.now r.new.rest.now result }
         ensures place { r.new.read + length r.new.rest.now ≡ r.old.read + length r.old.rest.now }

@@ -138,7 +138,7 @@ fn encrypted_data_in_front(
 }
 
 impl EncryptedContentInfo {
-    /// The encrypted octets that stand next. `Malformed` exactly where none do; the reader then stands where it stood.
+    /// The encrypted octets that stand next. `Malformed` exactly where none do; a refusal does not move the reader.
     pub fn parse(alloc: Global, r: &mut SliceReader<'_>) -> Result<EncryptedContentInfo, Error>
         ensures stands { Reads EncryptedContentText r.old.rest.now r.new.rest.now result }
         ensures place { r.new.read + length r.new.rest.now ≡ r.old.read + length r.old.rest.now }
@@ -148,7 +148,7 @@ impl EncryptedContentInfo {
 }
 
 impl EncryptedData {
-    /// The encrypted content that stands next. `Malformed` exactly where none does; the reader then stands where it stood.
+    /// The encrypted content that stands next. `Malformed` exactly where none does; a refusal does not move the reader.
     pub fn parse(alloc: Global, r: &mut SliceReader<'_>) -> Result<EncryptedData, Error>
         ensures stands { Reads EncryptedDataText r.old.rest.now r.new.rest.now result }
         ensures place { r.new.read + length r.new.rest.now ≡ r.old.read + length r.old.rest.now }

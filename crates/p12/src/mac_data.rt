@@ -108,7 +108,7 @@ fn mac_in_front(alloc: Global, r: &mut SliceReader<'_>) -> Result<MacData, asn1_
 }
 
 impl MacData {
-    /// The MAC that stands next. `Malformed` exactly where none does; the reader then stands where it stood.
+    /// The MAC that stands next. `Malformed` exactly where none does; a refusal does not move the reader.
     pub fn parse(alloc: Global, r: &mut SliceReader<'_>) -> Result<MacData, Error>
         ensures stands { Reads MacText r.old.rest.now r.new.rest.now result }
         ensures place { r.new.read + length r.new.rest.now ≡ r.old.read + length r.old.rest.now }

@@ -251,7 +251,7 @@ fn all_bags(alloc: Global, bytes: &[u8]) -> Result<Items<SafeBag>, asn1_core::Er
 }
 
 impl SafeBag {
-    /// The bag that stands next. `Malformed` exactly where none does; the reader then stands where it stood.
+    /// The bag that stands next. `Malformed` exactly where none does; a refusal does not move the reader.
     pub fn parse(alloc: Global, r: &mut SliceReader<'_>) -> Result<SafeBag, Error>
         ensures stands { Reads BagText r.old.rest.now r.new.rest.now result }
         ensures place { r.new.read + length r.new.rest.now ≡ r.old.read + length r.old.rest.now }
@@ -326,8 +326,8 @@ impl SafeBag {
 }
 
 impl SafeBagKind {
-    /// The value of a bag with this identifier, as it stands inside the bag's `[0]`. `Malformed` exactly where none does; the
-    /// reader then stands where it stood.
+    /// The value of a bag with this identifier, as it stands inside the bag's `[0]`. `Malformed` exactly where none does; a refusal
+    /// does not move the reader.
     pub fn parse(
         alloc: Global,
         r: &mut SliceReader<'_>,
