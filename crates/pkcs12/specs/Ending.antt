@@ -2,7 +2,8 @@
 use Rattle.std.specs.Prelude.{ℕ}
 use Rattle.pkcs12.specs.declared.ending.Ending.{Ending}
 use Rattle.pkcs12.specs.declared.ending.Ending.TheVariants.{Usage, ReadFault, WriteFault, Memory, PasswordMissing, NewPasswordMissing, PasswordUnusable, OutputExists, SelfTestFailed, Refused}
-use Rattle.transfer.specs.Status.{status_code, status_of}
+use Rattle.frame.specs.Status.{status_code}
+use Rattle.transfer.specs.Status.{status_of}
 
 -- the number that the program ends with: for a store that is refused it is that of the refusal's status
 unfoldable pub code_of : Ending → ℕ

@@ -162,16 +162,9 @@ fn checked<R: Runtime + AllocGlobal>(rt: &R, given: &Given, limit: u64) -> Resul
     }
 }
 
-fn run_check<R: Runtime + AllocGlobal>(
-    rt: &R,
-    around: Surroundings,
-    asked: &Check<'_>,
-) -> Result<(), Failure> {
-    let given = read_given(rt, asked.store, asked.password, asked.limit)?;
-    tell_long_work(rt, around, given.store.as_slice(), 1);
-    let counts = checked(rt, &given, asked.limit)?;
-    let text = summary_of(rt.alloc(), &given, counts)?;
-    match rt.print(text.as_str()) {
+/// The failure of a write to the standard output, where it failed.
+fn printed<R: AllocGlobal>(rt: &R, outcome: io::Result<()>) -> Result<(), Failure> {
+    match outcome {
         Ok(()) => Ok(()),
         Err(error) => Err(Failure::io(
             rt.alloc(),
@@ -181,6 +174,18 @@ fn run_check<R: Runtime + AllocGlobal>(
             error,
         )),
     }
+}
+
+fn run_check<R: Runtime + AllocGlobal>(
+    rt: &R,
+    around: Surroundings,
+    asked: &Check<'_>,
+) -> Result<(), Failure> {
+    let given = read_given(rt, asked.store, asked.password, asked.limit)?;
+    tell_long_work(rt, around, given.store.as_slice(), 1);
+    let counts = checked(rt, &given, asked.limit)?;
+    let text = summary_of(rt.alloc(), &given, counts)?;
+    printed(rt, rt.print(text.as_str()))
 }
 
 /// The new password, where one is given.
@@ -275,32 +280,14 @@ fn run_export<R: Runtime + AllocGlobal>(
 
 fn run_self_test<R: Runtime + AllocGlobal>(rt: &R) -> Result<(), Failure> {
     let lines = self_test(rt.alloc())?;
-    match print!(rt; "{lines}") {
-        Ok(()) => Ok(()),
-        Err(error) => Err(Failure::io(
-            rt.alloc(),
-            Ending::WriteFault,
-            "the",
-            "standard output",
-            error,
-        )),
-    }
+    printed(rt, print!(rt; "{lines}"))
 }
 
 /// The failure of arguments that clap refuses; none where it shows help or the version, which is printed.
 fn shown<R: Runtime + AllocGlobal>(rt: &R, error: clap::Error) -> Result<(), Failure> {
     match error.kind() {
         ErrorKind::OutOfMemory => Err(Failure::from(AllocError)),
-        ErrorKind::DisplayHelp | ErrorKind::DisplayVersion => match error.print(rt) {
-            Ok(()) => Ok(()),
-            Err(error) => Err(Failure::io(
-                rt.alloc(),
-                Ending::WriteFault,
-                "the",
-                "standard output",
-                error,
-            )),
-        },
+        ErrorKind::DisplayHelp | ErrorKind::DisplayVersion => printed(rt, error.print(rt)),
         _ => {
             let text = format!(in rt.alloc(); "{error}")?;
             let text = text.as_str().trim_end();

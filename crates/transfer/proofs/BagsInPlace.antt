@@ -1,17 +1,15 @@
 -- What is taken out of bags that stand in a text.
 use Rattle.std.proofs.Common.{ℕ, zero, suc, ◌≡◌, ◌+◌, ◌≤◌, ◌<◌, ◌^◌, List, [], ◌∷◌, ◌++◌, length, take, drop, get_or, refl, sym, ap, ◌∙◌, arith, subst, append_assoc, append-nil, Bor}
-use Rattle.std.specs.Prelude.{All, map}
-use Rattle.std.specs.List.{flat_map}
-use Rattle.std.proofs.lemmas.List.{length-take, length-take-le, length-drop, map-append}
+use Rattle.std.specs.Prelude.{All}
+use Rattle.std.proofs.lemmas.List.{length-take, map-append}
 use Rattle.std.proofs.lemmas.Grind.{flat_map-append}
 use Rattle.std.proofs.lemmas.List.Elements.{All-append, All-head, All-nil, All-push, All-tail}
 use Rattle.p12.specs.AlgorithmIdentifier.{salt_of}
 use Rattle.p12.specs.AlgorithmView.{seen_algorithm}
 use Rattle.p12.specs.BagView.{BagBetween, BagStands, NextBag, seen_bag}
 use Rattle.p12.specs.Place.{at_place}
-use Rattle.p12.specs.SafeBag.{BagFits, IsBags, KindFits}
+use Rattle.p12.specs.SafeBag.{BagFits, KindFits}
 use Rattle.p12.specs.Walk.{Walk}
-use Rattle.p12.specs.declared.algorithm_identifier.AlgorithmIdentifier.{AlgorithmIdentifier}
 use Rattle.p12.specs.declared.algorithm_identifier.AlgorithmView.{AlgorithmView}
 use Rattle.p12.specs.declared.place.Place.{Place}
 use Rattle.p12.specs.declared.encrypted_private_key_info.EncryptedPrivateKeyInfo.{EncryptedPrivateKeyInfo}
@@ -21,7 +19,7 @@ use Rattle.p12.specs.declared.safe_bag.SafeBag.{SafeBag}
 use Rattle.p12.proofs.DefinitionLaws.{bags_fit, bags_sole}
 use Rattle.asn1_core.specs.Sets.{Each}
 use Rattle.transfer.specs.declared.store.key_locks.KeyLock.{KeyLock}
-use Rattle.transfer.specs.InPlace.{AddsLocks, BagsAt, InOrder, LockFits, StandAt, locked_key, locked_keys, places_of}
+use Rattle.transfer.specs.InPlace.{AddsLocks, BagsAt, InOrder, LockFits, key_with, locked_key, locked_keys, places_of}
 use Rattle.transfer.specs.Opening.{all_shrouded, certificate_in, certificates_in, shrouded_among, shrouded_in}
 use Rattle.transfer.proofs.Overwriting.{map_more, order_append, order_more, order_wider, place_in_place}
 
@@ -76,9 +74,6 @@ certificates_on now next v n c d whole i e =
     ∙ ap (λ t. c ++ t) (sym (ap certificates_in n.is ∙ ap (λ b. certificate_in b ++ certificates_in next.left) n.seen)) ∙ i
 
 -- ---- Locks
-
-abbrev pub key_with : AlgorithmIdentifier → List ℕ → EncryptedPrivateKeyInfo
-key_with a d = record { encryption_algorithm = a; encrypted_data = d }
 
 shrouded_append : (gs hs : List SafeBag) → shrouded_among (gs ++ hs) ≡ shrouded_among gs ++ shrouded_among hs
 shrouded_append gs hs = flat_map-append (λ (g : SafeBag). shrouded_in g.bag) gs hs

@@ -3,14 +3,13 @@ use Rattle.std.proofs.Common.{ℕ, ◌≡◌, ◌+◌, ◌≤◌, ◌<◌, List,
 use Rattle.std.specs.Prelude.{Option, Some, None, IfSome, Result, Ok, Err, IfOk}
 use Rattle.std.specs.Io.KnownBytes.{Consumes}
 use Rattle.std.proofs.lemmas.List.{append_assoc, append-nil, length-append}
-use Rattle.p12.specs.Place.{at_place}
-use Rattle.p12.specs.declared.place.Place.{Place}
 use Rattle.pkcs5.specs.declared.pbes2.parameters.Parameters.{Parameters}
 use Rattle.pkcs8.specs.Sealing.{IsSealed}
 use Rattle.transfer.specs.declared.store.error.TransferError.{TransferError}
+use Rattle.transfer.specs.declared.store.key_text.OpenedKey.{OpenedKey}
 use Rattle.transfer.specs.Document.{IsDocument}
 use Rattle.transfer.specs.Sealing.{AreDrawn, IsDrawn, Seals, SealsAll}
-use Rattle.transfer.specs.InPlace.{texts_at}
+use Rattle.transfer.specs.InPlace.{texts_of}
 use Rattle.transfer.proofs.Faults.{take_one}
 use Rattle.transfer.proofs.Overwriting.{map_more}
 
@@ -47,20 +46,19 @@ sealed_append rounds q (j ∷ ks) [] k b d drawn a s = absurd a
 sealed_append rounds q (j ∷ ks) (c ∷ bs) k b d drawn a s =
     (a.0, a.1 ++ drawn, ap (λ t. t ++ drawn) a.2 ∙ append_assoc a.0 a.1 drawn, a.3, sealed_append rounds q ks bs k b a.1 drawn a.4 s)
 
-pub sealed_more : (rounds : ℕ) (q : List ℕ) (first old new : Option (List ℕ)) (octets : List ℕ) (keys : List Place) (i : ℕ) (key : Place) (text : List ℕ) (bs : List (List ℕ)) (b : List ℕ)
-    → i < length keys → key ≡ get_or keys i key → text ≡ at_place key octets → SealsAll rounds q first old (texts_at octets (take i keys)) bs → Seals rounds q old new text b
-    → SealsAll rounds q first new (texts_at octets (take (i + 1) keys)) (bs ++ b ∷ [])
-sealed_more rounds q first old new octets keys i key text bs b lt at same a t =
-    let front = texts_at octets (take i keys) in
-    let s : Seals rounds q old new (at_place key octets) b = subst (λ x. Seals rounds q old new x b) same t in
-    let more : texts_at octets (take (i + 1) keys) ≡ front ++ at_place key octets ∷ [] = ap (texts_at octets) (take_one keys i key lt at) ∙ map_more (λ (p : Place). at_place p octets) (take i keys) key in
-    let longer : length (texts_at octets (take (i + 1) keys)) ≡ length front + 1 = ap length more ∙ length-append front (at_place key octets ∷ []) in
+pub sealed_more : (rounds : ℕ) (q : List ℕ) (first old new : Option (List ℕ)) (keys : List OpenedKey) (i : ℕ) (key : OpenedKey) (bs : List (List ℕ)) (b : List ℕ)
+    → i < length keys → key ≡ get_or keys i key → SealsAll rounds q first old (texts_of (take i keys)) bs → Seals rounds q old new key.text.now b
+    → SealsAll rounds q first new (texts_of (take (i + 1) keys)) (bs ++ b ∷ [])
+sealed_more rounds q first old new keys i key bs b lt at a s =
+    let front = texts_of (take i keys) in
+    let more : texts_of (take (i + 1) keys) ≡ front ++ key.text.now ∷ [] = ap texts_of (take_one keys i key lt at) ∙ map_more (λ (k : OpenedKey). k.text.now) (take i keys) key in
+    let longer : length (texts_of (take (i + 1) keys)) ≡ length front + 1 = ap length more ∙ length-append front (key.text.now ∷ []) in
     record {
       drawn = a.drawn ++ s.drawn;
-      by = subst (λ t. AreDrawn rounds q t (bs ++ b ∷ []) (a.drawn ++ s.drawn)) (sym more) (sealed_append rounds q front bs (at_place key octets) b a.drawn s.drawn a.by s.by);
+      by = subst (λ t. AreDrawn rounds q t (bs ++ b ∷ []) (a.drawn ++ s.drawn)) (sym more) (sealed_append rounds q front bs key.text.now b a.drawn s.drawn a.by s.by);
       took = consumes_more first old new a.drawn s.drawn a.took s.took;
       each_one = omega (arith, a.each_one, longer, length-append bs (b ∷ []));
-      each_32 = omega (arith, a.each_32, longer, length-append a.drawn s.drawn, sealed_length rounds q s.drawn (at_place key octets) b s.by);
+      each_32 = omega (arith, a.each_32, longer, length-append a.drawn s.drawn, sealed_length rounds q s.drawn key.text.now b s.by);
     }
 
 -- What was drawn is no more than was left.

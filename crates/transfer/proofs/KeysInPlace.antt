@@ -1,118 +1,119 @@
--- Encrypted keys that are opened in place.
-use Rattle.std.proofs.Common.{ℕ, ◌≡◌, ◌+◌, ◌≤◌, List, [], ◌∷◌, ◌++◌, length, take, drop, refl, sym, ap, ◌∙◌, arith, subst, append_assoc, append-nil}
-use Rattle.std.specs.Prelude.{All, Some, map, Result, Ok, Err, IfErr}
+-- Encrypted keys that are opened where they lie.
+use Rattle.std.proofs.Common.{ℕ, ◌≡◌, ◌+◌, ◌-◌, ◌≤◌, List, [], ◌∷◌, ◌++◌, length, take, drop, refl, sym, ap, ◌∙◌, arith, subst, append_assoc, append-nil}
+use Rattle.std.specs.Prelude.{All, Some, Result, Ok, Err, IfErr}
 use Rattle.std.specs.List.{sum_by}
-use Rattle.std.proofs.lemmas.List.{length-take-le, length-drop, map-append}
+use Rattle.std.proofs.lemmas.List.{drop-drop, map-append}
 use Rattle.std.proofs.lemmas.List.Sums.{sum_by-append}
-use Rattle.std.proofs.lemmas.List.Elements.{All-cons, All-head, All-nil, All-tail}
-use Rattle.p12.specs.AlgorithmIdentifier.{cost, unlock}
+use Rattle.std.proofs.lemmas.List.Elements.{All-nil, All-push, All-tail}
+use Rattle.der_core.specs.BitString.{seen_bits}
+use Rattle.p12.specs.AlgorithmIdentifier.{unlock}
 use Rattle.p12.specs.Place.{at_place}
 use Rattle.p12.specs.declared.algorithm_identifier.AlgorithmIdentifier.{AlgorithmIdentifier}
-use Rattle.p12.specs.declared.encrypted_private_key_info.EncryptedPrivateKeyInfo.{EncryptedPrivateKeyInfo}
-use Rattle.p12.specs.declared.place.Place.{Place}
-use Rattle.asn1_core.specs.Sets.{Each}
+use Rattle.pkcs8.specs.Seen.{seen_private_key}
+use Rattle.spki.specs.Seen.{borrowed_any}
 use Rattle.transfer.specs.declared.store.error.TransferError.{TransferError}
 use Rattle.transfer.specs.declared.store.key_locks.KeyLock.{KeyLock}
-use Rattle.transfer.specs.InPlace.{InOrder, IsKeyAt, Kept, LockFits, locked_key, locked_keys, places_of, texts_at}
+use Rattle.transfer.specs.declared.store.key_text.OpenedKey.{OpenedKey}
+use Rattle.transfer.specs.InPlace.{InOrder, IsOpenedKey, LockFits, key_with, locked_key, locked_keys, places_of, texts_of}
 use Rattle.transfer.specs.Opening.{KeyFault, KeyOpens, RefusedAfter, key_share, of_keys}
 use Rattle.transfer.specs.Parts.{AreOpen, IsFirstFault}
-use Rattle.transfer.proofs.BagsInPlace.{key_with}
 use Rattle.transfer.proofs.Faults.{open_append, refused_later}
-use Rattle.transfer.proofs.Overwriting.{drop_on, map_more, order_more, order_wider, place_behind, texts_kept}
+use Rattle.transfer.proofs.Overwriting.{map_more}
 
--- What the loop over locks has done: behind the octets passed the text is as it was.
-pub record Unlocking (p : List ℕ) (limit spent : ℕ) (locks rest : List KeyLock) (first text : List ℕ) (places : List Place) (sum : ℕ) : Type 0 where
+-- An encrypted key opens to the text of the private key that was read of its plain octets.
+pub key_opens : (p : List ℕ) (a : AlgorithmIdentifier) (c m : List ℕ) (key : OpenedKey) → unlock a p c ≡ Some m → IsOpenedKey key → key.text.now ≡ m → KeyOpens p (key_with a c) key.text.now
+key_opens p a c m key opens is same = (opens ∙ ap Some (sym same), (seen_private_key borrowed_any (λ s. s.octets.now) (λ s. seen_bits s.unused_bits s.octets.now) key.key, is.0))
+
+-- What the loop over locks has done: what is left is the text behind the octets passed.
+pub record Unlocking (p : List ℕ) (limit spent : ℕ) (locks rest : List KeyLock) (first left : List ℕ) (passed : ℕ) (keys : List OpenedKey) (sum : ℕ) : Type 0 where
   pub before : List KeyLock
   pub split : locks ≡ before ++ rest
-  pub opened : AreOpen (of_keys p limit) limit spent (locked_keys first before) (texts_at text places)
+  pub opened : AreOpen (of_keys p limit) limit spent (locked_keys first before) (texts_of keys)
   pub is : sum ≡ spent + sum_by key_share (locked_keys first before)
-  pub passed : ℕ
   pub order : InOrder passed (places_of rest) (length first)
-  pub behind : InOrder 0 places passed
-  pub room : InOrder 0 places (length first)
-  pub kept : drop passed text ≡ drop passed first
+  pub stands : left ≡ drop passed first
+  pub keys_are : All IsOpenedKey keys
   pub fit : All LockFits rest
 
-pub unlocks_first : (p : List ℕ) (limit spent : ℕ) (locks : List KeyLock) (text : List ℕ) → InOrder 0 (places_of locks) (length text) → All LockFits locks → spent ≤ limit → Unlocking p limit spent locks locks text text [] spent
+pub unlocks_first : (p : List ℕ) (limit spent : ℕ) (locks : List KeyLock) (text : List ℕ) → InOrder 0 (places_of locks) (length text) → All LockFits locks → spent ≤ limit → Unlocking p limit spent locks locks text text 0 [] spent
 unlocks_first p limit spent locks text o f le = record {
   before = [];
   split = refl;
   opened = record { each = tt; within = omega (arith, le) };
   is = omega arith;
-  passed = 0;
   order = o;
-  behind = tt;
-  room = tt;
-  kept = refl;
+  stands = refl;
+  keys_are = All-nil IsOpenedKey;
   fit = f;
 }
 
-module _ (p : List ℕ) (limit spent : ℕ) (locks : List KeyLock) (lock : KeyLock) (more : List KeyLock) (first text : List ℕ) (places : List Place) (sum : ℕ) (i : Unlocking p limit spent locks (lock ∷ more) first text places sum) where
-  same_key : locked_key text lock ≡ locked_key first lock
-  same_key = ap (key_with lock.algorithm) (place_behind lock.at i.passed first text i.order.0 i.kept)
+module _ (p : List ℕ) (limit spent : ℕ) (locks : List KeyLock) (lock : KeyLock) (more : List KeyLock) (first left : List ℕ) (passed : ℕ) (keys : List OpenedKey) (sum : ℕ)
+    (i : Unlocking p limit spent locks (lock ∷ more) first left passed keys sum) where
+  -- what is left from the key's octets on
+  from_lock : drop (lock.at.start - passed) left ≡ drop lock.at.start first
+  from_lock =
+      let n : passed + (lock.at.start - passed) ≡ lock.at.start = omega (arith, i.order.0) in
+      ap (drop (lock.at.start - passed)) i.stands ∙ drop-drop (lock.at.start - passed) passed first ∙ ap (λ (k : ℕ). drop k first) n
+
+  octets_are : take lock.at.len (drop (lock.at.start - passed) left) ≡ at_place lock.at first
+  octets_are = ap (take lock.at.len) from_lock
+
+  stands_further : drop lock.at.len (drop (lock.at.start - passed) left) ≡ drop (lock.at.start + lock.at.len) first
+  stands_further = ap (drop lock.at.len) from_lock ∙ drop-drop lock.at.len lock.at.start first
 
   keys_more : locked_keys first (i.before ++ lock ∷ []) ≡ locked_keys first i.before ++ locked_key first lock ∷ []
   keys_more = map_more (locked_key first) i.before lock
 
-  pub room_now : length text ≡ length first → lock.at.start + lock.at.len ≤ length text
-  room_now size = omega (arith, i.order.1, size)
+  -- the octets that were split off, and what is left behind them
+  module _ (octets further : List ℕ) (are : octets ≡ take lock.at.len (drop (lock.at.start - passed) left)) (stand : further ≡ drop lock.at.len (drop (lock.at.start - passed) left)) where
+    same_key : key_with lock.algorithm octets ≡ locked_key first lock
+    same_key = ap (key_with lock.algorithm) (are ∙ octets_are)
 
-  pub fit_now : LockFits lock
-  fit_now = All-head LockFits lock more i.fit
+    pub unlocks_on : (key : OpenedKey) (next : ℕ) → KeyOpens p (key_with lock.algorithm octets) key.text.now → IsOpenedKey key → next ≡ sum + key_share (key_with lock.algorithm octets) → next ≤ limit
+        → Unlocking p limit spent locks more first further (lock.at.start + lock.at.len) (keys ++ key ∷ []) next
+    unlocks_on key next opens is share le =
+        let same_share = ap key_share same_key in
+        let one : AreOpen (of_keys p limit) limit sum (locked_key first lock ∷ []) (key.text.now ∷ []) =
+        record { each = (subst (λ k. KeyOpens p k key.text.now) same_key opens, tt); within = omega (arith, share, same_share, le, sum_by-append key_share (locked_key first lock ∷ []) []) } in
+        record {
+          before = i.before ++ lock ∷ [];
+          split = i.split ∙ sym (append_assoc i.before (lock ∷ []) more);
+          opened = subst (λ ks. AreOpen (of_keys p limit) limit spent ks (texts_of (keys ++ key ∷ []))) (sym keys_more)
+              (subst (AreOpen (of_keys p limit) limit spent (locked_keys first i.before ++ locked_key first lock ∷ [])) (sym (map_more (λ (k : OpenedKey). k.text.now) keys key))
+              (open_append (of_keys p limit) limit spent sum (locked_keys first i.before) (texts_of keys) (locked_key first lock ∷ []) (key.text.now ∷ []) i.opened i.is one));
+          is = omega (arith, share, same_share, i.is, ap (sum_by key_share) keys_more, sum_by-append key_share (locked_keys first i.before) (locked_key first lock ∷ []));
+          order = i.order.2;
+          stands = stand ∙ stands_further;
+          keys_are = All-push IsOpenedKey keys key i.keys_are is;
+          fit = All-tail LockFits lock more i.fit;
+        }
 
-  pub unlocks_on : (new : List ℕ) (place : Place) (next : ℕ) → KeyOpens p (locked_key text lock) (at_place place new) → next ≡ sum + key_share (locked_key text lock) → next ≤ limit
-      → place.start ≡ lock.at.start → place.len ≤ lock.at.len → Kept lock.at.start (lock.at.start + lock.at.len) text new → Unlocking p limit spent locks more first new (places ++ place ∷ []) next
-  unlocks_on new place next opens share le start len kept =
-      let one : AreOpen (of_keys p limit) limit sum (locked_key first lock ∷ []) (at_place place new ∷ []) =
-      record { each = (subst (λ k. KeyOpens p k (at_place place new)) same_key opens, tt); within = omega (arith, share, le, sum_by-append key_share (locked_key first lock ∷ []) []) } in
-      let same : texts_at new places ≡ texts_at text places = texts_kept 0 lock.at.start (lock.at.start + lock.at.len) places text new (order_wider 0 i.passed lock.at.start places i.order.0 i.behind) kept in
-      record {
-        before = i.before ++ lock ∷ [];
-        split = i.split ∙ sym (append_assoc i.before (lock ∷ []) more);
-        opened = subst (λ ks. AreOpen (of_keys p limit) limit spent ks (texts_at new (places ++ place ∷ []))) (sym keys_more)
-            (subst (AreOpen (of_keys p limit) limit spent (locked_keys first i.before ++ locked_key first lock ∷ [])) (ap (λ t. t ++ at_place place new ∷ []) (sym same) ∙ sym (map_more (λ (q : Place). at_place q new) places place))
-            (open_append (of_keys p limit) limit spent sum (locked_keys first i.before) (texts_at text places) (locked_key first lock ∷ []) (at_place place new ∷ []) i.opened i.is one));
-        is = omega (arith, share, i.is, ap (sum_by key_share) keys_more, sum_by-append key_share (locked_keys first i.before) (locked_key first lock ∷ []));
-        passed = lock.at.start + lock.at.len;
-        order = i.order.2;
-        behind = order_more 0 i.passed (lock.at.start + lock.at.len) places place (omega arith) i.behind (omega (arith, i.order.0, start)) (omega (arith, start, len));
-        room = order_more 0 i.passed (length first) places place (omega arith) i.behind (omega (arith, i.order.0, start)) (omega (arith, start, len, i.order.1));
-        kept = kept.1 ∙ drop_on i.passed (lock.at.start + lock.at.len) text first (omega (arith, i.order.0)) i.kept;
-        fit = All-tail LockFits lock more i.fit;
-      }
-
-  pub unlock_fault : (old mid new : ℕ) (e : TransferError) → mid + spent ≡ old + sum → RefusedAfter (KeyFault p limit sum (locked_key text lock)) mid new e
-      → RefusedAfter (IsFirstFault (of_keys p limit) limit spent (locked_keys first locks)) old new e
-  unlock_fault old mid new e steps h =
-      refused_later (KeyFault p limit sum (locked_key text lock)) (IsFirstFault (of_keys p limit) limit spent (locked_keys first locks)) old mid new (sum_by key_share (locked_keys first i.before)) (omega (arith, steps, i.is))
-      (λ e k f. record {
-        before = locked_keys first i.before;
-        part = locked_key first lock;
-        behind = locked_keys first more;
-        split = ap (locked_keys first) i.split ∙ map-append (locked_key first) i.before (lock ∷ more);
-        made = texts_at text places;
-        open_before = i.opened;
-        own = k;
-        fault = subst (λ s. KeyFault p limit s (locked_key first lock) e k) i.is (subst (λ l. KeyFault p limit sum l e k) same_key f);
-        steps = refl;
-      }) e h
+    pub unlock_fault : (old mid new : ℕ) (e : TransferError) → mid + spent ≡ old + sum → RefusedAfter (KeyFault p limit sum (key_with lock.algorithm octets)) mid new e
+        → RefusedAfter (IsFirstFault (of_keys p limit) limit spent (locked_keys first locks)) old new e
+    unlock_fault old mid new e steps h =
+        refused_later (KeyFault p limit sum (key_with lock.algorithm octets)) (IsFirstFault (of_keys p limit) limit spent (locked_keys first locks)) old mid new (sum_by key_share (locked_keys first i.before)) (omega (arith, steps, i.is))
+        (λ e k f. record {
+          before = locked_keys first i.before;
+          part = locked_key first lock;
+          behind = locked_keys first more;
+          split = ap (locked_keys first) i.split ∙ map-append (locked_key first) i.before (lock ∷ more);
+          made = texts_of keys;
+          open_before = i.opened;
+          own = k;
+          fault = subst (λ s. KeyFault p limit s (locked_key first lock) e k) i.is (subst (λ l. KeyFault p limit sum l e k) same_key f);
+          steps = refl;
+        }) e h
 
 -- Behind the last lock.
-module _ (p : List ℕ) (limit spent : ℕ) (locks rest : List KeyLock) (first text : List ℕ) (places : List Place) (sum : ℕ) (i : Unlocking p limit spent locks rest first text places sum) where
+module _ (p : List ℕ) (limit spent : ℕ) (locks rest : List KeyLock) (first left : List ℕ) (passed : ℕ) (keys : List OpenedKey) (sum : ℕ) (i : Unlocking p limit spent locks rest first left passed keys sum) where
   pub all_before : rest ≡ [] → i.before ≡ locks
   all_before e = sym (i.split ∙ ap (λ t. i.before ++ t) e ∙ append-nil i.before)
 
-  pub all_unlocked : rest ≡ [] → AreOpen (of_keys p limit) limit spent (locked_keys first locks) (texts_at text places)
-  all_unlocked e = subst (λ (ls : List KeyLock). AreOpen (of_keys p limit) limit spent (locked_keys first ls) (texts_at text places)) (all_before e) i.opened
+  pub all_unlocked : rest ≡ [] → AreOpen (of_keys p limit) limit spent (locked_keys first locks) (texts_of keys)
+  all_unlocked e = subst (λ (ls : List KeyLock). AreOpen (of_keys p limit) limit spent (locked_keys first ls) (texts_of keys)) (all_before e) i.opened
 
   pub all_spent : rest ≡ [] → sum ≡ spent + sum_by key_share (locked_keys first locks)
   all_spent e = i.is ∙ ap (λ (ls : List KeyLock). spent + sum_by key_share (locked_keys first ls)) (all_before e)
-
--- The texts of private keys stand at the places that keys were opened to.
-pub keys_stand : (p : List ℕ) (ks : List EncryptedPrivateKeyInfo) (text : List ℕ) (from : ℕ) (places : List Place) → Each (KeyOpens p) ks (texts_at text places) → InOrder from places (length text) → All (IsKeyAt text) places
-keys_stand p ks text from [] e o = All-nil (IsKeyAt text)
-keys_stand p [] text from (q ∷ places) e o = absurd e
-keys_stand p (k ∷ ks) text from (q ∷ places) e o = All-cons (IsKeyAt text) q places (o.1, e.0.1) (keys_stand p ks text (q.start + q.len) places e.1 o.2)
 
 -- What a refusal says for each b.
 pub refused_each : {T : Type 0} (r : Result T TransferError) (B : Type 0) (C : B → Type 0) (P : TransferError → Type 0) (Q : B → TransferError → Type 0) → ((b : B) → C b → (e : TransferError) → P e → Q b e)

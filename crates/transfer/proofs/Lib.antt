@@ -1,7 +1,3 @@
-mod Encoded
-mod FiveWords
-mod Written
-mod Lines
 mod Lists
 mod Lengths
 mod Faults
@@ -19,6 +15,5 @@ mod Settling
 mod Answering
 pub mod Decided
 mod Generated
-mod SampleWords
 mod SampleStore
 mod SampleAnswering

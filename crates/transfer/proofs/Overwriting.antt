@@ -1,11 +1,11 @@
 -- Opening in place: what is elsewhere stays, and places lie one behind the other.
 use Rattle.std.proofs.Common.{ℕ, ◌≡◌, ◌+◌, ◌-◌, ◌≤◌, List, [], ◌∷◌, ◌++◌, length, take, drop, refl, sym, ap, ◌∙◌, arith, subst}
 use Rattle.std.specs.Prelude.{Option, Some, IfSome, map, slice_range}
-use Rattle.std.proofs.lemmas.List.{take-take, drop-take, drop-drop, length-take}
+use Rattle.std.proofs.lemmas.List.{take-take, drop-take, drop-drop}
 use Rattle.std.proofs.Math.Seq.{take-append_seam}
 use Rattle.p12.specs.Place.{at_place}
 use Rattle.p12.specs.declared.place.Place.{Place}
-use Rattle.transfer.specs.InPlace.{InOrder, Kept, texts_at}
+use Rattle.transfer.specs.InPlace.{InOrder, Kept}
 
 pub if_at : {A : Type 0} (P : A → Type 0) (o : Option A) (x : A) → o ≡ Some x → IfSome o P → P x
 if_at P o x e h = subst (λ o. IfSome o P) e h
@@ -57,11 +57,6 @@ pub order_append : (from mid to : ℕ) (ps qs : List Place) → from ≤ mid →
 order_append from mid to [] [] f h o i = tt
 order_append from mid to [] (q ∷ qs) f h o i = (omega (arith, f, i.0), i.1, i.2)
 order_append from mid to (p ∷ ps) qs f h o i = (o.0, omega (arith, o.1, h), order_append (p.start + p.len) mid to ps qs o.1 h o.2 i)
-
--- What stands at places before a change.
-pub texts_kept : (from mid to : ℕ) (ps : List Place) (old new : List ℕ) → InOrder from ps mid → Kept mid to old new → texts_at new ps ≡ texts_at old ps
-texts_kept from mid to [] old new o k = refl
-texts_kept from mid to (p ∷ ps) old new o k = ap (λ t. t ∷ texts_at new ps) (place_before p mid old new o.1 k.0) ∙ ap (λ t. at_place p old ∷ t) (texts_kept (p.start + p.len) mid to ps old new o.2 k)
 
 pub map_more : {A B : Type 0} (f : A → B) (xs : List A) (x : A) → map f (xs ++ x ∷ []) ≡ map f xs ++ f x ∷ []
 map_more f [] x = refl

@@ -1,19 +1,19 @@
 -- What a run of the sample answers.
-use Rattle.std.proofs.Common.{◌≡◌, ◌≢◌, ℕ, ◌≤◌, ◌<◌, ◌^◌, List, refl, sym, ◌∙◌, arith, subst}
+use Rattle.std.proofs.Common.{◌≡◌, ℕ, ◌≤◌, List, refl, sym, ◌∙◌, arith, subst}
 use Rattle.std.specs.Prelude.{Result, Ok, Err, IfOk, IfErr, decimal}
 use Rattle.std.proofs.lemmas.Fmt.{decimal_injective}
-use Rattle.transfer.specs.Answers.{IsWritten, cut, decided_status, decided_text, whole}
-use Rattle.transfer.specs.DueText.{joined}
+use Rattle.frame.specs.Calls.{IsWritten, cut, whole}
+use Rattle.frame.specs.DueText.{joined}
+use Rattle.frame.specs.Status.{error_text, status_in, text_in}
+use Rattle.frame.specs.Stream.{Stream}
+use Rattle.frame.specs.declared.status.Status.{Status}
+use Rattle.frame.specs.declared.status.Status.TheVariants.{WriteFault, Memory}
 use Rattle.transfer.specs.Sample.{IsSample, SampleAnswers, SampleDue, SampleMakes}
-use Rattle.transfer.specs.Status.{error_text}
-use Rattle.transfer.specs.Stream.{Stream}
-use Rattle.transfer.specs.declared.program.status.Status.{Status}
-use Rattle.transfer.specs.declared.program.status.Status.TheVariants.{WriteFault, Memory}
 
 memory_due : (keys a b : ℕ) (s : Status) → s ≡ Memory → SampleDue keys a b s (error_text s)
 memory_due keys a b s is = rw is refl
 
-due : (keys a b : ℕ) (d : Result (List (List ℕ)) Status) → IfOk d (λ lines. SampleMakes keys a b (joined lines)) → IfErr d (λ s. s ≡ Memory) → SampleDue keys a b (decided_status d) (decided_text d)
+due : (keys a b : ℕ) (d : Result (List (List ℕ)) Status) → IfOk d (λ lines. SampleMakes keys a b (joined lines)) → IfErr d (λ s. s ≡ Memory) → SampleDue keys a b (status_in d) (text_in joined d)
 due keys a b (Ok lines) made memory = made
 due keys a b (Err s) made memory = memory_due keys a b s memory
 
@@ -34,16 +34,16 @@ answered keys a b output t text s count is (cut fault rose some) = record {
   count = count;
 }
 
-pub sample_answers : (keys a b : ℕ) (output : Stream) (d : Result (List (List ℕ)) Status) (s : Status) → output.faults ≤ output.faults_after → IfOk d (λ lines. SampleMakes keys a b (joined lines))
-    → IfErr d (λ s. s ≡ Memory) → IsWritten output (decided_status d) (decided_text d) s → SampleAnswers keys a b output s
-sample_answers keys a b output d s count made memory written = answered keys a b output (decided_status d) (decided_text d) s count (due keys a b d made memory) written
-
 -- the words of a sample have one number
-pub one_sample : (words : List (List ℕ)) (m n : ℕ) → IsSample words m → IsSample words n → m ≡ n
+one_sample : (words : List (List ℕ)) (m n : ℕ) → IsSample words m → IsSample words n → m ≡ n
 one_sample words m n p q =
     let s = sym p.spelled ∙ q.spelled in
     let e : decimal m ≡ decimal n = cc in
     decimal_injective m n (omega (arith, p.at_most)) (omega (arith, q.at_most)) e
 
-pub answers_as : (words : List (List ℕ)) (m n a b : ℕ) (output : Stream) (s : Status) → IsSample words m → IsSample words n → SampleAnswers m a b output s → SampleAnswers n a b output s
-answers_as words m n a b output s p q h = subst (λ k. SampleAnswers k a b output s) (one_sample words m n p q) h
+pub sample_answers : (words : List (List ℕ)) (m n a b : ℕ) (output : Stream) (d : Result (List (List ℕ)) Status) (s : Status) → IsSample words m → IsSample words n
+    → output.faults ≤ output.faults_after → IfOk d (λ lines. SampleMakes m a b (joined lines)) → IfErr d (λ s. s ≡ Memory)
+    → IsWritten output (status_in d) (text_in joined d) s → SampleAnswers n a b output s
+sample_answers words m n a b output d s p q count made memory written =
+    subst (λ k. SampleAnswers k a b output s) (one_sample words m n p q)
+    (answered m a b output (status_in d) (text_in joined d) s count (due m a b d made memory) written)

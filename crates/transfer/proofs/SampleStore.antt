@@ -1,101 +1,52 @@
 -- The sample's store opens to the certificates and keys that were generated.
-use Rattle.std.proofs.Common.{◌≡◌, ℕ, zero, suc, ◌+◌, ◌*◌, ◌≤◌, ◌<◌, ◌-◌, ◌^◌, List, [], ◌∷◌, ◌++◌, map, length, Option, Some, None, refl, sym, ap, subst, ◌∙◌, inl, inr, arith, append-nil}
-use Rattle.std.specs.List.{flat_map, sum_by}
+use Rattle.std.proofs.Common.{◌≡◌, ℕ, zero, suc, ◌+◌, ◌*◌, ◌-◌, ◌^◌, List, [], ◌∷◌, map, length, Option, Some, refl, sym, ap, subst, ◌∙◌, inl, arith, append-nil}
+use Rattle.std.specs.List.{sum_by}
 use Rattle.std.proofs.lemmas.List.Sums.{sum_by-cons}
-use Rattle.asn1_core.specs.Der.{IsShort, null, seq, oid, octets, uint, ctx, joined, shortest}
-use Rattle.asn1_core.specs.Oid.{oid_octets, oid_of}
-use Rattle.asn1_core.specs.Texts.{Within, Many, Perhaps, Uint, Inside}
-use Rattle.asn1_core.specs.Fields.{OrNothing}
+use Rattle.asn1_core.specs.Der.{IsShort, joined}
+use Rattle.asn1_core.specs.Texts.{Many}
 use Rattle.asn1_core.specs.Sets.{Each}
-use Rattle.asn1_core.specs.declared.identifier.ObjectIdentifier.{ObjectIdentifier}
-use Rattle.p12.specs.Identifiers.{triple_des_scheme_oid, sha1_oid, data_oid, encrypted_data_oid, x509_certificate_oid, shrouded_key_bag_oid, cert_bag_oid}
-use Rattle.p12.specs.AlgorithmIdentifier.{AlgorithmCase, AlgorithmText, cost, unlock}
-use Rattle.p12.specs.Attribute.{AttributesText}
-use Rattle.p12.specs.Canonical.{algorithm_canon, bag_canon, bags_canon, cert_bag_canon, content_canon, contents_canon, digest_canon, encrypted_data_canon, encrypted_key_canon, mac_canon, params_canon, store_canon}
-use Rattle.p12.specs.CertBag.{CertBagCase, CertBagText}
-use Rattle.p12.specs.ContentInfo.{ContentCase, ContentText, IsContents}
-use Rattle.p12.specs.DigestInfo.{DigestText}
-use Rattle.p12.specs.MacData.{MacText, mac_of, mac_value}
+use Rattle.p12.specs.Canonical.{bag_canon, bags_canon, contents_canon, store_canon}
+use Rattle.p12.specs.ContentInfo.{IsContents}
+use Rattle.p12.specs.MacData.{mac_of, mac_value}
 use Rattle.p12.specs.Password.{bmp_password}
 use Rattle.p12.specs.Pfx.{IsStore, PfxText}
-use Rattle.p12.specs.SafeBag.{BagText, IsBags, KindCase}
-use Rattle.p12.proofs.Again.{known, one_left, encrypted_content_of, encrypted_data_of, encrypted_key_of}
+use Rattle.p12.specs.SafeBag.{BagText, IsBags}
 use Rattle.p12.proofs.DefinitionLaws.{bags_sole, contents_sole, store_sole}
+use Rattle.p12.proofs.MadeTexts.{both_made, certificate_made, key_made, store_made}
 use Rattle.p12.specs.declared.algorithm_identifier.AlgorithmIdentifier.TheVariants.{Sha1}
-use Rattle.p12.specs.declared.algorithm_identifier.Pkcs12PbeParams.{Pkcs12PbeParams}
-use Rattle.p12.specs.declared.cert_bag.CertBag.TheVariants.{X509}
 use Rattle.p12.specs.declared.content_info.ContentInfo.{ContentInfo}
 use Rattle.p12.specs.declared.content_info.ContentInfo.TheVariants as content
-use Rattle.p12.specs.declared.digest_info.DigestInfo.{DigestInfo}
-use Rattle.p12.specs.declared.encrypted_data.EncryptedContentInfo.{EncryptedContentInfo}
-use Rattle.p12.specs.declared.encrypted_data.EncryptedData.{EncryptedData}
 use Rattle.p12.specs.declared.encrypted_private_key_info.EncryptedPrivateKeyInfo.{EncryptedPrivateKeyInfo}
 use Rattle.p12.specs.declared.mac_data.MacData.{MacData}
 use Rattle.p12.specs.declared.pfx.PFX.{PFX}
 use Rattle.p12.specs.declared.safe_bag.SafeBag.{SafeBag}
-use Rattle.p12.specs.declared.safe_bag.SafeBagKind.TheVariants as kind
-use Rattle.transfer.specs.Opening.{ContentOpens, KeyOpens, all_certificates, all_shrouded, certificates_in, content_share, key_share, opened, plain, shrouded_among}
-use Rattle.transfer.specs.Sample.{IsKeyBag, IsSampleStore, OpensTo, SampleMakes, SealsKey, behind_keys, behind_salt, certificate_at, certificate_bag, certificate_bags, content_salt_at, drawn_octets, key_at, key_bag, mac_salt_at, salt_at, sample_password, sample_text, sample_work, starts, store_of, triple_des_once, two_contents}
-use Rattle.transfer.specs.Sealing.{SealsAll}
+use Rattle.transfer.specs.Opening.{ContentOpens, KeyOpens, all_certificates, all_shrouded, certificates_in, key_share, shrouded_among}
+use Rattle.transfer.specs.Sample.{IsKeyBag, IsSampleStore, OpensTo, SampleMakes, behind_keys, behind_salt, certificate_at, certificate_bag, certificate_bags, content_salt_at, drawn_octets, key_bag, mac_salt_at, salt_at, sample_password, sample_text, sample_work, starts, store_of, triple_des_once, two_contents}
 use Rattle.transfer.specs.Transferred.{Transfers}
 use Rattle.transfer.specs.Verdicts.{StoreOpens, work}
 use Rattle.transfer.proofs.Valid.{verdict_open}
 
 -- ---- the parts have texts
 
-algorithm_made : (salt : List ℕ) → AlgorithmText (algorithm_canon (triple_des_once salt)) (triple_des_once salt)
-algorithm_made salt =
-    let p : Pkcs12PbeParams = record { salt = salt; iterations = 1 } in
-    known AlgorithmCase (oid_of triple_des_scheme_oid refl) triple_des_scheme_oid (params_canon p) (triple_des_once salt) refl
-    (refl, (octets salt ++ uint 1, (octets salt, uint 1, (salt, refl, refl), one_left (Uint (2 ^ 64 - 1)) p (λ p. p.iterations) (uint 1) (shortest 1, (omega arith, refl), refl), refl), refl))
-
--- the content that is encrypted
-abbrev sealed : List ℕ → List ℕ → ContentInfo
-sealed salt c = content.EncryptedData (record { encrypted_content_info = record { content_encryption_algorithm = triple_des_once salt; encrypted_content = c } })
-
-sealed_made : (salt c : List ℕ) → ContentText (content_canon (sealed salt c)) (sealed salt c)
-sealed_made salt c =
-    let e : EncryptedContentInfo = record { content_encryption_algorithm = triple_des_once salt; encrypted_content = c } in
-    let d : EncryptedData = record { encrypted_content_info = e } in
-    known ContentCase (oid_of encrypted_data_oid refl) encrypted_data_oid (ctx 0 (encrypted_data_canon d)) (sealed salt c) refl
-    (refl, (encrypted_data_canon d, encrypted_data_of d (encrypted_content_of e (algorithm_made salt)), refl))
-
-data_made : (v : List ℕ) → ContentText (content_canon (content.Data v)) (content.Data v)
-data_made v = known ContentCase (oid_of data_oid refl) data_oid (ctx 0 (octets v)) (content.Data v) refl (refl, (octets v, (v, refl, refl), refl))
-
 two_made : (salt c : List ℕ) (gs : List SafeBag) → IsShort (contents_canon (two_contents salt c gs)) → IsContents (contents_canon (two_contents salt c gs)) (two_contents salt c gs)
-unfolding IsContents
-two_made salt c gs short =
-    let one = sealed salt c in
-    let two = content.Data (bags_canon gs) in
-    ((joined (map content_canon (two_contents salt c gs)), (content_canon one, content_canon two ++ [], sealed_made salt c, (content_canon two, [], data_made (bags_canon gs), refl, refl), refl), refl), short)
+two_made salt c gs short = both_made salt 1 c (bags_canon gs) (omega arith) short
 
--- a bag without attributes
-bag_made : (k : ObjectIdentifier) (g : SafeBag) (q : List ℕ) → KindCase k q g.bag → AttributesText [] g.attributes → BagText (seq (oid (oid_octets k) ++ (ctx 0 q ++ []))) g
-bag_made k g q r a =
-    let w = oid (oid_octets k) ++ (ctx 0 q ++ []) in
-    (w, (oid (oid_octets k), ctx 0 q ++ [], k, (oid_octets k, refl, refl), (ctx 0 q, [], (q, r, refl), one_left AttributesText g (λ g. g.attributes) [] a, refl), refl), refl)
+certificate_text : (v : List ℕ) → BagText (bag_canon (certificate_bag v)) (certificate_bag v)
+certificate_text v = certificate_made v [] [] (inl (refl, refl))
 
-certificate_made : (v : List ℕ) → BagText (bag_canon (certificate_bag v)) (certificate_bag v)
-certificate_made v =
-    bag_made (oid_of cert_bag_oid refl) (certificate_bag v) (cert_bag_canon (X509 v))
-    (refl, known CertBagCase (oid_of x509_certificate_oid refl) x509_certificate_oid (ctx 0 (octets v)) (X509 v) refl (refl, (octets v, (v, refl, refl), refl))) (inl (refl, refl))
-
-key_made : (salt c : List ℕ) → BagText (bag_canon (key_bag salt c)) (key_bag salt c)
-key_made salt c =
-    let k : EncryptedPrivateKeyInfo = record { encryption_algorithm = triple_des_once salt; encrypted_data = c } in
-    bag_made (oid_of shrouded_key_bag_oid refl) (key_bag salt c) (encrypted_key_canon k) (refl, encrypted_key_of k (algorithm_made salt)) (inl (refl, refl))
+key_text : (salt c : List ℕ) → BagText (bag_canon (key_bag salt c)) (key_bag salt c)
+key_text salt c = key_made salt 1 c [] [] (omega arith) (inl (refl, refl))
 
 certificates_made : (ys : List ℕ) → Many BagText (joined (map bag_canon (certificate_bags ys))) (certificate_bags ys)
 certificates_made [] = refl
-certificates_made (y ∷ ys) = (bag_canon (certificate_bag (certificate_at y)), joined (map bag_canon (certificate_bags ys)), certificate_made (certificate_at y), certificates_made ys, refl)
+certificates_made (y ∷ ys) = (bag_canon (certificate_bag (certificate_at y)), joined (map bag_canon (certificate_bags ys)), certificate_text (certificate_at y), certificates_made ys, refl)
 
 keys_made : (ys : List ℕ) (gs : List SafeBag) → Each IsKeyBag ys gs → Many BagText (joined (map bag_canon gs)) gs
 keys_made [] [] e = refl
 keys_made [] (g ∷ gs) e = absurd e
 keys_made (y ∷ ys) [] e = absurd e
 keys_made (y ∷ ys) (g ∷ gs) ((c, o, is), e) =
-    (bag_canon g, joined (map bag_canon gs), subst (λ (x : SafeBag). BagText (bag_canon x) x) (sym is) (key_made (salt_at y) c), keys_made ys gs e, refl)
+    (bag_canon g, joined (map bag_canon gs), subst (λ (x : SafeBag). BagText (bag_canon x) x) (sym is) (key_text (salt_at y) c), keys_made ys gs e, refl)
 
 -- the bags that a canonical text lists are those that it was written of
 bags_back : (gs hs : List SafeBag) → Many BagText (joined (map bag_canon hs)) hs → IsBags (bags_canon hs) gs → gs ≡ hs
@@ -104,40 +55,9 @@ bags_back gs hs m r = bags_sole (bags_canon hs) gs hs r ((joined (map bag_canon 
 
 -- ---- the whole store
 
-abbrev under_sha1 : List ℕ → DigestInfo
-under_sha1 d = record { digest_algorithm = Sha1; digest = d }
-
-sha1_made : AlgorithmText (algorithm_canon Sha1) Sha1
-sha1_made = known AlgorithmCase (oid_of sha1_oid refl) sha1_oid null Sha1 refl (refl, inr refl)
-
-digest_made : (d : List ℕ) → DigestText (digest_canon (under_sha1 d)) (under_sha1 d)
-digest_made d =
-    let a = algorithm_canon Sha1 in
-    (a ++ octets d, (a, octets d, sha1_made, one_left (Inside 0x04) (under_sha1 d) (λ i. i.digest) (octets d) (d, refl, refl), refl), refl)
-
-abbrev once : List ℕ → List ℕ → MacData
-once d salt = record { mac = under_sha1 d; salt = salt; iterations = 1 }
-
-mac_made : (d salt : List ℕ) → MacText (mac_canon (once d salt)) (once d salt)
-mac_made d salt =
-    let m = once d salt in
-    let a = digest_canon m.mac in
-    let rest = octets salt ++ uint 1 in
-    (a ++ rest, (a, rest, digest_made d, (octets salt, uint 1, (salt, refl, refl), one_left (OrNothing 1 (Uint (2 ^ 32 - 1))) m (λ m. m.iterations) (uint 1) (inr (shortest 1, (omega arith, refl), refl)), refl), refl), refl)
-
-abbrev over : List ℕ → MacData → PFX
-over outer m = record { version = 3; auth_safe = content.Data outer; mac_data = Some m }
-
-store_made : (outer d salt : List ℕ) → PfxText (store_canon (over outer (once d salt))) (over outer (once d salt))
-store_made outer d salt =
-    let m = once d salt in
-    let s = over outer m in
-    let a = content_canon (content.Data outer) in
-    (uint 3 ++ (a ++ mac_canon m), (uint 3, a ++ mac_canon m, (shortest 3, (omega arith, refl), refl), (a, mac_canon m, data_made outer, one_left (Perhaps MacText) s (λ s. s.mac_data) (mac_canon m) (mac_made d salt), refl), refl), refl)
-
 store_text : (outer salt : List ℕ) → PfxText (store_canon (store_of outer salt)) (store_of outer salt)
 unfolding mac_of
-store_text outer salt = store_made outer (mac_value Sha1 (bmp_password sample_password) salt 1 outer) salt
+store_text outer salt = store_made outer (mac_value Sha1 (bmp_password sample_password) salt 1 outer) salt 1 (omega arith)
 
 only_store : (outer salt : List ℕ) (s : PFX) → IsStore (store_canon (store_of outer salt)) s → s ≡ store_of outer salt
 unfolding IsStore

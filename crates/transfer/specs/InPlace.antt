@@ -1,17 +1,22 @@
 -- What is opened in place, in a copy of the text that it was read from.
 use Rattle.std.specs.Prelude.{◌≡◌, ℕ, ◌+◌, ◌≤◌, ◌<◌, ◌^◌, All, List, [], ◌∷◌, ◌++◌, length, map, take, drop, ⊤}
+use Rattle.der_core.specs.BitString.{seen_bits}
 use Rattle.p12.specs.AlgorithmIdentifier.{salt_of}
 use Rattle.p12.specs.ContentView.{ContentBetween, seen_content}
 use Rattle.p12.specs.Place.{at_place}
 use Rattle.p12.specs.SafeBag.{IsBags}
+use Rattle.p12.specs.declared.algorithm_identifier.AlgorithmIdentifier.{AlgorithmIdentifier}
 use Rattle.p12.specs.declared.content_info.ContentView.{ContentView}
 use Rattle.p12.specs.declared.encrypted_private_key_info.EncryptedPrivateKeyInfo.{EncryptedPrivateKeyInfo}
 use Rattle.p12.specs.declared.place.Place.{Place}
 use Rattle.p12.specs.declared.safe_bag.SafeBag.{SafeBag}
 use Rattle.asn1_core.specs.Sets.{Each}
+use Rattle.pkcs8.specs.Seen.{IsPrivateKey, seen_private_key}
+use Rattle.spki.specs.Seen.{borrowed_any}
 use Rattle.transfer.specs.Limits.{store_limit}
 use Rattle.transfer.specs.declared.store.key_locks.KeyLock.{KeyLock}
-use Rattle.transfer.specs.Opening.{ContentOpens, IsKeyText, KeysTable, Verdict, shrouded_among}
+use Rattle.transfer.specs.declared.store.key_text.OpenedKey.{OpenedKey}
+use Rattle.transfer.specs.Opening.{ContentOpens, KeysTable, Verdict, shrouded_among}
 
 -- Only what lies between two numbers of octets was changed.
 abbrev pub Kept : ℕ → ℕ → List ℕ → List ℕ → Type 0
@@ -50,9 +55,13 @@ pub record AreOpened (T : Verdict → ℕ → Type 0) (p : List ℕ) (limit : �
 
 -- ---- Keys
 
+-- the encrypted key of an algorithm and its octets
+abbrev pub key_with : AlgorithmIdentifier → List ℕ → EncryptedPrivateKeyInfo
+key_with a c = record { encryption_algorithm = a; encrypted_data = c }
+
 -- the encrypted key of a lock
 abbrev pub locked_key : List ℕ → KeyLock → EncryptedPrivateKeyInfo
-locked_key text l = record { encryption_algorithm = l.algorithm; encrypted_data = at_place l.at text }
+locked_key text l = key_with l.algorithm (at_place l.at text)
 
 abbrev pub locked_keys : List ℕ → List KeyLock → List EncryptedPrivateKeyInfo
 locked_keys text ls = map (locked_key text) ls
@@ -72,10 +81,11 @@ pub record AddsLocks (text : List ℕ) (place : Place) (gs : List SafeBag) (old 
   pub order : InOrder place.start (places_of made) (place.start + place.len)
   pub fit : All LockFits made
 
--- what stands at the places
-abbrev pub texts_at : List ℕ → List Place → List (List ℕ)
-texts_at text ps = map (λ (p : Place). at_place p text) ps
+-- A private key beside a text of it, which is part of a store.
+abbrev pub IsOpenedKey : OpenedKey → Type 0
+IsOpenedKey k = IsPrivateKey k.text.now (seen_private_key borrowed_any (λ s. s.octets.now) (λ s. seen_bits s.unused_bits s.octets.now) k.key)
+    × (length k.text.now ≤ store_limit)
 
--- The text of a private key stands at a place.
-abbrev pub IsKeyAt : List ℕ → Place → Type 0
-IsKeyAt text p = (p.start + p.len ≤ length text) × IsKeyText (at_place p text)
+-- the texts of opened keys
+abbrev pub texts_of : List OpenedKey → List (List ℕ)
+texts_of ks = map (λ (k : OpenedKey). k.text.now) ks

@@ -1,12 +1,7 @@
 pub mod Limits
 pub mod Budget
-pub mod Stream
-pub mod Input
 pub mod Words
 pub mod Asked
-pub mod InputText
-pub mod TwoLines
-pub mod TextCause
 pub mod DueText
 pub mod TransferError
 pub mod Document
@@ -19,3 +14,4 @@ pub mod Verdicts
 pub mod Transferred
 pub mod Answers
 pub mod Sample
+pub mod Material

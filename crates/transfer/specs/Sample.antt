@@ -1,7 +1,6 @@
 -- The sample: a store that is made of generated octets, and the text that is due for it.
-use Rattle.std.specs.Prelude.{ℕ, ◌*◌, ◌+◌, ◌/◌, ◌%◌, ◌-◌, ◌^◌, ◌≡◌, ◌≢◌, ◌≤◌, List, zero, suc, [], ◌∷◌, ◌++◌, map, length, Option, Some, None, codes, decimal}
+use Rattle.std.specs.Prelude.{ℕ, ◌*◌, ◌+◌, ◌/◌, ◌%◌, ◌-◌, ◌^◌, ◌≡◌, ◌≢◌, ◌≤◌, List, zero, suc, [], ◌∷◌, ◌++◌, map, length, Option, Some, codes, decimal}
 use Rattle.std.specs.Io.KnownBytes.{Appends}
-use Rattle.hex.specs.Hex.{encode_lower}
 use Rattle.sha2.specs.Sha256.{sha256}
 use Rattle.asn1_core.specs.Sets.{Each}
 use Rattle.p12.specs.AlgorithmIdentifier.{unlock}
@@ -17,13 +16,13 @@ use Rattle.p12.specs.declared.pfx.PFX.{PFX}
 use Rattle.p12.specs.declared.safe_bag.SafeBag.{SafeBag}
 use Rattle.p12.specs.declared.safe_bag.SafeBagKind.TheVariants as kind
 use Rattle.outside.specs.Faults.{Rose}
-use Rattle.transfer.specs.DueText.{AppendsPart, digits_line, out}
-use Rattle.transfer.specs.Status.{error_text}
-use Rattle.transfer.specs.Stream.{Stream}
+use Rattle.frame.specs.DueText.{AppendsPart, digits_line}
+use Rattle.frame.specs.Status.{error_text}
+use Rattle.frame.specs.Stream.{Stream}
+use Rattle.frame.specs.declared.status.Status.{Status}
+use Rattle.frame.specs.declared.status.Status.TheVariants.{Done, WriteFault, Memory}
+use Rattle.transfer.specs.DueText.{out}
 use Rattle.transfer.specs.Transferred.{Transfers}
-use Rattle.transfer.specs.declared.program.status.Status.{Status}
-use Rattle.transfer.specs.declared.program.status.Status.TheVariants.{Done, WriteFault, Memory}
-use Rattle.transfer.specs.declared.sample.material.Material.{Material}
 
 -- ---- the generator: a state is below 2 ^ 31, the first is the number of keys, and each new state gives an octet
 
@@ -76,10 +75,6 @@ starts y (suc n) = y ∷ starts (behind_salt y) n
 abbrev pub behind_keys : ℕ → ℕ → ℕ
 behind_keys y zero = y
 behind_keys y (suc n) = behind_keys (behind_salt y) n
-
--- these were generated for a key that begins at this state
-abbrev pub IsMaterial : ℕ → Material → Type 0
-IsMaterial y m = (m.certificate ≡ certificate_at y) × (m.key ≡ key_at y) × (m.salt ≡ salt_at y)
 
 -- ---- the store: every count is 1, no bag has attributes, and the password is `sample`
 

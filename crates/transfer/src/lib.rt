@@ -9,15 +9,13 @@ pub mod laws;
 mod program;
 mod sample;
 mod store;
-#[cfg(test)]
-mod tests;
 
+pub use frame::Status;
 pub use laws::{
     documents_are_canonical, documents_are_sealed, drawn_in_place, each_has_verdict, one_document,
     one_verdict, opened_exactly, valid_exactly,
 };
 pub use outside::{Failed, MemorySink, MemorySource, ReadSource, Sink, Source, WriteSink};
-pub use program::status::Status;
 pub use program::top_call::run;
 pub use store::error::TransferError;
 pub use store::opened::{Opened, open_store};

@@ -1,9 +1,7 @@
-//! The program: the words, the text of the input, the answers and the text that is written.
-pub(crate) mod decision;
-pub(crate) mod digits;
+//! The program: the words, the work on the store that the input spells, and the text that is due.
+pub(crate) mod command;
 pub(crate) mod due_text;
-pub(crate) mod input;
-pub(crate) mod input_text;
-pub(crate) mod status;
+pub(crate) mod refusal;
 pub(crate) mod top_call;
 pub(crate) mod words;
+pub(crate) mod work;

@@ -3,16 +3,17 @@ ghost use Rattle.std.specs.Prelude.{◌≡◌, ◌*◌, ◌≤◌, ◌++◌, Lis
 ghost use Rattle.sha2.specs.Sha256.{sha256};
 ghost use Rattle.p12.specs.Canonical.{store_canon};
 ghost use Rattle.p12.specs.declared.pfx.PFX.{PFX};
-ghost use Rattle.transfer.specs.DueText.{joined};
+ghost use Rattle.frame.specs.DueText.{joined};
+ghost use Rattle.frame.specs.declared.status.Status.{Status};
 ghost use Rattle.transfer.specs.Sample.{IsSampleStore, SampleMakes, drawn_octets, number_line, octets_behind, sample_text};
 
-use crate::program::due_text::{due_lines, line_of};
-use crate::program::status::Status;
+use crate::program::due_text::due_lines;
 use crate::sample::generator::Generator;
 use crate::sample::store::{PASSWORD, sample_store};
 use crate::store::error::TransferError;
 use crate::store::transfer::{Transferred, transfer};
 use asn1_core::{Items, Octets};
+use frame::{Status, line_of};
 use itoa::Buffer;
 use mac_modes::DrawnBytes;
 use sha2::{Digest, Sha256};

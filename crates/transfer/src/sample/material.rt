@@ -1,6 +1,7 @@
 //! What is generated for one key.
 ghost use Rattle.std.specs.Prelude.{◌≡◌, ◌≤◌, ◌-◌, ◌++◌, length, take};
-ghost use Rattle.transfer.specs.Sample.{IsMaterial, behind_salt, octets_behind, state_behind};
+ghost use Rattle.transfer.specs.Material.{IsMaterial};
+ghost use Rattle.transfer.specs.Sample.{behind_salt, octets_behind, state_behind};
 
 use crate::sample::generator::Generator;
 

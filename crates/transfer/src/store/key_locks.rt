@@ -1,16 +1,13 @@
 //! The encrypted keys of an opened store, before they are opened.
-ghost use Rattle.std.specs.Prelude.{◌≡◌, ◌+◌, ◌≤◌, ◌++◌, All, List, length, map, IfOk, IfErr, OnOk};
-ghost use Rattle.p12.specs.AlgorithmView.{seen_algorithm};
+ghost use Rattle.std.specs.Prelude.{◌≡◌, ◌+◌, ◌≤◌, All, List, length, IfOk, IfErr, OnOk};
 ghost use Rattle.p12.specs.declared.safe_bag.SafeBag.{SafeBag};
 ghost use Rattle.asn1_core.specs.Sets.{Each};
 ghost use Rattle.transfer.specs.InPlace.{AddsLocks, BagsAt, InOrder, LockFits, StandAt, locked_keys, places_of};
 ghost use Rattle.transfer.specs.Opening.{all_shrouded};
 
 use crate::store::bags::bags_at;
-use asn1_core::{Error, Items, Octets};
-use p12::{
-    AlgorithmIdentifier, AlgorithmView, BagView, OtherAlgorithmIdentifier, Pkcs12PbeParams, Place,
-};
+use asn1_core::{Error, Items};
+use p12::{AlgorithmIdentifier, BagView, Place};
 use std::alloc::Global;
 
 /// What opens an encrypted key, and where its octets stand. A view of the key would borrow the text that it is opened in.
@@ -18,49 +15,6 @@ use std::alloc::Global;
 pub(crate) struct KeyLock {
     pub(crate) algorithm: AlgorithmIdentifier,
     pub(crate) at: Place,
-}
-
-/// The parameters of a scheme, in memory of their own. The only refusal is `Memory`.
-fn params_of(alloc: Global, salt: &[u8], iterations: u64) -> Result<Pkcs12PbeParams, Error>
-    ensures ok { IfOk result
-        (λ params. (params.salt ≡ salt.now) × (params.iterations ≡ iterations)) }
-    ensures err { IfErr result (λ e. e ≡ Error.Memory) }
-{
-    Ok(Pkcs12PbeParams {
-        salt: Octets::from_slice(alloc, salt)?,
-        iterations,
-    })
-}
-
-/// An algorithm in memory of its own. The only refusal is `Memory`.
-fn algorithm_of(alloc: Global, view: &AlgorithmView<'_>) -> Result<AlgorithmIdentifier, Error>
-    ensures ok { IfOk result (λ algorithm. algorithm ≡ seen_algorithm view.now) }
-    ensures err { IfErr result (λ e. e ≡ Error.Memory) }
-{
-    Ok(match view {
-        AlgorithmView::Sha1 => AlgorithmIdentifier::Sha1,
-        AlgorithmView::Sha256 => AlgorithmIdentifier::Sha256,
-        AlgorithmView::Rc2 { salt, iterations } => AlgorithmIdentifier::PbewithSHAAnd40BitRC2CBC(
-            params_of(alloc, salt, *iterations)?,
-        ),
-        AlgorithmView::TripleDes { salt, iterations } => {
-            AlgorithmIdentifier::PbeWithSHAAnd3KeyTripleDESCBC(params_of(alloc, salt, *iterations)?)
-        }
-        AlgorithmView::Pbes2(parameters) => AlgorithmIdentifier::Pbes2(*parameters),
-        AlgorithmView::Other {
-            algorithm_type,
-            params,
-        } => {
-            let params = match params {
-                Some(params) => Some(Octets::from_slice(alloc, params)?),
-                None => None,
-            };
-            AlgorithmIdentifier::OtherAlg(OtherAlgorithmIdentifier {
-                algorithm_type: *algorithm_type,
-                params,
-            })
-        }
-    })
 }
 
 /// Adds the locks of the encrypted keys among the bags that stand at a place, in order.
@@ -84,7 +38,7 @@ fn add_locks(
                     start: place.start + at.start,
                     len: at.len,
                 };
-                let algorithm = algorithm_of(alloc, &algorithm)?;
+                let algorithm = algorithm.owned(alloc)?;
                 locks.push(KeyLock { algorithm, at })?;
             }
             BagView::X509(_) | BagView::Sdsi(_) | BagView::Other { .. } => {}

@@ -1,32 +1,26 @@
 //! The opened text of an encrypted key (RFC 5958 section 2).
-ghost use Rattle.std.specs.Prelude.{◌≡◌, true, false};
-ghost use Rattle.der_core.specs.BitString.{seen_bits};
-ghost use Rattle.spki.specs.Seen.{borrowed_any};
-ghost use Rattle.pkcs8.specs.Seen.{IsPrivateKey, seen_private_key};
-ghost use Rattle.transfer.specs.Opening.{IsKeyText, NoKeyText};
+ghost use Rattle.std.specs.Prelude.{◌≡◌, ◌≤◌, length, None, IfSome};
+ghost use Rattle.transfer.specs.InPlace.{IsOpenedKey};
+ghost use Rattle.transfer.specs.Limits.{store_limit};
+ghost use Rattle.transfer.specs.Opening.{NoKeyText};
 
 use pkcs8::PrivateKeyInfoRef;
 
-/// Whether the octets are the text of a private key.
-pub(crate) fn is_key_text(octets: &[u8]) -> bool
-    ensures yes { result ≡ true → IsKeyText octets.now }
-    ensures no { result ≡ false → NoKeyText octets.now }
-{
-    match PrivateKeyInfoRef::try_from(octets) {
-        Ok(_) => true,
-        Err(_) => false,
-    }
+/// A private key that was opened, beside the text that it was read from.
+#[derive(Drop)]
+pub(crate) struct OpenedKey<'a> {
+    pub(crate) text: &'a [u8],
+    pub(crate) key: PrivateKeyInfoRef<'a>,
 }
 
-/// The private key of this text.
-pub(crate) fn key_of(octets: &[u8]) -> PrivateKeyInfoRef<'_>
-    requires { IsKeyText octets.now }
-    ensures { IsPrivateKey octets.now
-        (seen_private_key borrowed_any (λ s. s.octets.now)
-        (λ s. seen_bits s.unused_bits s.octets.now) result) }
+/// The private key whose text these octets are, if they are one.
+pub(crate) fn opened_key(text: &[u8]) -> Option<OpenedKey<'_>>
+    requires { length text.now ≤ store_limit }
+    ensures some { IfSome result (λ k. IsOpenedKey k × (k.text.now ≡ text.now)) }
+    ensures none { result ≡ None → NoKeyText text.now }
 {
-    match PrivateKeyInfoRef::try_from(octets) {
-        Ok(key) => key,
-        Err(_) => unreachable!(),
+    match PrivateKeyInfoRef::try_from(text) {
+        Ok(key) => Some(OpenedKey { text, key }),
+        Err(_) => None,
     }
 }

@@ -17,7 +17,7 @@ use steps::Steps;
 
 /// Opens a locked text in place, by its share of the budget, and answers the length of the plain octets, which then stand in
 /// its front.
-fn open_front<L: Ledger>(
+pub(crate) fn open_front<L: Ledger>(
     alloc: Global,
     algorithm: &AlgorithmView<'_>,
     text: &mut [u8],

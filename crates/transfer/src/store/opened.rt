@@ -1,16 +1,17 @@
 //! Opening a store for its bags and its keys.
-ghost use Rattle.std.specs.Prelude.{◌≡◌, ◌+◌, ◌≤◌, ◌<◌, ◌^◌, ℕ, All, length, IfOk, IfErr};
-ghost use Rattle.transfer.specs.InPlace.{IsKeyAt, texts_at};
+ghost use Rattle.std.specs.Prelude.{◌≡◌, ◌+◌, ◌≤◌, ◌<◌, ◌^◌, ℕ, length, IfOk, IfErr};
+ghost use Rattle.transfer.specs.InPlace.{texts_of};
 ghost use Rattle.transfer.specs.Opening.{HasVerdict, RefusedAfter, refused};
 ghost use Rattle.transfer.specs.Transferred.{IsDecided};
 ghost use Rattle.transfer.specs.Verdicts.{StoreOpens};
 
 use crate::store::bags::bags_of;
 use crate::store::error::TransferError;
+use crate::store::key_text::OpenedKey;
 use crate::store::keys::open_keys;
 use crate::store::open::{OpenedContents, open_parts};
 use asn1_core::{Error, Items, Octets};
-use p12::{Place, SafeBag};
+use p12::SafeBag;
 use std::alloc::Global;
 use std::sync::ledger::Ledger;
 use steps::Steps;
@@ -24,16 +25,14 @@ pub struct Opened {
     pub keys: Items<Octets>,
 }
 
-/// Copies of the texts that stand at these places. The only refusal is `Memory`.
-fn copies_at(alloc: Global, text: &[u8], places: &[Place]) -> Result<Items<Octets>, Error>
-    requires { All (IsKeyAt text.now) places.now }
-    ensures ok { IfOk result (λ texts. texts ≡ texts_at text.now places.now) }
+/// Copies of the texts of keys. The only refusal is `Memory`.
+fn copies_of(alloc: Global, keys: &[OpenedKey<'_>]) -> Result<Items<Octets>, Error>
+    ensures ok { IfOk result (λ texts. texts ≡ texts_of keys.now) }
     ensures err { IfErr result (λ e. e ≡ Error.Memory) }
 {
     let mut texts = Items::new(alloc);
-    for place in places {
-        let part = &text[place.start..place.start + place.len];
-        texts.push(Octets::from_slice(alloc, part)?)?;
+    for key in keys {
+        texts.push(Octets::from_slice(alloc, key.text)?)?;
     }
     Ok(texts)
 }
@@ -77,6 +76,6 @@ pub fn open_store<L: Ledger>(
         Ok(keys) => keys,
         Err(e) => return Err(e),
     };
-    let keys = copies_at(alloc, text.as_slice(), keys.as_slice())?;
+    let keys = copies_of(alloc, keys.as_slice())?;
     Ok(Opened { contents, keys })
 }

@@ -1,18 +1,16 @@
 //! Sealing private keys anew, under octets that are drawn.
 ghost use Rattle.std.specs.Prelude.{◌≡◌, ◌≤◌, ◌<◌, ◌^◌, All, length, IfOk, IfErr};
 ghost use Rattle.pkcs8.specs.declared.error.Error.TheVariants as errors;
-ghost use Rattle.transfer.specs.Limits.{rounds_limit, store_limit};
+ghost use Rattle.transfer.specs.Limits.{rounds_limit};
 ghost use Rattle.transfer.specs.Document.{IsDocument};
-ghost use Rattle.transfer.specs.InPlace.{IsKeyAt, texts_at};
-ghost use Rattle.transfer.specs.Opening.{IsKeyText};
+ghost use Rattle.transfer.specs.InPlace.{IsOpenedKey, texts_of};
 ghost use Rattle.transfer.specs.Sealing.{Fails, Seals, SealsAll};
 ghost use Rattle.transfer.specs.TransferError.{RefusedBy};
 
 use crate::store::error::TransferError;
-use crate::store::key_text::key_of;
+use crate::store::key_text::OpenedKey;
 use asn1_core::{Items, Octets};
 use mac_modes::Draw;
-use p12::Place;
 use pkcs5::pbes2::Parameters;
 use pkcs8::{Error, private_keys_are_written, short_keys_are_encrypted, written_keys_are_shortest};
 use std::alloc::Global;
@@ -35,24 +33,23 @@ fn refusal_of(error: Error) -> TransferError
 /// The document of a key with this IV and this salt. The only refusal is `Memory`.
 fn seal_key(
     alloc: Global,
-    text: &[u8],
+    opened: &OpenedKey<'_>,
     new_password: &[u8],
     rounds: u32,
     iv: [u8; 16],
     salt: &[u8],
 ) -> Result<Octets, TransferError>
-    requires key { IsKeyText text.now }
-    requires short { length text.now ≤ store_limit }
+    requires key { IsOpenedKey opened.now }
     requires rounds { (1 ≤ rounds) × (rounds ≤ rounds_limit) }
     requires salt { length salt.now ≡ 16 }
     ensures ok { IfOk result
-        (λ document. IsDocument document rounds iv salt.now new_password.now text.now) }
+        (λ document. IsDocument document rounds iv salt.now new_password.now opened.now.text.now) }
     ensures err { IfErr result (λ e. e ≡ TransferError.Memory) }
 {
-    let key = key_of(text);
-    private_keys_are_written(&key);
+    let key = &opened.key;
+    private_keys_are_written(key);
     written_keys_are_shortest();
-    short_keys_are_encrypted(&key);
+    short_keys_are_encrypted(key);
     let Ok(parameters) = Parameters::generate_pbkdf2_sha256_aes256cbc(rounds, salt, iv) else {
         unreachable!()
     };
@@ -66,17 +63,16 @@ fn seal_key(
 /// Seals one key under the next 16 octets drawn as IV, and the next 16 as salt.
 fn seal<D: Draw>(
     alloc: Global,
-    text: &[u8],
+    opened: &OpenedKey<'_>,
     new_password: &[u8],
     rounds: u32,
     draw: &mut D,
 ) -> Result<Octets, TransferError>
-    requires key { IsKeyText text.now }
-    requires short { length text.now ≤ store_limit }
+    requires key { IsOpenedKey opened.now }
     requires rounds { (1 ≤ rounds) × (rounds ≤ rounds_limit) }
     ensures count { D.faults draw.old ≤ D.faults draw.new }
     ensures sealed { IfOk result (λ document. Seals rounds new_password.now (D.left draw.old)
-        (D.left draw.new) text.now document) }
+        (D.left draw.new) opened.now.text.now document) }
     ensures cause { IfErr result
         (RefusedBy (λ e. ⊥) (Fails (D.faults draw.old) (D.faults draw.new) (D.left draw.old) 1)) }
 {
@@ -87,33 +83,30 @@ fn seal<D: Draw>(
         Err(_) => return Err(TransferError::Rng),
     }
     match draw.fill(&mut salt) {
-        Ok(()) => seal_key(alloc, text, new_password, rounds, iv, &salt),
+        Ok(()) => seal_key(alloc, opened, new_password, rounds, iv, &salt),
         Err(_) => Err(TransferError::Rng),
     }
 }
 
-/// Seals the keys whose texts stand at these places, in order, under the octets of a draw, 32 for each.
+/// Seals the keys, in order, under the octets of a draw, 32 for each.
 pub(crate) fn seal_all<D: Draw>(
     alloc: Global,
-    text: &[u8],
-    keys: &[Place],
+    keys: &[OpenedKey<'_>],
     new_password: &[u8],
     rounds: u32,
     draw: &mut D,
 ) -> Result<Items<Octets>, TransferError>
-    requires keys { All (IsKeyAt text.now) keys.now }
-    requires short { length text.now ≤ store_limit }
+    requires keys { All IsOpenedKey keys.now }
     requires rounds { (1 ≤ rounds) × (rounds ≤ rounds_limit) }
     ensures count { D.faults draw.old ≤ D.faults draw.new }
     ensures sealed { IfOk result (λ documents. SealsAll rounds new_password.now (D.left draw.old)
-        (D.left draw.new) (texts_at text.now keys.now) documents) }
+        (D.left draw.new) (texts_of keys.now) documents) }
     ensures cause { IfErr result
         (RefusedBy (λ e. ⊥) (Fails (D.faults draw.old) (D.faults draw.new) (D.left draw.old)
         (length keys.now))) }
 {
     let mut documents = Items::new(alloc);
-    for place in keys {
-        let key = &text[place.start..place.start + place.len];
+    for key in keys {
         match seal(alloc, key, new_password, rounds, draw) {
             Ok(document) => documents.push(document)?,
             Err(e) => return Err(e),

@@ -72,14 +72,7 @@ pub fn transfer<D: Draw, L: Ledger>(
         Ok(keys) => keys,
         Err(e) => return Err(e),
     };
-    match seal_all(
-        alloc,
-        text.as_slice(),
-        keys.as_slice(),
-        new_password,
-        rounds,
-        draw,
-    ) {
+    match seal_all(alloc, keys.as_slice(), new_password, rounds, draw) {
         Ok(documents) => Ok(Transferred {
             certificates,
             documents,

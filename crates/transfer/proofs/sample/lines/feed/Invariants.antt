@@ -1,5 +1,5 @@
 use Rattle.std.proofs.Common.{ℕ, List, ◌++◌, take}
-use Rattle.transfer.specs.DueText.{joined}
+use Rattle.frame.specs.DueText.{joined}
 use Rattle.transfer.proofs.sample.lines.feed.Given as goal
 
 abbrev pub invariant-loop-line : goal.invariant-loop-line

@@ -1,13 +1,13 @@
-use Rattle.std.proofs.Common.{◌≡◌, ◌∷◌, ◌∙◌, List, arith, ap, subst, rules, sym}
+use Rattle.std.proofs.Common.{◌≡◌, ◌∷◌, ◌∙◌, List, arith, ap, subst, rules, take, drop}
 use Rattle.transfer.specs.declared.store.key_locks.KeyLock.{KeyLock}
-use Rattle.transfer.specs.InPlace.{locked_key}
+use Rattle.transfer.specs.InPlace.{key_with}
 use Rattle.transfer.specs.Opening.{KeyFault, RefusedAfter}
 use Rattle.transfer.proofs.KeysInPlace.{Unlocking, unlock_fault, unlocks_first, unlocks_on}
 use Rattle.transfer.proofs.store.keys.open_locks.Goals as goal
 
 pub loop-lock-init : goal.loop-lock-init
 loop-lock-init g c = record {
-  done = rw (c.new-places.ensures) (unlocks_first c.args.password.now c.args.budget.now.limit c.args.budget.now.spent c.args.locks.now c.args.text.now c.requires.order c.requires.fit c.args.budget.now.within);
+  done = rw (c.new-keys.ensures) (unlocks_first c.args.password.now c.args.budget.now.limit c.args.budget.now.spent c.args.locks.now c.args.text.now c.requires.order c.requires.fit c.args.budget.now.within);
   same = search rules;
   steps = omega arith;
 }
@@ -17,10 +17,11 @@ returns-in-Err-clause-refused g c =
     let i = c.loop-lock.invariant in
     let b = c.args.budget.now in
     let rest : c.loop-lock.rest.now ≡ c.in-Some.lock.now ∷ c.in-Some.behind.now = search rules in
-    unlock_fault c.args.password.now b.limit b.spent c.args.locks.now c.in-Some.lock.now c.in-Some.behind.now c.args.text.now c.loop-lock.text c.loop-lock.places c.loop-lock.budget.spent
-    (subst (λ (t : List KeyLock). Unlocking c.args.password.now b.limit b.spent c.args.locks.now t c.args.text.now c.loop-lock.text c.loop-lock.places c.loop-lock.budget.spent) rest i.done)
+    unlock_fault c.args.password.now b.limit b.spent c.args.locks.now c.in-Some.lock.now c.in-Some.behind.now c.args.text.now c.loop-lock.left.now c.loop-lock.passed c.loop-lock.keys c.loop-lock.budget.spent
+    (subst (λ (t : List KeyLock). Unlocking c.args.password.now b.limit b.spent c.args.locks.now t c.args.text.now c.loop-lock.left.now c.loop-lock.passed c.loop-lock.keys c.loop-lock.budget.spent) rest i.done)
+    _ _ (c.split_at_mut-octets.ensures.front ∙ ap (take c.in-Some.lock.now.at.len) c.split_at_mut-from.ensures.back) (c.split_at_mut-octets.ensures.back ∙ ap (drop c.in-Some.lock.now.at.len) c.split_at_mut-from.ensures.back)
     c.args.steps.now c.loop-lock.steps c.open_key.new.steps c.in-Err.e i.steps
-    (subst (λ limit. RefusedAfter (KeyFault c.args.password.now limit c.loop-lock.budget.spent (locked_key c.loop-lock.text c.in-Some.lock.now)) c.loop-lock.steps c.open_key.new.steps c.in-Err.e) i.same c.in-Err.ensures.refused)
+    (subst (λ limit. RefusedAfter (KeyFault c.args.password.now limit c.loop-lock.budget.spent (key_with c.in-Some.lock.now.algorithm c.split_at_mut-octets.result.0.now)) c.loop-lock.steps c.open_key.new.steps c.in-Err.e) i.same c.in-Err.ensures.refused)
 
 pub loop-lock-preserved : goal.loop-lock-preserved
 loop-lock-preserved g c =
@@ -29,9 +30,10 @@ loop-lock-preserved g c =
     let o = c.in-Ok.ensures.opened in
     let rest : c.loop-lock.rest.now ≡ c.in-Some.lock.now ∷ c.in-Some.behind.now = search rules in
     record {
-      done = rw (c.in_ok-push-in-Ok.ensures.ok) (unlocks_on c.args.password.now b.limit b.spent c.args.locks.now c.in-Some.lock.now c.in-Some.behind.now c.args.text.now c.loop-lock.text c.loop-lock.places c.loop-lock.budget.spent
-          (subst (λ (t : List KeyLock). Unlocking c.args.password.now b.limit b.spent c.args.locks.now t c.args.text.now c.loop-lock.text c.loop-lock.places c.loop-lock.budget.spent) rest i.done)
-          c.open_key.new.text c.in-Ok.place c.open_key.new.budget.spent o.0 o.1.1 (omega (arith, c.open_key.new.budget.within, o.1.0, i.same)) c.in-Ok.ensures.lies.0 c.in-Ok.ensures.lies.1 c.in-Ok.ensures.kept);
+      done = rw (c.in_ok-push-in-Ok.ensures.ok) (unlocks_on c.args.password.now b.limit b.spent c.args.locks.now c.in-Some.lock.now c.in-Some.behind.now c.args.text.now c.loop-lock.left.now c.loop-lock.passed c.loop-lock.keys c.loop-lock.budget.spent
+          (subst (λ (t : List KeyLock). Unlocking c.args.password.now b.limit b.spent c.args.locks.now t c.args.text.now c.loop-lock.left.now c.loop-lock.passed c.loop-lock.keys c.loop-lock.budget.spent) rest i.done)
+          _ _ (c.split_at_mut-octets.ensures.front ∙ ap (take c.in-Some.lock.now.at.len) c.split_at_mut-from.ensures.back) (c.split_at_mut-octets.ensures.back ∙ ap (drop c.in-Some.lock.now.at.len) c.split_at_mut-from.ensures.back)
+          c.in-Ok.key c.open_key.new.budget.spent o.0 c.in-Ok.ensures.key o.1.1 (omega (arith, c.open_key.new.budget.within, o.1.0, i.same)));
       same = o.1.0 ∙ i.same;
       steps = omega (arith, i.steps, o.1.1, o.2);
     }

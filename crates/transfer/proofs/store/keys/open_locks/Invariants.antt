@@ -4,7 +4,7 @@ use Rattle.transfer.proofs.store.keys.open_locks.Given as goal
 
 abbrev pub invariant-loop-lock : goal.invariant-loop-lock
 invariant-loop-lock g l = record {
-  done : Unlocking l.password l.fn.budget.limit l.fn.budget.spent l.fn.locks l.rest l.fn.text l.text l.places l.budget.spent;
+  done : Unlocking l.password l.fn.budget.limit l.fn.budget.spent l.fn.locks l.rest l.fn.text l.left l.passed l.keys l.budget.spent;
   same : l.budget.limit ≡ l.fn.budget.limit;
   steps : l.steps + l.fn.budget.spent ≡ l.fn.steps + l.budget.spent;
 }

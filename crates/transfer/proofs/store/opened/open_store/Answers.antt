@@ -1,13 +1,12 @@
-use Rattle.std.proofs.Common.{◌∙◌, ℕ, ◌+◌, ◌≡◌, arith, subst, sym}
+use Rattle.std.proofs.Common.{◌+◌, ◌≡◌, arith, subst, sym}
 use Rattle.std.specs.List.{sum_by}
 use Rattle.transfer.specs.declared.store.opened.Opened.{Opened}
-use Rattle.transfer.specs.InPlace.{BagsAt, texts_at}
+use Rattle.transfer.specs.InPlace.{texts_of}
 use Rattle.transfer.specs.Opening.{HasVerdict, all_shrouded, key_share, refused}
 use Rattle.transfer.specs.Verdicts.{StoreOpens}
 use Rattle.transfer.proofs.BagsInPlace.{bags_alike}
-use Rattle.transfer.proofs.KeysInPlace.{keys_stand}
 use Rattle.transfer.proofs.Rows.{opened_so, refused_so}
-use Rattle.transfer.proofs.Settling.{decided_err, decided_memory, decided_ok, refused_undrawn}
+use Rattle.transfer.proofs.Settling.{decided_err, decided_ok, refused_undrawn}
 use Rattle.transfer.proofs.Valid.{verdict_open}
 use Rattle.transfer.proofs.store.opened.open_store.Goals as goal
 
@@ -30,22 +29,16 @@ returns-in-Err-open_keys-clause-exact g c =
     (refused_so (HasVerdict c.args.store.now c.args.password.now c.args.limit) c.args.password.now c.args.limit c.in-Ok.opened.budget.limit c.in-Ok.opened.text c.in-Ok.opened.places c.in-Ok.opened.budget.spent o.0 o.1
     c.args.steps.now c.open_parts.new.steps c.open_keys.new.steps c.in-Err-open_keys.e o.2 (c.in-Err-open_keys.ensures.refused o.0.bags (rw (c.as_slice-places.ensures) o.0.stand.each))))
 
-pub copies_at-requires : goal.copies_at-requires
-copies_at-requires g c =
-    let o = c.in-Ok.ensures.opened in
-    let a = c.in-Ok-open_keys.ensures.opened o.0.bags (rw (c.as_slice-places.ensures) o.0.stand.each) in
-    rw (c.as_slice-2.ensures, c.as_slice-3.ensures) (keys_stand c.args.password.now (all_shrouded o.0.bags) c.open_keys.new.text 0 c.in-Ok-open_keys.keys a.0.each c.in-Ok-open_keys.ensures.order)
-
 pub returns-clause-opened : goal.returns-clause-opened
 returns-clause-opened g c =
     let o = c.in-Ok.ensures.opened in
     let each = o.0.stand.each in
     let a = c.in-Ok-open_keys.ensures.opened o.0.bags (rw (c.as_slice-places.ensures) each) in
-    let texts = texts_at c.open_keys.new.text c.in-Ok-open_keys.keys in
+    let texts = texts_of c.in-Ok-open_keys.keys in
     let n = c.in-Ok.opened.budget.spent + sum_by key_share (all_shrouded o.0.bags) in
     let v = opened_so (HasVerdict c.args.store.now c.args.password.now c.args.limit) c.args.password.now c.args.limit c.in-Ok.opened.budget.limit c.in-Ok.opened.text c.in-Ok.opened.places c.in-Ok.opened.budget.spent o.0 o.1 texts a.0 in
     let w = verdict_open c.args.store.now c.args.password.now c.args.limit o.0.bags texts n v in
-    let same : c.in_ok-keys.keys ≡ texts = rw (sym c.as_slice-2.ensures, sym c.as_slice-3.ensures) c.in_ok-keys.ensures.ok in
+    let same : c.in_ok-keys.keys ≡ texts = rw (sym c.as_slice-2.ensures) c.in_ok-keys.ensures.ok in
     let bags : c.in_ok-contents.contents ≡ o.0.bags = bags_alike c.in-Ok.opened.text c.in-Ok.opened.places c.in_ok-contents.contents o.0.bags (rw (sym c.as_slice.ensures, sym c.as_slice-places.ensures) c.in_ok-contents.ensures.ok) each in
     (n, subst (λ ks. StoreOpens c.args.store.now c.args.password.now c.in_ok-contents.contents ks n) (sym same) (subst (λ gs. StoreOpens c.args.store.now c.args.password.now gs texts n) (sym bags) w.0), w.1, omega (arith, o.2, a.1))
 
@@ -53,6 +46,6 @@ pub returns-clause-exact : goal.returns-clause-exact
 returns-clause-exact g c =
     let o = c.in-Ok.ensures.opened in
     let a = c.in-Ok-open_keys.ensures.opened o.0.bags (rw (c.as_slice-places.ensures) o.0.stand.each) in
-    let texts = texts_at c.open_keys.new.text c.in-Ok-open_keys.keys in
+    let texts = texts_of c.in-Ok-open_keys.keys in
     let v = opened_so (HasVerdict c.args.store.now c.args.password.now c.args.limit) c.args.password.now c.args.limit c.in-Ok.opened.budget.limit c.in-Ok.opened.text c.in-Ok.opened.places c.in-Ok.opened.budget.spent o.0 o.1 texts a.0 in
     decided_ok Opened c.args.store.now c.args.password.now c.args.limit _ o.0.bags texts _ v

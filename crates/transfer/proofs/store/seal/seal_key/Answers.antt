@@ -12,16 +12,16 @@ pub refusal_of-requires : goal.refusal_of-requires
 refusal_of-requires c =
     let same = sym c.in-Ok.ensures.ok.0 in
     let k = gives_key c.args.rounds c.args.iv c.args.salt.now in
-    let short = c.written_keys_are_shortest.ensures c.args.text.now
-    (seen_private_key (λ a. (a.tag.first, a.value.now)) (λ s. s.octets.now) (λ s. (s.unused_bits, s.octets.now)) c.key_of-key.result) c.key_of-key.ensures in
+    let short = c.written_keys_are_shortest.ensures c.args.opened.now.text.now
+    (seen_private_key (λ a. (a.tag.first, a.value.now)) (λ s. s.octets.now) (λ s. (s.unused_bits, s.octets.now)) c.args.opened.now.key) c.requires.key.0 in
     c.short_keys_are_encrypted.ensures c.in-Ok.parameters c.args.new_password.now c.in-Err.error
     (subst AreParameters same (lawful c.args.rounds c.args.iv c.args.salt.now c.requires.rounds.1 (grind arith) c.requires.salt))
     (subst FitsKey same k.0) (subst (λ (p : Parameters). IsDes p.encryption → ⊥) same k.1)
-    (omega (arith, ap length c.private_keys_are_written.ensures, short, c.requires.short)) c.in-Err.ensures.err
+    (omega (arith, ap length c.private_keys_are_written.ensures, short, c.requires.key.1)) c.in-Err.ensures.err
 
 pub returns-clause-ok : goal.returns-clause-ok
 returns-clause-ok c =
-    sealed_document _ c.args.rounds c.args.iv c.args.salt.now c.args.new_password.now c.args.text.now
-    (seen_private_key (λ a. (a.tag.first, a.value.now)) (λ s. s.octets.now) (λ s. (s.unused_bits, s.octets.now)) c.key_of-key.result) c.key_of-key.ensures
+    sealed_document _ c.args.rounds c.args.iv c.args.salt.now c.args.new_password.now c.args.opened.now.text.now
+    (seen_private_key (λ a. (a.tag.first, a.value.now)) (λ s. s.octets.now) (λ s. (s.unused_bits, s.octets.now)) c.args.opened.now.key) c.requires.key.0
     (sealed_as _ _ _ _ _ _ _ c.in-Ok.ensures.ok.0 c.private_keys_are_written.ensures (c.in_ok-from_slice.ensures ∙ c.as_bytes.ensures.value)
     c.in-Ok-encrypt_with_params.ensures.ok)

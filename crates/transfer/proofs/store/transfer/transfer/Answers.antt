@@ -1,19 +1,15 @@
-use Rattle.std.proofs.Common.{ℕ, ◌+◌, ◌≡◌, ap, arith, sym, subst, length, map}
+use Rattle.std.proofs.Common.{ℕ, ◌+◌, ◌≡◌, arith, sym, length, map}
 use Rattle.std.specs.Prelude.{List, IfSome, ◌<◌, ◌*◌}
 use Rattle.std.specs.List.{sum_by}
 use Rattle.std.proofs.lemmas.List.{length-map}
-use Rattle.p12.specs.declared.place.Place.{Place}
 use Rattle.p12.specs.declared.safe_bag.SafeBag.{SafeBag}
-use Rattle.p12.specs.Place.{at_place}
-use Rattle.transfer.specs.declared.store.error.TransferError.{TransferError}
+use Rattle.transfer.specs.declared.store.key_text.OpenedKey.{OpenedKey}
 use Rattle.transfer.specs.declared.store.transfer.Transferred.{Transferred}
-use Rattle.transfer.specs.InPlace.{texts_at}
+use Rattle.transfer.specs.InPlace.{texts_of}
 use Rattle.transfer.specs.Opening.{HasVerdict, all_shrouded, key_share, opened, refused}
-use Rattle.transfer.specs.Sealing.{Fails}
-use Rattle.transfer.specs.Transferred.{IsRefused, RunsShort}
+use Rattle.transfer.specs.Transferred.{IsRefused}
 use Rattle.transfer.proofs.Drawn.{took_least}
 use Rattle.transfer.proofs.Faults.{refused_as}
-use Rattle.transfer.proofs.KeysInPlace.{keys_stand}
 use Rattle.transfer.proofs.Rows.{opened_so, refused_so}
 use Rattle.transfer.proofs.Settling.{settles_err, settles_memory, settles_ok, refused_undrawn}
 use Rattle.transfer.proofs.store.transfer.transfer.Goals as goal
@@ -42,15 +38,6 @@ returns-in-Err-open_keys-clause-exact g c =
     (refused_so (HasVerdict c.args.store.now c.args.password.now c.args.limit) c.args.password.now c.args.limit c.in-Ok.opened.budget.limit c.in-Ok.opened.text c.in-Ok.opened.places c.in-Ok.opened.budget.spent o.0 o.1
     c.args.steps.now c.open_parts.new.steps c.open_keys.new.steps c.in-Err-open_keys.e o.2 (c.in-Err-open_keys.ensures.refused o.0.bags (rw (c.as_slice-places.ensures) o.0.stand.each))))
 
-pub seal_all-requires-clause-keys : goal.seal_all-requires-clause-keys
-seal_all-requires-clause-keys g c =
-    let o = c.in-Ok.ensures.opened in
-    let a = c.in-Ok-open_keys.ensures.opened o.0.bags (rw (c.as_slice-places.ensures) o.0.stand.each) in
-    rw (c.as_slice-2.ensures, c.as_slice-3.ensures) (keys_stand c.args.password.now (all_shrouded o.0.bags) c.open_keys.new.text 0 c.in-Ok-open_keys.keys a.0.each c.in-Ok-open_keys.ensures.order)
-
-pub seal_all-requires-clause-short : goal.seal_all-requires-clause-short
-seal_all-requires-clause-short g c = omega (arith, ap length c.as_slice-2.ensures, c.in-Ok-open_keys.ensures.long, c.in-Ok.ensures.opened.0.short)
-
 pub returns-in-Ok-seal_all-clause-opened : goal.returns-in-Ok-seal_all-clause-opened
 returns-in-Ok-seal_all-clause-opened g c =
     let o = c.in-Ok.ensures.opened in
@@ -58,12 +45,12 @@ returns-in-Ok-seal_all-clause-opened g c =
     let a = c.in-Ok-open_keys.ensures.opened o.0.bags (rw (c.as_slice-places.ensures) each) in
     record {
       bags = o.0.bags;
-      keys = texts_at c.open_keys.new.text c.in-Ok-open_keys.keys;
+      keys = texts_of c.in-Ok-open_keys.keys;
       work = c.in-Ok.opened.budget.spent + sum_by key_share (all_shrouded o.0.bags);
       verdict = opened_so (HasVerdict c.args.store.now c.args.password.now c.args.limit) c.args.password.now c.args.limit c.in-Ok.opened.budget.limit c.in-Ok.opened.text c.in-Ok.opened.places c.in-Ok.opened.budget.spent o.0 o.1
-          (texts_at c.open_keys.new.text c.in-Ok-open_keys.keys) a.0;
+          (texts_of c.in-Ok-open_keys.keys) a.0;
       in_order = c.in_ok-certificates.ensures.ok o.0.bags (rw (c.as_slice.ensures, c.as_slice-places.ensures) each);
-      sealed = rw (sym c.as_slice-2.ensures, sym c.as_slice-3.ensures) c.in-Ok-seal_all.ensures.sealed;
+      sealed = rw (sym c.as_slice-2.ensures) c.in-Ok-seal_all.ensures.sealed;
       counted = omega (arith, o.2, a.1);
     }
 
@@ -72,23 +59,23 @@ returns-in-Ok-seal_all-clause-exact g c =
     let o = c.in-Ok.ensures.opened in
     let a = c.in-Ok-open_keys.ensures.opened o.0.bags (rw (c.as_slice-places.ensures) o.0.stand.each) in
     let s = c.in-Ok-seal_all.ensures.sealed in
-    settles_ok c.args.store.now c.args.password.now c.args.limit _ _ o.0.bags (texts_at c.open_keys.new.text c.in-Ok-open_keys.keys) _
+    settles_ok c.args.store.now c.args.password.now c.args.limit _ _ o.0.bags (texts_of c.in-Ok-open_keys.keys) _
     (opened_so (HasVerdict c.args.store.now c.args.password.now c.args.limit) c.args.password.now c.args.limit c.in-Ok.opened.budget.limit c.in-Ok.opened.text c.in-Ok.opened.places c.in-Ok.opened.budget.spent o.0 o.1
-    (texts_at c.open_keys.new.text c.in-Ok-open_keys.keys) a.0) (rw (sym c.as_slice-2.ensures, sym c.as_slice-3.ensures) (took_least _ _ s.drawn _ s.took s.each_32))
+    (texts_of c.in-Ok-open_keys.keys) a.0) (rw (sym c.as_slice-2.ensures) (took_least _ _ s.drawn _ s.took s.each_32))
 
 pub returns-clause-refused : goal.returns-clause-refused
 returns-clause-refused g c =
     let o = c.in-Ok.ensures.opened in
     let a = c.in-Ok-open_keys.ensures.opened o.0.bags (rw (c.as_slice-places.ensures) o.0.stand.each) in
-    let same = length-map c.in-Ok-open_keys.keys (λ (p : Place). at_place p c.open_keys.new.text) in
+    let same = length-map c.in-Ok-open_keys.keys (λ (k : OpenedKey). k.text.now) in
     refused_as (λ e. ⊥) (IsRefused c.args.store.now c.args.password.now c.args.limit c.args.steps.now c.open_keys.new.steps) _ _ (λ e h. absurd h)
     (λ h. record {
       bags = o.0.bags;
-      keys = texts_at c.open_keys.new.text c.in-Ok-open_keys.keys;
+      keys = texts_of c.in-Ok-open_keys.keys;
       work = c.in-Ok.opened.budget.spent + sum_by key_share (all_shrouded o.0.bags);
       verdict = opened_so (HasVerdict c.args.store.now c.args.password.now c.args.limit) c.args.password.now c.args.limit c.in-Ok.opened.budget.limit c.in-Ok.opened.text c.in-Ok.opened.places c.in-Ok.opened.budget.spent o.0 o.1
-          (texts_at c.open_keys.new.text c.in-Ok-open_keys.keys) a.0;
-      short = rw (same, sym c.as_slice-3.ensures) h;
+          (texts_of c.in-Ok-open_keys.keys) a.0;
+      short = rw (same, sym c.as_slice-2.ensures) h;
       counted = omega (arith, o.2, a.1);
     }) c.in-Err-seal_all.e c.in-Err-seal_all.ensures.cause
 
@@ -96,11 +83,11 @@ pub returns-clause-exact : goal.returns-clause-exact
 returns-clause-exact g c =
     let o = c.in-Ok.ensures.opened in
     let a = c.in-Ok-open_keys.ensures.opened o.0.bags (rw (c.as_slice-places.ensures) o.0.stand.each) in
-    let same = length-map c.in-Ok-open_keys.keys (λ (p : Place). at_place p c.open_keys.new.text) in
+    let same = length-map c.in-Ok-open_keys.keys (λ (k : OpenedKey). k.text.now) in
     let v = opened_so (HasVerdict c.args.store.now c.args.password.now c.args.limit) c.args.password.now c.args.limit c.in-Ok.opened.budget.limit c.in-Ok.opened.text c.in-Ok.opened.places c.in-Ok.opened.budget.spent o.0 o.1
-    (texts_at c.open_keys.new.text c.in-Ok-open_keys.keys) a.0 in
+    (texts_of c.in-Ok-open_keys.keys) a.0 in
     settles_err Transferred c.args.store.now c.args.password.now c.args.limit (g.D.Draw.left c.args.draw.now) c.in-Err-seal_all.e
     (refused_as (λ e. ⊥) (λ e. (n : ℕ) × HasVerdict c.args.store.now c.args.password.now c.args.limit (refused e) n) _
     ((gss : List (List SafeBag)) × (ks : List (List ℕ)) × (n : ℕ) × HasVerdict c.args.store.now c.args.password.now c.args.limit (opened gss ks) n
     × IfSome (g.D.Draw.left c.args.draw.now) (λ d. length d < 32 * length ks))
-    (λ e h. absurd h) (λ h. (o.0.bags, texts_at c.open_keys.new.text c.in-Ok-open_keys.keys, _, v, rw (same, sym c.as_slice-3.ensures) h.1)) c.in-Err-seal_all.e c.in-Err-seal_all.ensures.cause)
+    (λ e h. absurd h) (λ h. (o.0.bags, texts_of c.in-Ok-open_keys.keys, _, v, rw (same, sym c.as_slice-2.ensures) h.1)) c.in-Err-seal_all.e c.in-Err-seal_all.ensures.cause)

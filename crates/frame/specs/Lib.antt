@@ -1,0 +1,11 @@
+pub mod Status
+pub mod Stream
+pub mod DueText
+pub mod Input
+pub mod InputText
+pub mod TwoLines
+pub mod TextCause
+pub mod Calls
+pub mod Programs
+pub mod Deciding
+pub mod Lined

@@ -1,4 +1,0 @@
-use Rattle.transfer.proofs.tests.four_bags_are_transferred.Given as goal
-
-abbrev pub ghosts-has_no_certificate : goal.ghosts-has_no_certificate
-ghosts-has_no_certificate g a = record { name = a.blank.name; parts = a.blank.parts }
