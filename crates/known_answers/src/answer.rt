@@ -247,23 +247,31 @@ fn verified(alloc: Global, words: &[Octets]) -> Result<Octets, Refused>
     }
 }
 
-/// The text of a store that is made of a certificate, its key and further certificates, under a password and a name, and
-/// under drawn octets.
-fn made(
-    alloc: Global,
-    certificate: &[u8],
-    key: &[u8],
-    others: &[Octets],
-    password: &str,
-    name: &str,
-    drawn: Octets,
-) -> Result<Octets, Refused>
+/// What a store is made of.
+#[derive(Clone, Copy)]
+struct Entry<'a> {
+    certificate: &'a [u8],
+    key: &'a [u8],
+    others: &'a [Octets],
+    name: &'a str,
+}
+
+/// The text of a store that is made under a password and drawn octets.
+fn made(alloc: Global, entry: Entry<'_>, password: &str, drawn: Octets) -> Result<Octets, Refused>
     requires { length password.now ≤ 1024 }
-    ensures { IfOk result
-        (IsMade certificate.now key.now password.now name.now drawn others.now) }
+    ensures { IfOk result (IsMade entry.entry.certificate.now entry.entry.key.now
+        password.now entry.entry.name.now drawn entry.entry.others.now) }
 {
     let mut draw = DrawnBytes::new(drawn);
-    let store = PFX::new_with_cas(alloc, certificate, key, others, password, name, &mut draw)?;
+    let store = PFX::new_with_cas(
+        alloc,
+        entry.certificate,
+        entry.key,
+        entry.others,
+        password,
+        entry.name,
+        &mut draw,
+    )?;
     Ok(store.to_der(alloc)?)
 }
 
@@ -282,9 +290,13 @@ fn store_made(alloc: Global, words: &[Octets]) -> Result<Octets, Refused>
         return Err(Refused::Utf8);
     };
     let drawn = words[4].try_clone(alloc)?;
-    let certificate = words[0].as_slice();
-    let key = words[1].as_slice();
-    made(alloc, certificate, key, &words[5..], password, name, drawn)
+    let entry = Entry {
+        certificate: words[0].as_slice(),
+        key: words[1].as_slice(),
+        others: &words[5..],
+        name,
+    };
+    made(alloc, entry, password, drawn)
 }
 
 /// The text that is written of a store: a text of it.
