@@ -4,7 +4,7 @@
 #     bench/gate_lines.sh
 #
 # Lines count comments, empty lines and what contracts take. Tests are what stands in src/tests.rt, in src/tests/ and in files
-# named ..tests.rt, and the crates callers and store_callers. Laws are the lines of definitions in files named ..Laws or ..Spellings. A standard input of known answers
+# named ..tests.rt, and the crates named ..callers. Laws are the lines of definitions in files named ..Laws or ..Spellings. A standard input of known answers
 # counts for nothing.
 set -eu
 cd "$(dirname "$0")/.."

@@ -11,6 +11,8 @@ writes the store to STORE and its hexadecimal line to STORE.hex. The kinds:
     contents NUMBER       NUMBER contents of one such bag each
     count NUMBER          a certificate under Triple DES, with NUMBER as the count of the MAC and of the content
     sealed NUMBER         a certificate of NUMBER octets under Triple DES, counts 1
+    sealed-aes NUMBER     a certificate of NUMBER octets under AES-256 (PBES2, HMAC-SHA256), counts 1
+    keys NUMBER           NUMBER private keys under Triple DES, counts 1
 """
 
 import os
@@ -22,6 +24,8 @@ sys.path.insert(0, os.path.join(HOME, "tests"))
 
 import make_store as make
 from read_store import only
+
+HMAC_SHA256, AES_256_CBC = "1.2.840.113549.2.9", "2.16.840.1.101.3.4.1.42"
 
 PASSWORD = "p"
 CONTENT_SALT = bytes([8, 7, 6, 5, 4, 3, 2, 1])
@@ -65,6 +69,20 @@ def sealed_store(certificate, count):
     return with_mac(make.sequence(make.sealed(bags, PASSWORD, CONTENT_SALT, count)), count)
 
 
+def aes_store(certificate):
+    parameters = CONTENT_SALT, 1, None, HMAC_SHA256, AES_256_CBC, bytes(16)
+    bags = make.padded(make.sequence(make.certificate_bag(certificate)), 16)
+    ciphertext = make.encrypt_pbes2(PASSWORD, parameters, bags)
+    return with_mac(make.sequence(make.encrypted_data(make.pbes2(parameters), ciphertext)))
+
+
+def keys_store(number):
+    with open(os.path.join(HOME, "examples", "openssl-key", "key-0.der"), "rb") as file:
+        key = file.read()
+    bags = [make.sealed_key(key, PASSWORD, at.to_bytes(8, "big"), 1) for at in range(number)]
+    return with_mac(make.sequence(make.data(make.sequence(*bags))))
+
+
 def store_of(kind, number):
     if kind == "plain":
         return of_length(number, lambda filling: plain_store(long_certificate(filling)))
@@ -78,6 +96,10 @@ def store_of(kind, number):
         return sealed_store(example_certificate(), number)
     if kind == "sealed":
         return sealed_store(of_length(number, long_certificate), 1)
+    if kind == "sealed-aes":
+        return aes_store(of_length(number, long_certificate))
+    if kind == "keys":
+        return keys_store(number)
     sys.exit(__doc__)
 
 

@@ -10,6 +10,8 @@ work=$(mktemp -d)
 trap 'rm -rf "$work"' EXIT
 # shellcheck source=tests/shared/checks.sh
 . "$home/tests/shared/checks.sh"
+# shellcheck source=tests/shared/fail_alloc.sh
+. "$home/tests/shared/fail_alloc.sh"
 
 # --- what is written ---
 
@@ -333,31 +335,9 @@ holds three_thousand_certificates_in_a_second many
 
 # --- memory ---
 
-# Each allocation fails in turn, by a library in front of the C library's.
+# Each allocation fails in turn.
 each_allocation_fails() {
-    command -v cc >/dev/null || {
-        echo "skipped each_allocation_fails: there is no C compiler"
-        return 0
-    }
-    cat >"$work/fail_alloc.c" <<'END'
-#define _GNU_SOURCE
-#include <dlfcn.h>
-#include <stdlib.h>
-static int fails(void) {
-    static long left = -1;
-    if (left == -1) left = atol(getenv("FAIL_ALLOC"));
-    return left > 0 && --left == 0;
-}
-void *malloc(size_t size) {
-    void *(*next)(size_t) = (void *(*)(size_t))dlsym(RTLD_NEXT, "malloc");
-    return fails() ? NULL : next(size);
-}
-void *realloc(void *old, size_t size) {
-    void *(*next)(void *, size_t) = (void *(*)(void *, size_t))dlsym(RTLD_NEXT, "realloc");
-    return fails() ? NULL : next(old, size);
-}
-END
-    cc -shared -fPIC -o "$work/fail_alloc.so" "$work/fail_alloc.c" -ldl || return 1
+    make_fail_alloc || return 0
     number=0
     code=7
     while [ "$code" -eq 7 ] && [ "$number" -lt 1000 ]; do

@@ -6,6 +6,8 @@ set -eu
 home=$(cd "$(dirname "$0")/.." && pwd)
 # shellcheck source=tests/shared/building.sh
 . "$home/tests/shared/building.sh"
+# shellcheck source=tests/shared/statuses.sh
+. "$home/tests/shared/statuses.sh"
 if [ -n "${PROGRAM-}" ]; then
     program=$PROGRAM
 else
@@ -14,26 +16,6 @@ fi
 work=$(mktemp -d)
 trap 'rm -rf "$work"' EXIT
 failed=0
-
-# The exit code of a status.
-code_of() {
-    case $1 in
-        Done) echo 0 ;;
-        Malformed) echo 10 ;;
-        Unsupported) echo 11 ;;
-        MacMissing) echo 12 ;;
-        MacUnsupported) echo 13 ;;
-        ZeroIterations) echo 14 ;;
-        WorkLimit) echo 15 ;;
-        MacMismatch) echo 16 ;;
-        ContentMalformed) echo 17 ;;
-        DecryptFailed) echo 18 ;;
-        KeyMalformed) echo 19 ;;
-        Rng) echo 20 ;;
-        TooLong) echo 21 ;;
-        *) echo none ;;
-    esac
-}
 
 # A line with the label $1 for each of the items $2, which commas part.
 lines() {

@@ -108,6 +108,7 @@ def written_stores():
         print("pkcs12-written", word(text), "= !Malformed")
 
 
-made_stores()
-print()
-written_stores()
+if __name__ == "__main__":
+    made_stores()
+    print()
+    written_stores()

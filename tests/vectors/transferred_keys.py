@@ -1,10 +1,10 @@
-"""Writes stores with encrypted private keys, and what their transfer has to write, for the tests of the crate transfer.
+"""Writes stores with encrypted private keys, and what their transfer has to write, for tests/transfers.sh.
 
 Run at the top of the repository, with OpenSSL 3 and the package `cryptography`:
 
     PYTHONPATH=tests python3 tests/vectors/transferred_keys.py
 
-It writes crates/transfer/src/tests/key_rows.rt. Each document is computed under the stated initialization vector and salt by
+It writes tests/vectors/transferred_keys.txt. Each document is computed under the stated initialization vector and salt by
 `make_store`, with Python's `hashlib` and `cryptography`. The last two stores are OpenSSL's, with random keys and salts: a new run
 writes others. Last run with OpenSSL 3.0.19.
 """
@@ -21,7 +21,7 @@ from make_store import (
 )
 from read_store import SHA1
 
-ROWS = Path("crates/transfer/src/tests/key_rows.rt")
+ROWS = Path("tests/vectors/transferred_keys.txt")
 
 # A private key of Ed25519, and the octets of its secret.
 SECRET = bytes.fromhex("17ed9c73e9db649ec189a612831c5fc570238207c1aa9dfbd2c53e3ff5e5ea85")
@@ -190,35 +190,17 @@ def rows():
     yield "a store of OpenSSL", "changeit q 5 14336", made, drawn, "Done", lines([certificate], [document(key, "q", 5, drawn)])
 
 
-HEAD = '''//! Stores with encrypted private keys, and what their transfer has to write, from `tests/vectors/transferred_keys.py`.
-
-use crate::Status;
-
-/// The words behind `transfer`, the input, and the status and the text that are due.
-#[derive(Clone, Copy)]
-pub(crate) struct KeyRow {
-    pub(crate) words: &'static str,
-    pub(crate) input: &'static str,
-    pub(crate) status: Status,
-    pub(crate) written: &'static str,
-}
-
-'''
+HEAD = """# Stores with encrypted private keys, and what their transfer has to write. Made by transferred_keys.py, which says how.
+# name|the program's words|its input|status|the text that is due; an empty word is -
+"""
 
 
 def main():
     text = HEAD
-    made = list(rows())
-    text += f"pub(crate) const KEY_ROWS: [KeyRow; {len(made)}] = [\n"
-    for name, words, whole, line, status, due in made:
-        spelled = whole.hex() + "\\n" + line.hex() + "\\n"
+    for name, words, whole, line, status, due in rows():
         due = f"error: {status}\n" if due is None else due
-        text += f"    // {name}\n    KeyRow {{\n        words: \"transfer {words}\",\n        input: \"{spelled}\",\n"
-        text += f"        status: Status::{status},\n        written: \"{due.replace(chr(10), chr(92) + 'n')}\",\n    }},\n"
-    text += "];\n\n/// A store of one key under the password `p`, on one line.\n"
-    text += f'pub(crate) const ONE_KEY: &str =\n    "{store_of([sealed_key(KEY, "p", SALTS[0], 1)], "p").hex()}";\n\n'
-    text += "/// What is written for it under the octets 00 to 1f, the new password `q` and one round.\n"
-    text += f'pub(crate) const ONE_DOCUMENT: &str =\n    "{lines([], [document(KEY, "q", 1, octets(0, 32))])[:-1]}\\n";\n'
+        fields = name, f"transfer {words}", f"{whole.hex()}\n{line.hex()}\n", status, due
+        text += "|".join(fields).replace("\n", "\\n") + "\n"
     ROWS.write_text(text)
 
 
