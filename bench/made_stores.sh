@@ -42,6 +42,6 @@ END
 }
 
 printf '%12s %14s %10s %8s %10s\n' "certificates" "this program" "OpenSSL" ratio MiB
-for others in 0 10 100 1000 10000; do
+for others in 1 10 100 1000 10000; do
     made "$others"
 done
