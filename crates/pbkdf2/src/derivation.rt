@@ -8,8 +8,8 @@ use std::marker::Brand;
 use std::sync::ledger::{Blank, Ledger};
 use steps::Steps;
 
-/// Fills `res` with a key that is derived from a password and a salt, in this number of rounds; 0 rounds run like 1.
-/// Each answer of the function is a step. `InvalidLength` exactly where the function does not take the password as its
+/// Fills `res` with a key that is derived from a password and a salt, in this number of rounds (RFC 8018 section 5.2);
+/// 0 rounds run like 1. Each answer of the function is a step. `InvalidLength` exactly where the function does not take the password as its
 /// key; then nothing changes. Caller: `res` has fewer than 2^32 blocks of `P::OUTPUT` octets.
 pub fn pbkdf2_counted<P: Prf, L: Ledger>(
     password: &[u8],
@@ -62,8 +62,8 @@ fn pbkdf2_from<P: Prf, L: Ledger>(
     pbkdf2_counted::<P, L>(password, salt, rounds, res, &mut steps)
 }
 
-/// Fills `res` with a key that is derived from a password and a salt, in this number of rounds; 0 rounds run like 1.
-/// `InvalidLength` exactly where the function does not take the password as its key; `res` is then unchanged. Caller:
+/// Fills `res` with a key that is derived from a password and a salt, in this number of rounds (RFC 8018 section 5.2);
+/// 0 rounds run like 1. `InvalidLength` exactly where the function does not take the password as its key; `res` is then unchanged. Caller:
 /// `res` has fewer than 2^32 blocks of `P::OUTPUT` octets.
 pub fn pbkdf2<P: Prf>(
     password: &[u8],
@@ -81,7 +81,8 @@ pub fn pbkdf2<P: Prf>(
     pbkdf2_from::<P, Brand>(password, salt, rounds, res, Blank::new(1))
 }
 
-/// `pbkdf2` that answers an array of `N` octets. Caller: they are fewer than 2^32 blocks of `P::OUTPUT` octets.
+/// `pbkdf2` that answers an array of `N` octets. `InvalidLength` as there. Caller: they are fewer than 2^32 blocks of
+/// `P::OUTPUT` octets.
 pub fn pbkdf2_array<P: Prf, const N: usize>(
     password: &[u8],
     salt: &[u8],

@@ -35,8 +35,9 @@ impl Pbkdf2 {
         Pbkdf2 { algorithm, params }
     }
 
-    /// Fills `out` with a key that is derived from a password and a salt. Caller: `out` has fewer than 2^32 blocks of the
-    /// algorithm.
+    /// Fills `out` with a key that is derived from a password and a salt (RFC 8018 section 5.2), in the number of rounds of
+    /// the parameters; their output length does not count. Nothing is refused. Caller: `out` has fewer than 2^32 blocks of
+    /// the algorithm's output.
     pub fn hash_password_into(&self, password: &[u8], salt: &[u8], out: &mut [u8])
         requires { block_count (length out.old) (output_of self.now.algorithm) < 2 ^ 32 }
         ensures { out.new ≡ derived self.now.algorithm password.now salt.now self.now.params.rounds

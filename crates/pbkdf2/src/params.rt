@@ -30,13 +30,13 @@ impl Model for Params {
 }
 
 impl Params {
-    /// The least length of an output.
+    /// The least length of an output, in octets.
     pub const MIN_OUTPUT_LENGTH: usize = 10;
-    /// The greatest length of an output.
+    /// The greatest length of an output, in octets.
     pub const MAX_OUTPUT_LENGTH: usize = 64;
     /// The least number of rounds.
     pub const MIN_ROUNDS: u32 = 1000;
-    /// The recommended length of an output.
+    /// The recommended length of an output, in octets.
     pub const RECOMMENDED_OUTPUT_LENGTH: usize = 32;
     /// The recommended number of rounds of HMAC-SHA-256 (OWASP's cheat sheet on password storage).
     pub const RECOMMENDED_ROUNDS: u32 = 600_000;

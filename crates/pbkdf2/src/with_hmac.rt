@@ -12,7 +12,7 @@ use std::sync::ledger::Ledger;
 use steps::Steps;
 
 /// Fills `res` with a key that is derived from a password and a salt by HMAC over this hash function, in this number of
-/// rounds; 0 rounds run like 1. Caller: `res` has fewer than 2^32 blocks of `H::OUTPUT` octets.
+/// rounds (RFC 8018 section 5.2); 0 rounds run like 1. Caller: `res` has fewer than 2^32 blocks of `H::OUTPUT` octets.
 pub fn pbkdf2_hmac<H: HashFn>(password: &[u8], salt: &[u8], rounds: u32, res: &mut [u8])
     requires { block_count (length res.old) H.OUTPUT < 2 ^ 32 }
     ensures { res.new ≡ pbkdf2 (hmac H.digest H.BLOCK password.now) H.OUTPUT salt.now rounds
@@ -21,7 +21,7 @@ pub fn pbkdf2_hmac<H: HashFn>(password: &[u8], salt: &[u8], rounds: u32, res: &m
     let _ = pbkdf2::<Hmac<H>>(password, salt, rounds, res);
 }
 
-/// `pbkdf2_hmac` that counts each answer of HMAC as a step.
+/// `pbkdf2_hmac` that counts each answer of HMAC as a step. Caller: as there.
 pub fn pbkdf2_hmac_counted<H: HashFn, L: Ledger>(
     password: &[u8],
     salt: &[u8],
@@ -52,7 +52,8 @@ pub fn pbkdf2_hmac_array<H: HashFn, const N: usize>(
 }
 
 /// Fills `out` with a key that is derived from a password and a salt by this algorithm, in the parameters' number of
-/// rounds. The parameters' output length does not come in. Caller: `out` has fewer than 2^32 blocks of the algorithm.
+/// rounds (RFC 8018 section 5.2). The output length of the parameters does not count: `out` is filled. Caller: `out` has
+/// fewer than 2^32 blocks of the algorithm's output.
 pub fn pbkdf2_hmac_with_params(
     password: &[u8],
     salt: &[u8],

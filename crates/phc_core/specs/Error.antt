@@ -3,7 +3,7 @@ use Rattle.std.specs.Prelude.{ℕ, List, codes}
 use Rattle.phc_core.specs.declared.error.Error.{Error}
 use Rattle.phc_core.specs.declared.error.Error.TheVariants.{Algorithm, EncodingInvalid, OutputSize, ParamInvalid, ParamsInvalid, PasswordInvalid, SaltInvalid, Version, Rng, Memory}
 
--- a refusal is printed as its name
+-- a refusal is printed as its name, and want of memory in words
 abbrev pub error_text : Error → List ℕ
 error_text Algorithm = codes "Algorithm"
 error_text EncodingInvalid = codes "EncodingInvalid"
@@ -14,4 +14,4 @@ error_text PasswordInvalid = codes "PasswordInvalid"
 error_text SaltInvalid = codes "SaltInvalid"
 error_text Version = codes "Version"
 error_text Rng = codes "Rng"
-error_text Memory = codes "Memory"
+error_text Memory = codes "out of memory"

@@ -45,7 +45,7 @@ impl fmt::Display for Error {
 
     ghost output = { λ e. Some (error_text e) };
 
-    /// Prints the name of the variant.
+    /// Prints the name of the variant, and `out of memory` for `Memory`.
     fn fmt<W: fmt::Write>(&self, f: &mut fmt::Formatter<W>) -> fmt::Result {
         match self {
             Error::Algorithm => f.write_str("Algorithm"),
@@ -57,7 +57,7 @@ impl fmt::Display for Error {
             Error::SaltInvalid => f.write_str("SaltInvalid"),
             Error::Version => f.write_str("Version"),
             Error::Rng => f.write_str("Rng"),
-            Error::Memory => f.write_str("Memory"),
+            Error::Memory => f.write_str("out of memory"),
         }
     }
 }

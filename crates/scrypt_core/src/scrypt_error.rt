@@ -33,7 +33,7 @@ impl fmt::Display for ScryptError {
     fn fmt<W: fmt::Write>(&self, f: &mut fmt::Formatter<W>) -> fmt::Result {
         match self {
             ScryptError::InvalidOutputLen => f.write_str("InvalidOutputLen"),
-            ScryptError::Memory => f.write_str("Memory"),
+            ScryptError::Memory => f.write_str("out of memory"),
         }
     }
 }
