@@ -1,5 +1,5 @@
 //! Encryption schemes.
-ghost use Rattle.std.specs.Prelude.{◌≡◌, ◌↔◌, IfSome, IsSome, IfOk, IfErr, refl};
+ghost use Rattle.std.specs.Prelude.{◌≡◌, ◌≤◌, ◌↔◌, IfSome, IsSome, IfOk, IfErr, refl};
 ghost use Rattle.asn1_core.specs.Gives.{Gives};
 ghost use Rattle.asn1_core.specs.Oid.{oid_octets};
 ghost use Rattle.asn1_core.specs.Reading.{whole};
@@ -41,6 +41,7 @@ impl EncryptionScheme {
             (λ iv salt. s ≡ Pbes2 (recommended iv salt))) }
         ensures err { IfErr result (λ e. (e ≡ errors.Rng)
             × Lacks (D.faults draw.old) (D.faults draw.new) (D.left draw.old) 32) }
+        ensures count { D.faults draw.old ≤ D.faults draw.new }
     {
         Ok(EncryptionScheme::Pbes2(pbes2::Parameters::generate(draw)?))
     }

@@ -3,6 +3,7 @@ use Rattle.std.specs.Prelude.{◌≡◌, ◌⊎◌, ℕ, List, length, ⊤}
 use Rattle.asn1_core.specs.Writing.{IsOverlong}
 use Rattle.asn1_core.specs.declared.error.Error.TheVariants as asn1
 use Rattle.der_core.specs.Document.{IsSequence}
+use Rattle.pkcs5.specs.Generation.{recommended}
 use Rattle.pkcs5.specs.Opening.{Opens}
 use Rattle.pkcs5.specs.Refusals.{RefusesToEncrypt}
 use Rattle.pkcs5.specs.SchemeOpening.{SchemeOpens, SchemeRefusesToOpen}
@@ -47,10 +48,14 @@ RefusesToEncryptKey writable par q m e = ⊥
 
 -- ---- under drawn octets
 
+-- the document of the text m would be too long under the recommended parameters of an initialization vector and a salt of 16 octets each
+abbrev pub IsTooLongDrawn : List ℕ → List ℕ → Type 0
+IsTooLongDrawn q m = (iv : List ℕ) × (salt : List ℕ) × (length iv ≡ 16) × (length salt ≡ 16) × IsTooLong (recommended iv salt) q m
+
 -- why a text m is not sealed under drawn octets, which the draw lacks where `lacks` says so
 abbrev pub RefusesToSealDrawn : Type 0 → List ℕ → List ℕ → Error → Type 0
 RefusesToSealDrawn lacks q m (errors.EncryptedPrivateKey pkcs5.Rng) = lacks
-RefusesToSealDrawn lacks q m (errors.Asn1 asn1.Overlength) = (par : Parameters) × IsTooLong par q m
+RefusesToSealDrawn lacks q m (errors.Asn1 asn1.Overlength) = IsTooLongDrawn q m
 RefusesToSealDrawn lacks q m errors.Memory = ⊤
 RefusesToSealDrawn lacks q m e = ⊥
 
@@ -58,6 +63,6 @@ RefusesToSealDrawn lacks q m e = ⊥
 abbrev pub RefusesToEncryptDrawn : Type 0 → Type 0 → List ℕ → List ℕ → Error → Type 0
 RefusesToEncryptDrawn writable lacks q m (errors.EncryptedPrivateKey pkcs5.Rng) = writable × lacks
 RefusesToEncryptDrawn writable lacks q m (errors.Asn1 asn1.Malformed) = ¬ writable
-RefusesToEncryptDrawn writable lacks q m (errors.Asn1 asn1.Overlength) = IsOverlong (length m) ⊎ ((par : Parameters) × IsTooLong par q m)
+RefusesToEncryptDrawn writable lacks q m (errors.Asn1 asn1.Overlength) = IsOverlong (length m) ⊎ IsTooLongDrawn q m
 RefusesToEncryptDrawn writable lacks q m errors.Memory = ⊤
 RefusesToEncryptDrawn writable lacks q m e = ⊥

@@ -1,5 +1,5 @@
 //! Key types that private keys are stored from.
-ghost use Rattle.std.specs.Prelude.{◌≡◌, ◌⊎◌, List, ℕ, IfOk, IfErr, OnOk};
+ghost use Rattle.std.specs.Prelude.{◌≡◌, ◌≤◌, ◌⊎◌, List, ℕ, IfOk, IfErr, OnOk};
 ghost use Rattle.asn1_core.specs.declared.error.Error.TheVariants as below;
 ghost use Rattle.outside.specs.Draw.{DrawsIvAndSalt, Lacks};
 ghost use Rattle.pkcs5.specs.Generation.{recommended};
@@ -48,6 +48,7 @@ pub trait EncodePrivateKey {
         ensures undrawn { IfErr result (λ e. (draw.new ≡ draw.old) ⊎ ((m : List ℕ)
             × text self.now m × RefusesToSealDrawn (Lacks (D.faults draw.old) (D.faults draw.new)
             (D.left draw.old) 32) password.now m e)) }
+        ensures count { D.faults draw.old ≤ D.faults draw.new }
     {
         match self.to_pkcs8_der(alloc) {
             Ok(document) => seal_drawn(alloc, draw, password, document.as_bytes()),

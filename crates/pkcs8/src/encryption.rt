@@ -1,5 +1,5 @@
 //! Encrypting private keys.
-ghost use Rattle.std.specs.Prelude.{◌≡◌, ◌⊎◌, length, None, IfOk, IfErr, OnOk};
+ghost use Rattle.std.specs.Prelude.{◌≡◌, ◌≤◌, ◌⊎◌, length, None, IfOk, IfErr, OnOk};
 ghost use Rattle.asn1_core.specs.Writing.{Cause, IsOverlong};
 ghost use Rattle.outside.specs.Draw.{DrawsIvAndSalt, Lacks};
 ghost use Rattle.pkcs5.specs.Generation.{recommended};
@@ -81,6 +81,7 @@ pub(crate) fn seal_drawn<D: Draw>(
         (λ e. RefusesToSealDrawn (Lacks (D.faults draw.old) (D.faults draw.new)
         (D.left draw.old) 32)
         password.now text.now e) }
+    ensures count { D.faults draw.old ≤ D.faults draw.new }
 {
     match pbes2::Parameters::generate_recommended(draw) {
         Ok(parameters) => seal(alloc, parameters, password, text),
@@ -113,11 +114,12 @@ impl<Params: Encode, Key: Encode, PubKey: BitStringLike> PrivateKeyInfo<Params, 
         ensures undrawn { IfErr result (λ e. (draw.new ≡ draw.old) ⊎ RefusesToSealDrawn
             (Lacks (D.faults draw.old) (D.faults draw.new) (D.left draw.old) 32) password.now
             (⟦<PrivateKeyInfo<Params, Key, PubKey> as Encode>⟧.canon self.now) e) }
+        ensures count { D.faults draw.old ≤ D.faults draw.new }
     {
         self.encrypt_with_rng(alloc, draw, password)
     }
 
-    /// `encrypt`.
+    /// `encrypt`, under the name that Rust's crate has for it; refusals as there.
     pub fn encrypt_with_rng<D: Draw>(
         &self,
         alloc: Global,
@@ -136,6 +138,7 @@ impl<Params: Encode, Key: Encode, PubKey: BitStringLike> PrivateKeyInfo<Params, 
         ensures undrawn { IfErr result (λ e. (draw.new ≡ draw.old) ⊎ RefusesToSealDrawn
             (Lacks (D.faults draw.old) (D.faults draw.new) (D.left draw.old) 32) password.now
             (⟦<PrivateKeyInfo<Params, Key, PubKey> as Encode>⟧.canon self.now) e) }
+        ensures count { D.faults draw.old ≤ D.faults draw.new }
     {
         match self.to_der(alloc) {
             Ok(text) => seal_drawn(alloc, draw, password, text.as_slice()),

@@ -40,8 +40,7 @@ use std::fmt;
 /// ```
 ///
 /// The tags are implicit. Attributes, and further fields with the numbers 2 to 30, are read over: they are neither
-/// looked at
-/// nor kept.
+/// looked at nor kept.
 #[derive(Clone, PartialEq, Eq, Drop)]
 pub struct PrivateKeyInfo<Params, Key, PubKey> {
     /// The algorithm of the key.

@@ -40,6 +40,7 @@ fn draw_both<D: Draw>(draw: &mut D) -> Result<Drawn>
         (λ iv salt. (d.iv ≡ iv) × (d.salt ≡ salt))) }
     ensures err { IfErr result (λ e. (e ≡ Error.Rng)
         × Lacks (D.faults draw.old) (D.faults draw.new) (D.left draw.old) 32) }
+    ensures count { D.faults draw.old ≤ D.faults draw.new }
 {
     let mut iv = [0u8; 16];
     let mut salt = [0u8; 16];
@@ -54,22 +55,24 @@ fn draw_both<D: Draw>(draw: &mut D) -> Result<Drawn>
 }
 
 impl Parameters {
-    /// What is recommended: `generate_recommended`.
+    /// What is recommended: `generate_recommended`. `Rng` as there.
     pub fn generate<D: Draw>(draw: &mut D) -> Result<Parameters>
         ensures ok { IfOk result (λ p. DrawsIvAndSalt (D.left draw.old) (D.left draw.new)
             (λ iv salt. p ≡ recommended iv salt)) }
         ensures err { IfErr result (λ e. (e ≡ Error.Rng)
             × Lacks (D.faults draw.old) (D.faults draw.new) (D.left draw.old) 32) }
+        ensures count { D.faults draw.old ≤ D.faults draw.new }
     {
         Parameters::generate_recommended(draw)
     }
 
-    /// scrypt with 2^14 turns, blocks of 8 and one piece, and AES-256-CBC, as `generate_scrypt`.
+    /// scrypt with 2^14 turns, blocks of 8 and one piece, and AES-256-CBC, as `generate_scrypt`. `Rng` as there.
     pub fn generate_recommended<D: Draw>(draw: &mut D) -> Result<Parameters>
         ensures ok { IfOk result (λ p. DrawsIvAndSalt (D.left draw.old) (D.left draw.new)
             (λ iv salt. p ≡ recommended iv salt)) }
         ensures err { IfErr result (λ e. (e ≡ Error.Rng)
             × Lacks (D.faults draw.old) (D.faults draw.new) (D.left draw.old) 32) }
+        ensures count { D.faults draw.old ≤ D.faults draw.new }
     {
         Parameters::generate_scrypt(draw)
     }
@@ -82,6 +85,7 @@ impl Parameters {
             (λ iv salt. p ≡ by_pbkdf2 iv salt)) }
         ensures err { IfErr result (λ e. (e ≡ Error.Rng)
             × Lacks (D.faults draw.old) (D.faults draw.new) (D.left draw.old) 32) }
+        ensures count { D.faults draw.old ≤ D.faults draw.new }
     {
         let Drawn { iv, salt } = draw_both(draw)?;
         Ok(Parameters {
@@ -103,6 +107,7 @@ impl Parameters {
             (λ iv salt. p ≡ recommended iv salt)) }
         ensures err { IfErr result (λ e. (e ≡ Error.Rng)
             × Lacks (D.faults draw.old) (D.faults draw.new) (D.left draw.old) 32) }
+        ensures count { D.faults draw.old ≤ D.faults draw.new }
     {
         let Drawn { iv, salt } = draw_both(draw)?;
         Ok(Parameters {
@@ -117,9 +122,9 @@ impl Parameters {
         })
     }
 
-    /// PBKDF2 over HMAC-SHA-256 in this number of rounds, and AES-128-CBC. The length of the key is not stated.
-    /// `AlgorithmParametersInvalid` with PBKDF2's identifier exactly where there are more than 100,000,000 rounds, or
-    /// more than 32 octets of salt.
+    /// PBKDF2 over HMAC-SHA-256 in this number of rounds, and AES-128-CBC under an initialization vector of 16 octets.
+    /// The length of the key is not stated. `AlgorithmParametersInvalid` with PBKDF2's identifier exactly where there
+    /// are more than 100,000,000 rounds, or more than 32 octets of salt.
     pub fn generate_pbkdf2_sha256_aes128cbc(
         pbkdf2_iterations: u32,
         pbkdf2_salt: &[u8],
@@ -137,9 +142,9 @@ impl Parameters {
         })
     }
 
-    /// PBKDF2 over HMAC-SHA-256 in this number of rounds, and AES-256-CBC. The length of the key is not stated.
-    /// `AlgorithmParametersInvalid` with PBKDF2's identifier exactly where there are more than 100,000,000 rounds, or
-    /// more than 32 octets of salt.
+    /// PBKDF2 over HMAC-SHA-256 in this number of rounds, and AES-256-CBC under an initialization vector of 16 octets.
+    /// The length of the key is not stated. `AlgorithmParametersInvalid` with PBKDF2's identifier exactly where there
+    /// are more than 100,000,000 rounds, or more than 32 octets of salt.
     pub fn generate_pbkdf2_sha256_aes256cbc(
         pbkdf2_iterations: u32,
         pbkdf2_salt: &[u8],
@@ -157,9 +162,9 @@ impl Parameters {
         })
     }
 
-    /// scrypt under these costs, and AES-128-CBC. The length of the key is not stated. `AlgorithmParametersInvalid`
-    /// with scrypt's identifier exactly where there are more than 32 octets of salt, or the block size or the number
-    /// of pieces is over 65,535.
+    /// scrypt (RFC 7914 section 7) under these costs, and AES-128-CBC under an initialization vector of 16 octets. The
+    /// length of the key is not stated. `AlgorithmParametersInvalid` with scrypt's identifier exactly where there are
+    /// more than 32 octets of salt, or the block size or the number of pieces is over 65,535.
     pub fn generate_scrypt_aes128cbc(
         params: scrypt_core::Params,
         salt: &[u8],
@@ -176,9 +181,9 @@ impl Parameters {
         })
     }
 
-    /// scrypt under these costs, and AES-256-CBC. The length of the key is not stated. `AlgorithmParametersInvalid`
-    /// with scrypt's identifier exactly where there are more than 32 octets of salt, or the block size or the number
-    /// of pieces is over 65,535.
+    /// scrypt (RFC 7914 section 7) under these costs, and AES-256-CBC under an initialization vector of 16 octets. The
+    /// length of the key is not stated. `AlgorithmParametersInvalid` with scrypt's identifier exactly where there are
+    /// more than 32 octets of salt, or the block size or the number of pieces is over 65,535.
     pub fn generate_scrypt_aes256cbc(
         params: scrypt_core::Params,
         salt: &[u8],
@@ -195,9 +200,9 @@ impl Parameters {
         })
     }
 
-    /// scrypt under these costs, and AES-128-GCM. The length of the key is not stated. `AlgorithmParametersInvalid`
-    /// with scrypt's identifier exactly where there are more than 32 octets of salt, or the block size or the number
-    /// of pieces is over 65,535.
+    /// scrypt (RFC 7914 section 7) under these costs, and AES-128-GCM (RFC 5084 section 3.2) under a nonce of 12 octets.
+    /// The length of the key is not stated. `AlgorithmParametersInvalid` with scrypt's identifier exactly where there
+    /// are more than 32 octets of salt, or the block size or the number of pieces is over 65,535.
     pub fn scrypt_aes128gcm(
         params: scrypt_core::Params,
         salt: &[u8],
@@ -214,9 +219,9 @@ impl Parameters {
         })
     }
 
-    /// scrypt under these costs, and AES-256-GCM. The length of the key is not stated. `AlgorithmParametersInvalid`
-    /// with scrypt's identifier exactly where there are more than 32 octets of salt, or the block size or the number
-    /// of pieces is over 65,535.
+    /// scrypt (RFC 7914 section 7) under these costs, and AES-256-GCM (RFC 5084 section 3.2) under a nonce of 12 octets.
+    /// The length of the key is not stated. `AlgorithmParametersInvalid` with scrypt's identifier exactly where there
+    /// are more than 32 octets of salt, or the block size or the number of pieces is over 65,535.
     pub fn scrypt_aes256gcm(
         params: scrypt_core::Params,
         salt: &[u8],
