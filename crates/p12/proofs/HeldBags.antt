@@ -5,13 +5,14 @@ use Rattle.std.proofs.lemmas.List.{append_assoc, append-nil, take-append-drop, t
 use Rattle.std.proofs.lemmas.List.Elements.{All-append}
 use Rattle.p12.specs.Collected.{ContentFault, FirstFault, HoldAll, HoldsBags, Refuses}
 use Rattle.p12.specs.Error.{MalformedOnly}
-use Rattle.p12.specs.ContentInfo.{ContentFits, IsContents}
+use Rattle.p12.specs.ContentInfo.{ContentFits, IsContents, SealFits, plain_of}
 use Rattle.p12.specs.SafeBag.{BagFits}
 use Rattle.p12.specs.declared.content_info.ContentInfo.{ContentInfo}
+use Rattle.p12.specs.declared.content_info.ContentInfo.TheVariants as content
 use Rattle.p12.specs.declared.error.Error.{Error}
 use Rattle.p12.specs.declared.error.Error.TheVariants.{Malformed, Invalid, Rng, TooLong, Memory}
 use Rattle.p12.specs.declared.safe_bag.SafeBag.{SafeBag}
-use Rattle.p12.specs.Pfx.{IsStore, StoreFits}
+use Rattle.p12.specs.Pfx.{IsStore, OpeningFits, StoreFits}
 use Rattle.p12.specs.declared.mac_data.MacData.{MacData}
 use Rattle.p12.specs.declared.pfx.PFX.{PFX}
 use Rattle.p12.proofs.Fits.{bags_fit, contents_fit, store_fits}
@@ -60,12 +61,35 @@ narrower : (n : ℕ) (o : Option MacData) → n ≤ 2 ^ 32 - 1 → IfSome o (λ 
 narrower n None h f = tt
 narrower n (Some m) h f = omega (arith, h, f)
 
--- contents of a list fit
-pub listed_fit : (b : List ℕ) (cs : List ContentInfo) → IsContents b cs → All (ContentFits (2 ^ 32 - 1)) cs
+-- of what holds fewer than 2 ^ 32 octets, what is encrypted and what is plain
+seal_fits : (c : ContentInfo) → ContentFits (2 ^ 32 - 1) c → SealFits c
+seal_fits (content.Data v) f = (omega arith, omega arith)
+seal_fits (content.EncryptedData d) f = (omega (arith, f.0), omega (arith, f.1))
+seal_fits (content.OtherContext o) f = (omega arith, omega arith)
+
+plain_fits : (c : ContentInfo) → ContentFits (2 ^ 32 - 1) c → length (plain_of c) < 2 ^ 32
+plain_fits (content.Data v) f = omega (arith, f.0)
+plain_fits (content.EncryptedData d) f = omega arith
+plain_fits (content.OtherContext o) f = omega arith
+
+mac_opens : (c : ContentInfo) (o : Option MacData) → length (plain_of c) < 2 ^ 32 → IfSome o (λ m. length m.salt ≤ 2 ^ 32 - 1)
+    → IfSome o (λ m. (length m.salt < 2 ^ 59) × (length (plain_of c) < 2 ^ 32))
+mac_opens c None h f = tt
+mac_opens c (Some m) h f = (omega (arith, f), h)
+
+-- so a store that fits can be opened
+narrow_opens : (s : PFX) → StoreFits (2 ^ 32 - 1) s → OpeningFits s
+narrow_opens s f = (seal_fits s.auth_safe f.0, mac_opens s.auth_safe s.mac_data (plain_fits s.auth_safe f.0) f.1)
+
+-- contents of a list fit: it has fewer than 2 ^ 32 octets
+pub listed_fit : (b : List ℕ) (cs : List ContentInfo) → IsContents b cs → All SealFits cs
 unfolding IsContents
-listed_fit b cs is = λ k d lt. let f = contents_fit b cs is k d lt in (omega (arith, f.0, is.1), omega (arith, f.1, is.1))
+listed_fit b cs is = λ k d lt. let f = contents_fit b cs is k d lt in seal_fits (get_or cs k d) (omega (arith, f.0, is.1), omega (arith, f.1, is.1))
 
 -- parts of a store fit
 pub short_fits : (b : List ℕ) (s : PFX) → IsStore b s → StoreFits (2 ^ 32 - 1) s
 unfolding IsStore
 short_fits b s is = let f = store_fits b s is in ((omega (arith, f.0.0, is.1), omega (arith, f.0.1, is.1)), narrower (length b) s.mac_data (omega (arith, is.1)) f.1)
+
+pub opening_fits : (b : List ℕ) (s : PFX) → IsStore b s → OpeningFits s
+opening_fits b s is = narrow_opens s (short_fits b s is)

@@ -1,5 +1,5 @@
 -- Contents (RFC 7292 section 4.1; RFC 5652 section 3).
-use Rattle.std.specs.Prelude.{◌≡◌, ◌≢◌, ℕ, ◌≤◌, List, [], length, Option, Some, None}
+use Rattle.std.specs.Prelude.{◌≡◌, ◌≢◌, ℕ, ◌<◌, ◌≤◌, ◌^◌, List, [], length, Option, Some, None}
 use Rattle.asn1_core.specs.Texts.{On, Within, Many, Raw, Oid, Inside}
 use Rattle.asn1_core.specs.Fields.{Sequence}
 use Rattle.asn1_core.specs.Oid.{oid_octets}
@@ -48,6 +48,16 @@ abbrev pub held_salt : ContentInfo → List ℕ
 held_salt (content.Data v) = []
 held_salt (content.EncryptedData d) = salt_of d.encrypted_content_info.content_encryption_algorithm
 held_salt (content.OtherContext o) = []
+
+-- those of a plain one
+abbrev pub plain_of : ContentInfo → List ℕ
+plain_of (content.Data v) = v
+plain_of (content.EncryptedData d) = []
+plain_of (content.OtherContext o) = []
+
+-- the encrypted octets are fewer than 2 ^ 32, and their salt has fewer than 2 ^ 59
+abbrev pub SealFits : ContentInfo → Type 0
+SealFits c = (length (encrypted_of c) < 2 ^ 32) × (length (held_salt c) < 2 ^ 59)
 
 -- a content holds at most n octets, and so does its salt
 abbrev pub ContentFits : ℕ → ContentInfo → Type 0

@@ -29,10 +29,10 @@ abbrev pub Reads : {A : Type 0} → (List ℕ → A → Type 0) → List ℕ →
 Reads R old new (Ok x) = Taken R old x new
 Reads R old new (Err e) = (new ≡ old) × MalformedOnly e (NoneStands R old)
 
--- what is printed: the variant's name
+-- what is printed: the variant's name, and want of memory in words
 abbrev pub error_text : Error → List ℕ
 error_text Malformed = codes "Malformed"
 error_text Invalid = codes "Invalid"
 error_text Rng = codes "Rng"
 error_text TooLong = codes "TooLong"
-error_text Memory = codes "Memory"
+error_text Memory = codes "out of memory"

@@ -461,7 +461,7 @@ impl<'a> AlgorithmView<'a> {
         }
     }
 
-    /// How many rounds derive the key of an algorithm that can be opened; 0 for others.
+    /// How many rounds derive the key; 0 for an algorithm that is neither Triple DES nor PBES2 with PBKDF2.
     pub fn count(&self) -> u64
         ensures { result ≡ count (seen_algorithm self.now) }
     {
@@ -476,7 +476,8 @@ impl<'a> AlgorithmView<'a> {
     }
 
     /// The steps of opening a text: for Triple DES three digests a round, two for the key and one for the IV; for PBES2 the
-    /// answers of the pseudorandom function that make the key; 0 for others.
+    /// answers of the pseudorandom function that make the key; 0 for an algorithm that is neither Triple DES nor PBES2
+    /// with PBKDF2.
     pub fn cost(&self) -> u128
         ensures { result ≡ cost (seen_algorithm self.now) }
     {
@@ -509,7 +510,7 @@ impl AlgorithmIdentifier {
         }
     }
 
-    /// How many rounds derive the key of an algorithm that can be opened; 0 for others.
+    /// How many rounds derive the key; 0 for an algorithm that is neither Triple DES nor PBES2 with PBKDF2.
     pub fn count(&self) -> u64
         ensures { result ≡ count self.now }
     {
@@ -524,7 +525,8 @@ impl AlgorithmIdentifier {
     }
 
     /// The steps of opening a text: for Triple DES three digests a round, two for the key and one for the IV; for PBES2 the
-    /// answers of the pseudorandom function that make the key; 0 for others.
+    /// answers of the pseudorandom function that make the key; 0 for an algorithm that is neither Triple DES nor PBES2
+    /// with PBKDF2.
     pub fn cost(&self) -> u128
         ensures { result ≡ cost self.now }
     {
@@ -589,9 +591,9 @@ impl<'a> AlgorithmView<'a> {
     /// DES takes the password as `bmp_string` gives it, PBES2 as its UTF-8.
     ///
     /// None exactly where the algorithm is neither, the function of PBES2 is scrypt, a length of the key is stated that is not the
-    /// cipher's, the count is 0, the ciphertext is empty or not whole blocks, its padding is wrong, or under GCM its tag is. The
-    /// buffer is then as it was, but after a wrong padding it holds the decrypted blocks. The only refusal is `Memory`, and nothing is changed then. Steps as
-    /// `decrypt_text_counted` takes them.
+    /// cipher's, the count is 0, in CBC the ciphertext is empty or not whole blocks or its padding is wrong, or in GCM it has fewer
+    /// than 16 octets or a wrong tag. The buffer is then as it was, but after a wrong padding it holds the decrypted blocks. The
+    /// only refusal is `Memory`, and nothing is changed then. Steps as `decrypt_text_counted` takes them.
     ///
     /// Caller: the buffer has fewer than 2^32 octets, the password fewer than 2^57, the salt of Triple DES fewer than 2^59.
     #[tactic(auto, unfolding(crate::specs::AlgorithmIdentifier::unlock, crate::specs::AlgorithmIdentifier::taken, crate::specs::AlgorithmView::LeftUnopened))]
@@ -724,7 +726,7 @@ impl AlgorithmIdentifier {
         self.decrypt_pbe_counted(alloc, ciphertext, password, &mut steps)
     }
 
-    /// `decrypt_pbe_counted` where nothing is counted.
+    /// `decrypt_pbe_counted` where nothing is counted. Caller: as there.
     pub fn decrypt_pbe(
         &self,
         alloc: Global,
@@ -743,9 +745,10 @@ impl AlgorithmIdentifier {
     }
 
     /// The plain octets of a ciphertext under a password: Triple DES takes it as `bmp_string` gives it, PBES2 as its UTF-8. None
-    /// exactly where the algorithm is neither, a length of the key is stated that is not the cipher's, the count is 0, the
-    /// ciphertext is empty or not whole blocks, or its padding is wrong. The only refusal is `Memory`. Steps for Triple DES as
-    /// `decrypt_pbe_counted` takes them; for PBES2 one for each answer of the pseudorandom function.
+    /// exactly where the algorithm is neither, the function of PBES2 is scrypt, a length of the key is stated that is not the
+    /// cipher's, the count is 0, in CBC the ciphertext is empty or not whole blocks or its padding is wrong, or in GCM it has fewer
+    /// than 16 octets or a wrong tag. The only refusal is `Memory`. Steps for Triple DES as `decrypt_pbe_counted` takes them; for
+    /// PBES2 one for each answer of the pseudorandom function.
     ///
     /// Caller: the ciphertext has fewer than 2^32 octets, the password fewer than 2^57, the salt fewer than 2^59.
     pub fn decrypt_text_counted<L: Ledger>(
@@ -779,7 +782,7 @@ impl AlgorithmIdentifier {
         }
     }
 
-    /// `decrypt_text_counted` where nothing is counted.
+    /// `decrypt_text_counted` where nothing is counted. Caller: as there.
     #[tactic(auto, unfolding(crate::specs::AlgorithmIdentifier::unlock))]
     pub fn decrypt_text(
         &self,

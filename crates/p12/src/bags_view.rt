@@ -13,7 +13,7 @@ use asn1_core::{Reader, SliceReader, Tag, read_inner};
 use std::marker::Model;
 
 /// The bags that octets list, which a walk lends one after the other. A contract sees what is still to come.
-#[derive(Drop)]
+#[derive(Debug, Drop)]
 pub struct BagsView<'a> {
     bytes: &'a [u8],
     rest: &'a [u8],

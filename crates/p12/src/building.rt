@@ -52,6 +52,7 @@ impl MacData {
         ensures agrees { IfOk result (λ m. mac_agrees m password.now content.now ≡ true) }
         ensures err { IfErr result (RefusesDrawn ⊥ ⊥
             (D.faults draw.old) (D.faults draw.new) (D.left draw.old) 8) }
+        ensures count { D.faults draw.old ≤ D.faults draw.new }
     {
         let salt = draw_salt(draw)?;
         MacData::with_salt(alloc, content, password, &salt, ITERATIONS)
@@ -116,6 +117,7 @@ impl EncryptedContentInfo {
         ensures err { IfErr result (RefusesDrawn (¬ (All WritableBag safe_bags.now))
             (IsTooLong (bags_canon safe_bags.now))
             (D.faults draw.old) (D.faults draw.new) (D.left draw.old) 8) }
+        ensures count { D.faults draw.old ≤ D.faults draw.new }
     {
         let salt = draw_salt(draw)?;
         seal_bags(alloc, safe_bags, password, &salt)
@@ -139,6 +141,7 @@ impl EncryptedData {
         ensures err { IfErr result (RefusesDrawn (¬ (All WritableBag safe_bags.now))
             (IsTooLong (bags_canon safe_bags.now))
             (D.faults draw.old) (D.faults draw.new) (D.left draw.old) 8) }
+        ensures count { D.faults draw.old ≤ D.faults draw.new }
     {
         Ok(EncryptedData {
             encrypted_content_info: EncryptedContentInfo::from_safe_bags(

@@ -1,8 +1,8 @@
 //! The bags of a store, and what stands in them, in order (RFC 7292 sections 4.1 and 4.2).
 ghost use Rattle.std.specs.Prelude.{◌≡◌, ◌++◌, ◌<◌, ◌≤◌, ◌-◌, ◌^◌, All, List, length, IfOk, IfErr, IfSome, OnOk};
 ghost use Rattle.p12.specs.Collected.{ContentFault, FirstFault, HoldAll, HoldsBags, Refuses, StoreFault, StoreHolds, certificates_among, keys_among, plain_text, sdsi_among, store_agrees};
-ghost use Rattle.p12.specs.ContentInfo.{ContentFits};
-ghost use Rattle.p12.specs.Pfx.{StoreFits};
+ghost use Rattle.p12.specs.ContentInfo.{SealFits, plain_of};
+ghost use Rattle.p12.specs.Pfx.{MacFits};
 ghost use Rattle.p12.specs.SafeBag.{BagFits};
 
 use crate::content_info::ContentInfo;
@@ -16,10 +16,11 @@ use std::alloc::Global;
 impl ContentInfo {
     /// The plain octets of a content; none where it does not open.
     fn plain_text(&self, alloc: Global, password: &str) -> Result<Option<Octets>, Error>
-        requires fits { ContentFits (2 ^ 32 - 1) self.now }
+        requires fits { SealFits self.now }
         requires password { length password.now < 2 ^ 57 }
         ensures value { IfOk result (λ m. m ≡ plain_text password.now self.now) }
-        ensures short { IfOk result (λ m. IfSome m (λ text. length text < 2 ^ 32)) }
+        ensures short { length (plain_of self.now) < 2 ^ 32
+            → IfOk result (λ m. IfSome m (λ text. length text < 2 ^ 32)) }
         ensures err { IfErr result (λ e. e ≡ Error.Memory) }
     {
         match self {
@@ -35,7 +36,7 @@ impl ContentInfo {
 
     /// The bags of a content. `Invalid` where it does not open, `Malformed` where it opens to octets that list no bags.
     fn bags(&self, alloc: Global, password: &str) -> Result<Items<SafeBag>, Error>
-        requires fits { ContentFits (2 ^ 32 - 1) self.now }
+        requires fits { SealFits self.now }
         requires password { length password.now < 2 ^ 57 }
         ensures ok { IfOk result (HoldsBags password.now self.now) }
         ensures err { IfErr result (Refuses (ContentFault password.now self.now)) }
@@ -64,7 +65,7 @@ fn all_bags(
     contents: &[ContentInfo],
     password: &str,
 ) -> Result<Items<SafeBag>, Error>
-    requires fit { All (ContentFits (2 ^ 32 - 1)) contents.now }
+    requires fit { All SealFits contents.now }
     requires password { length password.now < 2 ^ 57 }
     ensures ok { IfOk result (HoldAll password.now contents.now) }
     ensures err { IfErr result (Refuses (FirstFault password.now contents.now)) }
@@ -133,9 +134,10 @@ impl PFX {
     /// content that does not open, `Malformed` for octets that are no list of contents, or of bags. `Memory` may come at any
     /// point.
     ///
-    /// Caller: the outer content and its salt have fewer than 2^32 octets, the password fewer than 2^57.
+    /// Caller: an encrypted outer content has fewer than 2^32 encrypted octets, its salt fewer than 2^59, the password fewer than
+    /// 2^57.
     pub fn bags(&self, alloc: Global, password: &str) -> Result<Items<SafeBag>, Error>
-        requires fits { ContentFits (2 ^ 32 - 1) self.now.auth_safe }
+        requires fits { SealFits self.now.auth_safe }
         requires password { length password.now < 2 ^ 57 }
         ensures ok { IfOk result (StoreHolds password.now self.now) }
         ensures err { IfErr result (Refuses (StoreFault password.now self.now)) }
@@ -151,7 +153,7 @@ impl PFX {
     ///
     /// Caller: as for `bags`.
     pub fn cert_x509_bags(&self, alloc: Global, password: &str) -> Result<Items<Octets>, Error>
-        requires fits { ContentFits (2 ^ 32 - 1) self.now.auth_safe }
+        requires fits { SealFits self.now.auth_safe }
         requires password { length password.now < 2 ^ 57 }
         ensures ok { IfOk result (λ certificates. (gs : List SafeBag)
             × StoreHolds password.now self.now gs × (certificates ≡ certificates_among gs)) }
@@ -165,7 +167,7 @@ impl PFX {
     ///
     /// Caller: as for `bags`.
     pub fn cert_bags(&self, alloc: Global, password: &str) -> Result<Items<Octets>, Error>
-        requires fits { ContentFits (2 ^ 32 - 1) self.now.auth_safe }
+        requires fits { SealFits self.now.auth_safe }
         requires password { length password.now < 2 ^ 57 }
         ensures ok { IfOk result (λ certificates. (gs : List SafeBag)
             × StoreHolds password.now self.now gs × (certificates ≡ certificates_among gs)) }
@@ -178,7 +180,7 @@ impl PFX {
     ///
     /// Caller: as for `bags`.
     pub fn cert_sdsi_bags(&self, alloc: Global, password: &str) -> Result<Items<Text>, Error>
-        requires fits { ContentFits (2 ^ 32 - 1) self.now.auth_safe }
+        requires fits { SealFits self.now.auth_safe }
         requires password { length password.now < 2 ^ 57 }
         ensures ok { IfOk result (λ texts. (gs : List SafeBag)
             × StoreHolds password.now self.now gs × (texts ≡ sdsi_among gs)) }
@@ -193,7 +195,7 @@ impl PFX {
     ///
     /// Caller: as for `bags`.
     pub fn key_bags(&self, alloc: Global, password: &str) -> Result<Items<Octets>, Error>
-        requires fits { ContentFits (2 ^ 32 - 1) self.now.auth_safe }
+        requires fits { SealFits self.now.auth_safe }
         requires password { length password.now < 2 ^ 57 }
         ensures ok { IfOk result (λ keys. (gs : List SafeBag)
             × StoreHolds password.now self.now gs × (keys ≡ keys_among password.now gs)) }
@@ -206,9 +208,11 @@ impl PFX {
     /// Whether the MAC of the store agrees under a password: true too where there is none, and false where the outer content
     /// does not open. The only refusal is `Memory`.
     ///
-    /// Caller: as for `bags`; and the salt of the MAC has fewer than 2^32 octets.
+    /// Caller: as for `bags`; and where there is a MAC, its salt has fewer than 2^59 octets, and a plain outer content fewer than
+    /// 2^32.
     pub fn verify_mac(&self, alloc: Global, password: &str) -> Result<bool, Error>
-        requires fits { StoreFits (2 ^ 32 - 1) self.now }
+        requires fits { SealFits self.now.auth_safe }
+        requires mac { MacFits self.now }
         requires password { length password.now < 2 ^ 57 }
         ensures value { IfOk result (λ agrees. agrees ≡ store_agrees password.now self.now) }
         ensures err { IfErr result (λ e. e ≡ Error.Memory) }

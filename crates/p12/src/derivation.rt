@@ -121,11 +121,11 @@ fn derive_from<H: HashFn, L: Ledger>(
     derive::<H, L>(alloc, password, salt, rounds, id, size, &mut steps)
 }
 
-/// `size` octets under a password and a salt over a hash function whose blocks have 64 octets (RFC 7292 appendix B.2). The
-/// password comes as `bmp_string` gives it; `id` is 1 for a key, 2 for an initial value and 3 for the key of a MAC. The only
-/// refusal is `Memory`.
+/// `size` octets under a password and a salt, in `iterations` rounds over a hash function whose blocks have 64 octets (RFC 7292
+/// appendix B.2). The password comes as `bmp_string` gives it; `id` is 1 for a key, 2 for an initial value and 3 for the key of
+/// a MAC. The only refusal is `Memory`.
 ///
-/// Caller: `H::BLOCK` is 64, at least one round, `size` at most 2^32, password and salt of fewer than 2^59 octets each.
+/// Caller: `H::BLOCK` is 64, `iterations` at least 1, `size` at most 2^32, password and salt of fewer than 2^59 octets each.
 pub fn pbepkcs12<H: HashFn>(
     alloc: Global,
     pass: &[u8],
@@ -149,9 +149,9 @@ pub fn pbepkcs12<H: HashFn>(
     Ok(Octets::from_vec(key))
 }
 
-/// `pbepkcs12` with SHA-1.
+/// `pbepkcs12` with SHA-1: `size` octets in `iterations` rounds.
 ///
-/// Caller: at least one round, `size` at most 2^32, password and salt of fewer than 2^59 octets each.
+/// Caller: `iterations` at least 1, `size` at most 2^32, password and salt of fewer than 2^59 octets each.
 pub fn pbepkcs12sha1(
     alloc: Global,
     pass: &[u8],

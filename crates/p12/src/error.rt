@@ -57,7 +57,7 @@ impl fmt::Display for Error {
             Error::Invalid => "Invalid",
             Error::Rng => "Rng",
             Error::TooLong => "TooLong",
-            Error::Memory => "Memory",
+            Error::Memory => "out of memory",
         })
     }
 }

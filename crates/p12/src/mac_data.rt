@@ -249,7 +249,7 @@ impl MacData {
         self.verify_mac_counted(alloc, content, password, &mut steps)
     }
 
-    /// `verify_mac_counted` where nothing is counted.
+    /// `verify_mac_counted` where nothing is counted. Caller: as there.
     pub fn verify_mac(&self, alloc: Global, content: &[u8], password: &[u8]) -> Result<bool, Error>
         requires content { length content.now < 2 ^ 32 }
         requires password { length password.now < 2 ^ 59 }
@@ -294,7 +294,7 @@ impl MacData {
         })
     }
 
-    /// `with_salt` under SHA-256.
+    /// `with_salt` under SHA-256. Refusal and caller's conditions as there.
     #[tactic(auto, unfolding(crate::specs::MacData::mac_of, crate::specs::MacData::mac_value))]
     pub fn with_salt_sha256(
         alloc: Global,

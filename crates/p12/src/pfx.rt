@@ -6,7 +6,7 @@ ghost use Rattle.asn1_core.specs.Texts.{seen_option};
 ghost use Rattle.p12.specs.ContentView.{ContentStands};
 ghost use Rattle.p12.specs.MacView.{seen_mac};
 ghost use Rattle.p12.specs.StoreView.{seen_store};
-ghost use Rattle.p12.specs.Pfx.{IsStore, NoStore, StoreFits};
+ghost use Rattle.p12.specs.Pfx.{IsStore, NoStore, OpeningFits, StoreFits};
 ghost use Rattle.asn1_core.specs.declared.error.Error.TheVariants as asn1;
 ghost use Rattle.p12.specs.Error.{MalformedOnly};
 ghost use Rattle.p12.specs.Reading.{mac_at, pfx_at};
@@ -122,10 +122,11 @@ impl<'a> StoreView<'a> {
 impl PFX {
     /// The store of these octets. `Malformed` exactly where they are the text of none. Its parts have fewer than 2^32 octets, as
     /// the calls that open it want.
-    #[tactic(auto, using(crate::proofs::HeldBags::short_fits))]
+    #[tactic(auto, using(crate::proofs::HeldBags::short_fits, crate::proofs::HeldBags::opening_fits))]
     pub fn parse(alloc: Global, bytes: &[u8]) -> Result<PFX, Error>
         ensures ok { IfOk result (λ x. IsStore bytes.now x) }
         ensures fits { IfOk result (StoreFits (2 ^ 32 - 1)) }
+        ensures opening { IfOk result OpeningFits }
         ensures err { IfErr result (λ e. MalformedOnly e (NoStore bytes.now)) }
     {
         let view = match StoreView::parse(bytes) {

@@ -375,7 +375,7 @@ impl SafeBagKind {
     /// The plain octets of an encrypted key under a password, which comes as `bmp_string` gives it. None exactly for another bag,
     /// and where `decrypt_pbe` gives none. The only refusal is `Memory`.
     ///
-    /// Caller: an encrypted key and its salt have fewer than 2^32 octets each, the password fewer than 2^59.
+    /// Caller: an encrypted key has fewer than 2^32 octets, its salt and the password fewer than 2^59 each.
     pub fn get_key(&self, alloc: Global, password: &[u8]) -> Result<Option<Octets>, Error>
         requires fits { KindFits self.now }
         requires password { length password.now < 2 ^ 59 }

@@ -1,10 +1,10 @@
 //! Making a store of a key and its certificates.
-ghost use Rattle.std.specs.Prelude.{◌≡◌, ◌<◌, ◌-◌, ◌^◌, List, ℕ, length, IfErr, IfOk, OnOk};
+ghost use Rattle.std.specs.Prelude.{◌≡◌, ◌<◌, ◌≤◌, ◌-◌, ◌^◌, List, ℕ, length, IfErr, IfOk, OnOk};
 ghost use Rattle.asn1_core.specs.Texts.{seen_option};
 ghost use Rattle.p12.specs.Building.{DrawsSalts, IsCiphertext, IsOuterText, IsStoreOf, IsTooLong, IsTooLongStore, RefusesDrawn, RefusesStore, certificate_bag, certificate_bags, entry_of, key_bag, own_attributes, seen_entry, seen_salts};
 ghost use Rattle.p12.specs.Collected.{at_most_one};
 ghost use Rattle.p12.specs.Password.{bmp_password};
-ghost use Rattle.p12.specs.Pfx.{StoreFits};
+ghost use Rattle.p12.specs.Pfx.{OpeningFits, StoreFits};
 
 use crate::attribute::PKCS12Attribute;
 use crate::building::{ITERATIONS, algorithm_under, draw_salt, seal_bags};
@@ -48,6 +48,7 @@ fn draw_salts<D: Draw>(draw: &mut D) -> Result<DrawnSalts, Error>
         (λ s. s ≡ seen_salts d)) }
     ensures err { IfErr result (RefusesDrawn ⊥ ⊥
         (D.faults draw.old) (D.faults draw.new) (D.left draw.old) 24) }
+    ensures count { D.faults draw.old ≤ D.faults draw.new }
 {
     let key = draw_salt(draw)?;
     let certificates = draw_salt(draw)?;
@@ -185,12 +186,14 @@ impl PFX {
             (entry_of cert_der.now key_der.now ca_der_list.now name.now)
             s)) }
         ensures fits { IfOk result (StoreFits (2 ^ 32 - 1)) }
+        ensures opening { IfOk result OpeningFits }
         ensures fitting { OnOk result (¬ (IsTooLongStore
             (entry_of cert_der.now key_der.now ca_der_list.now name.now))) }
         ensures err { IfErr result (RefusesDrawn ⊥
             (IsTooLongStore
             (entry_of cert_der.now key_der.now ca_der_list.now name.now))
             (D.faults draw.old) (D.faults draw.new) (D.left draw.old) 24) }
+        ensures count { D.faults draw.old ≤ D.faults draw.new }
     {
         let entry = EntryParts {
             certificate: cert_der,
@@ -234,6 +237,7 @@ impl PFX {
             (at_most_one (seen_option (λ c. c.now) ca_der.entry)) name.now)
             s)) }
         ensures fits { IfOk result (StoreFits (2 ^ 32 - 1)) }
+        ensures opening { IfOk result OpeningFits }
         ensures fitting { OnOk result (¬ (IsTooLongStore
             (entry_of cert_der.now key_der.now
             (at_most_one (seen_option (λ c. c.now) ca_der.entry)) name.now))) }
@@ -242,6 +246,7 @@ impl PFX {
             (entry_of cert_der.now key_der.now
             (at_most_one (seen_option (λ c. c.now) ca_der.entry)) name.now))
             (D.faults draw.old) (D.faults draw.new) (D.left draw.old) 24) }
+        ensures count { D.faults draw.old ≤ D.faults draw.new }
     {
         let mut others = Items::new(alloc);
         if let Some(certificate) = ca_der {

@@ -18,3 +18,9 @@ returns-clause-fits g c =
     let salt = made_salt _ _ _ _ _ c.in_ok-mac.mac c.in_ok-mac.ensures.value in
     let drawn : length c.in_ok-salts.salts.mac ≡ 8 = search rules in
     ((omega (arith, c.in_ok-outer.ensures.ok.short), omega arith), omega (arith, ap length salt, drawn))
+
+pub returns-clause-opening : goal.returns-clause-opening
+returns-clause-opening g c =
+    let salt = made_salt _ _ _ _ _ c.in_ok-mac.mac c.in_ok-mac.ensures.value in
+    let drawn : length c.in_ok-salts.salts.mac ≡ 8 = search rules in
+    ((omega arith, omega arith), (omega (arith, ap length salt, drawn), omega (arith, c.in_ok-outer.ensures.ok.short)))
