@@ -32,7 +32,7 @@ fn value(digit: u8) -> u8
     (digit % 16 + digit / 64 * 9) % 16
 }
 
-/// Writes the octets that the digits spell.
+/// Writes the octets that the digits spell. Caller: they are digits, of either case, and twice as many as the octets.
 pub fn decode_into(digits: &[u8], octets: &mut [u8])
     requires digits { AllPass is_hex_digit digits.now }
     requires twice { length digits.now ≡ 2 * length octets.old }
@@ -82,7 +82,7 @@ fn digit(value: u8) -> u8
     value + 48 + (value + 6) / 16 * 39
 }
 
-/// Writes the lower-case digits of the octets.
+/// Writes the lower-case digits of the octets. Caller: there is room for exactly twice as many digits.
 pub fn encode_into(octets: &[u8], digits: &mut [u8])
     requires { length digits.old ≡ 2 * length octets.now }
     ensures { digits.new ≡ encode_lower octets.now }

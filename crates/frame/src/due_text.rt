@@ -65,7 +65,7 @@ fn line_size(label: &str, octets: &[u8]) -> Option<usize>
     filled.checked_add(1)
 }
 
-/// A line of a label and the lower-case digits of the octets, with its line feed.
+/// A line of a label and the lower-case digits of the octets, with its line feed. The only refusal is want of memory.
 pub fn line_of(alloc: Global, label: &str, octets: &[u8]) -> Result<Octets, AllocError>
     ensures { IfOk result (λ line. line ≡ digits_line label.now octets.now) }
 {
@@ -81,7 +81,8 @@ pub fn line_of(alloc: Global, label: &str, octets: &[u8]) -> Result<Octets, Allo
     Ok(Octets::from_vec(line))
 }
 
-/// Adds a line of the label and the digits for each of the items. On an error some may have been added.
+/// Adds a line of the label and the digits for each of the items. The only refusal is want of memory; some lines may have
+/// been added then.
 pub fn add_lines(
     alloc: Global,
     label: &str,
@@ -97,7 +98,7 @@ pub fn add_lines(
     Ok(())
 }
 
-/// Writes a piece whole, or a proper prefix of it.
+/// Writes a piece whole; `Failed` exactly where a write failed, and then a proper prefix of it was written.
 pub fn write_piece<O: Sink>(output: &mut O, piece: &[u8]) -> Result<(), Failed>
     ensures count { O.faults output.old ≤ O.faults output.new }
     ensures whole { OnOk result (Appends (O.written output.old) (O.written output.new) piece.now) }
@@ -112,7 +113,8 @@ pub fn write_piece<O: Sink>(output: &mut O, piece: &[u8]) -> Result<(), Failed>
     Ok(())
 }
 
-/// Writes the lines, one after the other, up to the first write that fails.
+/// Writes the lines, one after the other; `Failed` exactly where a write failed, which was the last, and then a proper
+/// prefix of them was written.
 pub fn write_lines<O: Sink>(output: &mut O, lines: &[Octets]) -> Result<(), Failed>
     ensures count { O.faults output.old ≤ O.faults output.new }
     ensures whole { OnOk result
@@ -127,7 +129,7 @@ pub fn write_lines<O: Sink>(output: &mut O, lines: &[Octets]) -> Result<(), Fail
     Ok(())
 }
 
-/// Writes the line `error: ` with the name of the status.
+/// Writes the line `error: ` with the name of the status; `Failed` as `write_piece` answers it.
 pub fn write_error<O: Sink>(output: &mut O, status: Status) -> Result<(), Failed>
     ensures count { O.faults output.old ≤ O.faults output.new }
     ensures whole { OnOk result

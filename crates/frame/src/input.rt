@@ -31,7 +31,7 @@ impl From<AllocError> for InputError {
 }
 
 /// Reads the source to its end, and answers all octets that it had. Refused as `ReadFault` where a read fails, which is the
-/// last one, and as `InputTooLong` where there are more than `INPUT_LIMIT` octets.
+/// last one, as `InputTooLong` where there are more than `INPUT_LIMIT` octets, and as `Memory`.
 pub fn read_input<I: Source>(alloc: Global, input: &mut I) -> Result<Vec<u8>, InputError>
     ensures count { I.faults input.old ≤ I.faults input.new }
     ensures last { I.faults input.old < I.faults input.new → result ≡ Err InputError.ReadFault }

@@ -86,6 +86,7 @@ fn octets_in_front(mut text: Vec<u8>, count: usize) -> Result<Octets, TextError>
 }
 
 /// The octets of the store that the text spells, in the memory of the text, and those of its second line, if it has one.
+/// `Malformed` exactly where the text is not one line of an even number of hexadecimal digits, nor two; and `Memory`.
 pub fn read_text(alloc: Global, text: Vec<u8>) -> Result<Spelled, TextError>
     ensures found { IfOk result (λ spelled. IsInput text.items spelled.store spelled.line) }
     ensures cause { IfErr result (λ e. MalformedOnly e (IsNoInput text.items)) }

@@ -4,8 +4,8 @@ ghost use Rattle.frame.specs.Status.{status_code, status_name};
 
 use std::fmt;
 
-/// What a program answers. The first seven are answers of every program; from `Malformed` on they are refusals of what
-/// the input holds, and each program says which of them it answers, and when.
+/// What a program answers. `Done`, `Usage`, `ReadFault`, `WriteFault`, `InputTooLong` and `Memory` are answers of every
+/// program; the others are refusals of a program's own, and each says which of them it answers, and when.
 #[derive(Clone, Copy, Debug, PartialEq, Eq)]
 pub enum Status {
     /// The work is done, and its text was written.
@@ -22,17 +22,29 @@ pub enum Status {
     InputMalformed,
     /// There was no memory.
     Memory,
+    /// What the input spells is not in the grammar of its format.
     Malformed,
+    /// Something is encrypted by an algorithm that is not opened.
     Unsupported,
+    /// There is no MAC.
     MacMissing,
+    /// The MAC is of an algorithm that is not tested.
     MacUnsupported,
+    /// A count of iterations is 0.
     ZeroIterations,
+    /// The work takes more steps than the limit.
     WorkLimit,
+    /// The MAC does not agree under the password.
     MacMismatch,
+    /// The MAC agrees, and what it is over is not in the grammar.
     ContentMalformed,
+    /// An encrypted part does not open.
     DecryptFailed,
+    /// The plain octets of a key are no private key.
     KeyMalformed,
+    /// Octets could not be drawn.
     Rng,
+    /// The input spells more octets than the format may have.
     TooLong,
 }
 

@@ -1,12 +1,12 @@
 -- What the command `transfer` answers: the rows of its own in the table of `frame`.
-use Rattle.std.specs.Prelude.{ℕ, ◌*◌, ◌≡◌, ◌≢◌, ◌⊎◌, ◌<◌, ◌≤◌, List, length, Option, Some, None, IfSome}
+use Rattle.std.specs.Prelude.{ℕ, ◌*◌, ◌≡◌, ◌⊎◌, ◌<◌, ◌≤◌, List, length, Option, Some, None, IfSome}
 use Rattle.frame.specs.Calls.{Call, Effects}
 use Rattle.frame.specs.Lined.{lined}
 use Rattle.frame.specs.Programs as programs
 use Rattle.frame.specs.Programs.{Program}
 use Rattle.frame.specs.Stream.{Stream}
 use Rattle.frame.specs.declared.status.Status.{Status}
-use Rattle.frame.specs.declared.status.Status.TheVariants.{Done, Memory, Rng}
+use Rattle.frame.specs.declared.status.Status.TheVariants.{Done, Rng}
 use Rattle.p12.specs.declared.safe_bag.SafeBag.{SafeBag}
 use Rattle.transfer.specs.declared.store.error.TransferError.{TransferError}
 use Rattle.transfer.specs.DueText.{out}
@@ -37,12 +37,6 @@ pub record ExactStore (c : Command) (drawn : Option (List ℕ)) (store : List �
   -- and, where the octets to be drawn are told, Done exactly where there are 32 for each key
   pub draws : (bags : List (List SafeBag)) (keys : List (List ℕ)) (n : ℕ) → HasVerdict store c.password c.limit (opened bags keys) n
       → IfSome drawn (λ d. (length d < 32 * length keys → s ≡ Rng) × (32 * length keys ≤ length d → s ≡ Done))
-
--- On each status but these three the draw is as it was.
-pub record IsUndrawn (s : Status) : Type 0 where
-  pub not_done : s ≢ Done
-  pub not_rng : s ≢ Rng
-  pub not_memory : s ≢ Memory
 
 -- What the command promises of the stores that inputs spell.
 abbrev pub on_stores : List (List ℕ) → Program Command

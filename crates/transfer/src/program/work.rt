@@ -31,8 +31,8 @@ fn lines_of(alloc: Global, transferred: Transferred) -> Result<Items<Octets>, St
 }
 
 impl StoreJob for Words<'_> {
-    ghost use Rattle.transfer.specs.Answers.{ExactStore, IsUndrawn, RefusesStore, TransfersStore};
-    ghost use Rattle.transfer.specs.Asked.{command_in};
+    ghost use Rattle.transfer.specs.Answers.{ExactStore, RefusesStore, TransfersStore};
+    ghost use Rattle.transfer.specs.Asked.{IsUndrawn, command_in};
 
     type Made = Items<Octets>;
 

@@ -23,7 +23,7 @@ pub enum TransferError {
     MacUnsupported,
     /// The count of the MAC, or of an encrypted content or key, is 0.
     ZeroIterations,
-    /// The next share of the work would pass the limit.
+    /// The next share of the work would pass the limit of steps.
     WorkLimit,
     /// The MAC does not agree under the password.
     MacMismatch,
@@ -73,7 +73,7 @@ impl fmt::Display for TransferError {
             TransferError::DecryptFailed => f.write_str("DecryptFailed"),
             TransferError::KeyMalformed => f.write_str("KeyMalformed"),
             TransferError::Rng => f.write_str("Rng"),
-            TransferError::Memory => f.write_str("Memory"),
+            TransferError::Memory => f.write_str("out of memory"),
         }
     }
 }

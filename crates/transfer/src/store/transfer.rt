@@ -26,7 +26,8 @@ pub struct Transferred {
 
 /// Opens the store under the password, and answers its certificates and, for each encrypted private key, one document that
 /// seals the key's canonical encoding under the new password: by PBES2 with PBKDF2 over HMAC-SHA-256 in this number of rounds, and
-/// AES-256-CBC. For each key 16 octets of IV and then 16 of salt are drawn, after every other refusal is decided.
+/// AES-256-CBC. For each key 16 octets of IV and then 16 of salt are drawn, after every other refusal is decided. The new password
+/// is octets, taken as they are; the rounds are those of PBKDF2 in each document.
 ///
 /// `limit` is the most steps. A step is one digest of an iteration of RFC 7292 appendix B, or one answer of the keyed function
 /// of PBKDF2 that opens a part; the rounds of a document are not counted. The refusals stand in `TransferError`, in their
