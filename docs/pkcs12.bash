@@ -2,7 +2,7 @@
 _pkcs12() {
     local word=${COMP_WORDS[COMP_CWORD]} before=
     [ "$COMP_CWORD" -eq 0 ] || before=${COMP_WORDS[COMP_CWORD - 1]}
-    local passwords="--password-file --password-env --password-stdin --limit --help"
+    local common="--password-file --password-env --password-stdin --limit --help"
     COMPREPLY=()
     case $before in
         --format)
@@ -26,10 +26,10 @@ _pkcs12() {
     elif [ "${word#-}" = "$word" ]; then
         mapfile -t COMPREPLY < <(compgen -f -- "$word")
     elif [ "${COMP_WORDS[1]}" = export ]; then
-        mapfile -t COMPREPLY < <(compgen -W "$passwords --out --force --format --new-password-file --new-password-env \
+        mapfile -t COMPREPLY < <(compgen -W "$common --out --force --format --new-password-file --new-password-env \
             --new-password-stdin --allow-empty-password --rounds" -- "$word")
     else
-        mapfile -t COMPREPLY < <(compgen -W "$passwords" -- "$word")
+        mapfile -t COMPREPLY < <(compgen -W "$common" -- "$word")
     fi
 }
 complete -o filenames -F _pkcs12 pkcs12 ./pkcs12

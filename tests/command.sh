@@ -122,6 +122,9 @@ longest_password() {
 holds password_of_1024_octets longest_password
 { cat "$work/longest" && echo x; } >"$work/longer"
 holds password_of_1025_octets fails 22 PasswordUnusable 1,024 check "$plain" --password-file "$work/longer"
+# Of a longer line the front alone is read, which ends inside a letter here: that is no fault of its encoding.
+{ head -c 1026 /dev/zero | tr '\0' x && printf '\303\251\n'; } >"$work/cut"
+holds longer_line_is_cut_in_a_letter fails 22 PasswordUnusable 1,024 check "$plain" --password-file "$work/cut"
 empty_store_password() {
     have_openssl empty_store_password || return 0
     openssl x509 -inform DER -in "$home/examples/cert-0.der" |
@@ -137,6 +140,18 @@ through_pipes() {
     mkfifo "$work/pipe" && { cat "$plain" >"$work/pipe" & } && ends 0 check "$work/pipe" --password-file "$plain_password"
 }
 holds passwords_and_stores_through_pipes through_pipes
+# No more than the line is waited for.
+open_pipe() {
+    mkfifo "$work/$1" || return 1
+    { cat "$plain_password" && exec sleep 30; } >"$work/$1" &
+    writer=$!
+    outcome=0
+    timeout 10 setsid -w "$home/pkcs12" check "$plain" "$2" ${3:+"$3"} <"$4" >"$work/said" 2>"$work/told" || outcome=1
+    kill "$writer"
+    return "$outcome"
+}
+holds file_that_stays_open open_pipe open-file --password-file "$work/open-file" /dev/null
+holds standard_input_that_stays_open open_pipe open-input --password-stdin "" "$work/open-input"
 holds input_gives_one_thing fails 2 Usage "only one of" check - --password-stdin
 certificates_from_a_pipe() {
     cat "$plain" | ends 0 export - --out "$work/piped" --password-file "$plain_password" && [ -s "$work/piped/cert-1.pem" ]
@@ -144,6 +159,9 @@ certificates_from_a_pipe() {
 holds certificates_from_a_pipe certificates_from_a_pipe
 holds two_passwords fails 2 Usage "cannot be used" check "$plain" --password-stdin --password-file "$plain_password"
 holds no_such_variable fails 3 ReadFault NO_SUCH check "$plain" --password-env NO_SUCH
+holds no_such_password_file fails 3 ReadFault "the password file $work/no-such: " check "$plain" --password-file "$work/no-such"
+holds no_such_new_password_file fails 3 ReadFault "the new password file $work/no-such: " export "$keyed" --out "$work/none" \
+    --password-file "$keyed_password" --new-password-file "$work/no-such"
 
 # --- the output folder ---
 
@@ -167,6 +185,53 @@ wrong_password_with_force() {
         [ -s "$work/full/key-0.pem" ]
 }
 holds a_refusal_replaces_nothing wrong_password_with_force
+# A store or a password in the folder that is replaced, by another path too.
+mkdir "$work/inside"
+ln -s inside "$work/to-inside"
+cp "$keyed" "$work/inside/store.p12"
+cp "$keyed_password" "$work/inside/password"
+holds store_in_the_replaced_folder fails 2 Usage "lies in" export "$work/inside/store.p12" --out "$work/inside" --force
+holds store_there_through_a_link fails 2 Usage "lies in" export "$work/to-inside/store.p12" --out "$work/inside//" --force
+store_on_input() {
+    fails 2 Usage "lies in" export - --out "$work/inside" --force <"$work/inside/store.p12"
+}
+holds standard_input_in_the_replaced_folder store_on_input
+holds password_in_the_replaced_folder fails 2 Usage "lies in" export "$keyed" --out "$work/inside" --force \
+    --password-file "$work/full/../inside/password"
+holds new_password_in_the_replaced_folder fails 2 Usage "lies in" export "$keyed" --out "$work/inside" --force \
+    --password-file "$keyed_password" --new-password-file "$work/inside/password"
+holds what_is_read_stays cmp "$keyed" "$work/inside/store.p12"
+mkdir "$work/inside-not"
+cp "$keyed" "$work/inside-not/store.p12"
+name_alike() {
+    ends 0 export "$work/inside-not/store.p12" --out "$work/inside" --force --password-file "$keyed_password" \
+        --new-password-file "$work/new" --rounds 1000 && [ "$(ls "$work/inside")" = "$(printf 'cert-0.pem\nkey-0.pem')" ]
+}
+holds a_name_that_begins_alike_is_no_such name_alike
+# The folder that was replaced has a mount in it, so it cannot be removed; the new one is there.
+mounted_folder() {
+    mkdir -p "$work/mounted/sub"
+    if ! mount -t tmpfs -o size=8k tmpfs "$work/mounted/sub" 2>/dev/null; then
+        echo "skipped mounted_folder: no tmpfs can be mounted"
+        return 0
+    fi
+    outcome=0
+    export_keyed "$work/mounted" --force && [ "$(ls "$work/mounted")" = "$(printf 'cert-0.pem\nkey-0.pem')" ] &&
+        grep -q '^pkcs12: .*/mounted\.old-[0-9]*, the folder that was replaced, could not be removed: ' "$work/told" || outcome=1
+    umount "$work"/mounted.old-*/sub 2>/dev/null || umount "$work/mounted/sub"
+    return "$outcome"
+}
+holds old_folder_that_cannot_be_removed mounted_folder
+# A run that was killed left this folder, and a process of its number comes again.
+left_part() {
+    code=0
+    # shellcheck disable=SC2016
+    sh -c 'mkdir "$1.part-$$" && exec "$2" export "$3" --out "$1" --password-file "$4"' sh "$work/left" "$home/crates/pkcs12/out/pkcs12" \
+        "$plain" "$plain_password" 2>"$work/told" || code=$?
+    [ "$code" -eq 4 ] && [ ! -e "$work/left" ] &&
+        grep -q '^pkcs12: WriteFault (4): .*/left\.part-\([0-9]*\) is left of a run that was killed; remove it: rm -r .*/left\.part-\1$' "$work/told"
+}
+holds folder_left_of_a_killed_run left_part
 holds no_folder_above fails 4 WriteFault "no-such" export "$keyed" --out "$work/no-such/out" --password-file "$keyed_password" \
     --new-password-file "$work/new"
 holds folder_without_a_name fails 2 Usage "--out" export "$keyed" --out "$work/.."

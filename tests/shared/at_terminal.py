@@ -3,7 +3,7 @@
 
 usage: at_terminal.py [--signal NAME] [--answer TEXT].. -- COMMAND ARGUMENT..
 
-Each TEXT is typed when the command asks, which ends in `: `. With a signal, this is sent to the command's whole process group at the
+Each TEXT is typed as soon as the command asks, which ends in `: `. With a signal, this is sent to the command's whole process group at the
 first question that has no answer left. Prints what the terminal showed, and then how its echo was; ends with the command's status, or
 128 and the signal's number.
 """
@@ -56,11 +56,11 @@ def main():
             shown += os.read(shell, 4096)
         if shown.count(b": ") > asked and shown.endswith(b": "):
             asked = shown.count(b": ")
-            time.sleep(0.1)  # until the echo is off
             hidden = hidden and not has_echo(terminal)
             if answers:
                 os.write(shell, answers.pop(0).encode() + b"\n")
             elif sent:
+                time.sleep(0.1)  # until the command reads: dash takes note of a signal before that only at the next one
                 os.killpg(child, sent)
         if not ready:
             done, status = os.waitpid(child, os.WNOHANG)

@@ -9,8 +9,12 @@ use std::alloc::{AllocError, Global};
 /// The schemes of encryption and MACs under a password, and the kinds of content, that stores of other programs have.
 fn scheme_name(identifier: &str) -> Option<&'static str> {
     Some(match identifier {
+        "1.2.840.113549.1.5.1" => "pbeWithMD2AndDES-CBC",
         "1.2.840.113549.1.5.3" => "pbeWithMD5AndDES-CBC",
+        "1.2.840.113549.1.5.4" => "pbeWithMD2AndRC2-CBC",
+        "1.2.840.113549.1.5.6" => "pbeWithMD5AndRC2-CBC",
         "1.2.840.113549.1.5.10" => "pbeWithSHA1AndDES-CBC",
+        "1.2.840.113549.1.5.11" => "pbeWithSHA1AndRC2-CBC",
         "1.2.840.113549.1.5.13" => "PBES2",
         "1.2.840.113549.1.5.14" => "PBMAC1",
         "1.2.840.113549.1.7.2" => "signedData",
@@ -54,6 +58,7 @@ fn part_name(identifier: &str) -> Option<&'static str> {
         "2.16.840.1.101.3.4.1.2" => "AES-128-CBC",
         "2.16.840.1.101.3.4.1.6" => "AES-128-GCM",
         "2.16.840.1.101.3.4.1.22" => "AES-192-CBC",
+        "2.16.840.1.101.3.4.1.26" => "AES-192-GCM",
         "2.16.840.1.101.3.4.1.42" => "AES-256-CBC",
         "2.16.840.1.101.3.4.1.46" => "AES-256-GCM",
         _ => return None,
@@ -127,7 +132,7 @@ fn pbes2_of(params: &[u8]) -> Result<Pbes2Names, Error> {
     })
 }
 
-/// PBES2 with the algorithms that it names, all of which have to be opened here.
+/// PBES2 with the algorithms that it names.
 fn pbes2_named(alloc: Global, params: &[u8]) -> Result<String, AllocError> {
     let Ok(found) = pbes2_of(params) else {
         return named(alloc, PBES2_OID);

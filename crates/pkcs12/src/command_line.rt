@@ -3,18 +3,21 @@ use clap::{Arg, ArgAction, Command};
 use std::alloc::{AllocError, Global};
 
 /// What stands under the options of each subcommand.
-const PASSWORDS: &str = "\
+const NOTES: &str = "\
 A password is never an argument, since other users can read those. Without any of its options, ./pkcs12 asks for it
-at a terminal. Of a file, its first line is the password, without LF or CR LF; /dev/fd/3 and other pipes work.";
+at a terminal. Of a file, its first line is the password, without LF or CR LF; /dev/fd/3 and other pipes work;
+./pkcs12 uses descriptors 7, 8 and 9 itself.
+
+Listing the names afterwards decrypts the contents once more, outside the limit.";
 
 /// What stands under the whole help.
 const AFTER: &str = "\
 Examples:
-  pkcs12 check store.p12
-  pkcs12 export store.p12 --out pem
-  pkcs12 export store.p12 --out der --format der --password-file old --new-password-file new
-  pkcs12 export - --out pem --password-env OLD --new-password-env NEW <store.p12
-  pkcs12 self-test
+  ./pkcs12 check store.p12
+  ./pkcs12 export store.p12 --out pem
+  ./pkcs12 export store.p12 --out der --format der --password-file old --new-password-file new
+  ./pkcs12 export - --out pem --password-env OLD --new-password-env NEW <store.p12
+  ./pkcs12 self-test
 
 Exit numbers:
    0  Done                the store was opened, and the answer written whole
@@ -27,19 +30,19 @@ Exit numbers:
    9  NewPasswordMissing  the store has private keys, and no new password was given
   10  Malformed           the file is not a PKCS#12 store in DER
   11  Unsupported         something is encrypted by an algorithm that is not opened
-  12  MacMissing          the store has no MAC, so changes to it cannot be told
+  12  MacMissing          the store has no MAC, so a change to it would go unnoticed
   13  MacUnsupported      the MAC is made neither with SHA-1 nor with SHA-256
   14  ZeroIterations      the store asks for zero iterations
   15  WorkLimit           opening takes more work than --limit allows
   16  MacMismatch         the password is wrong, or the store was changed
   17  ContentMalformed    the MAC agrees, but the contents are damaged
-  18  DecryptFailed       a part does not open under the password of the MAC
+  18  DecryptFailed       the password agrees with the MAC, but a part does not decrypt with it
   19  KeyMalformed        a private key opens, but is not a PKCS#8 key
-  20  Rng                 no random octets could be had
+  20  Rng                 the system gave no random octets
   21  TooLong             the store has more than 16,777,215 octets
   22  PasswordUnusable    a password is not UTF-8, too long, or an empty new one
   23  OutputExists        the output folder is there and not empty, or is no folder
-  24  SelfTestFailed      the self-test did not give what it has to";
+  24  SelfTestFailed      the self-test gave a wrong result";
 
 fn store<'a>(alloc: Global) -> Arg<'a> {
     Arg::new(alloc, "store")
@@ -55,7 +58,7 @@ fn limit<'a>(alloc: Global) -> Arg<'a> {
         .allow_negative_numbers(true)
         .default_value("100000000")
         .help(
-            "The most steps, digests of derivations, that opening may take: 0 to 18446744073709551615",
+            "Refuse a store that takes more than this many steps (hash computations of key derivation) to open: 0 to 18446744073709551615",
         )
 }
 
@@ -79,7 +82,9 @@ fn force<'a>(alloc: Global) -> Arg<'a> {
     Arg::new(alloc, "force")
         .long("force")
         .action(ArgAction::SetTrue)
-        .help("Replace DIR, with all that is in it, where it is not empty")
+        .help(
+            "Replace DIR, with all that is in it, where it is not empty; no file that is read may be in it",
+        )
 }
 
 fn rounds<'a>(alloc: Global) -> Arg<'a> {
@@ -88,7 +93,9 @@ fn rounds<'a>(alloc: Global) -> Arg<'a> {
         .value_name("ROUNDS")
         .allow_negative_numbers(true)
         .default_value("600000")
-        .help("How many rounds of PBKDF2 a try of the new password costs: 1 to 100000000")
+        .help(
+            "Rounds of PBKDF2 for each exported key; more make a password harder to guess: 1 to 100000000",
+        )
 }
 
 fn empty_password<'a>(alloc: Global) -> Arg<'a> {
@@ -155,7 +162,7 @@ fn export<'a>(alloc: Global) -> Result<Command<'a>, AllocError> {
         .about(
             "Write the certificates, and the private keys sealed under a new password, into a new folder",
         )
-        .after_help(PASSWORDS)
+        .after_help(NOTES)
         .arg(store(alloc))?
         .arg(out(alloc))?
         .arg(format(alloc))?
@@ -170,7 +177,7 @@ fn export<'a>(alloc: Global) -> Result<Command<'a>, AllocError> {
 fn check<'a>(alloc: Global) -> Result<Command<'a>, AllocError> {
     let command = Command::new(alloc, "check")
         .about("Open the store, write nothing, and say what is in it")
-        .after_help(PASSWORDS)
+        .after_help(NOTES)
         .arg(store(alloc))?;
     with_password(alloc, command)?.arg(limit(alloc))
 }

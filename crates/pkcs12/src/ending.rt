@@ -25,7 +25,7 @@ pub enum Ending {
     PasswordUnusable,
     /// The output folder is there, and is not an empty folder.
     OutputExists,
-    /// The self-test did not give what it has to.
+    /// The self-test gave a wrong result.
     SelfTestFailed,
     /// The store is refused.
     Refused(TransferError),

@@ -3,7 +3,7 @@ use crate::ending::{Ending, Failure};
 use crate::request::Format;
 use asn1_core::Octets;
 use pem_text::pem_of;
-use std::alloc::Global;
+use std::alloc::{AllocError, Global};
 use std::fs::{DirBuilder, OpenFile, OpenOptions};
 use std::io::Write;
 use std::os::unix::fs::{DirBuilderExt, OpenOptionsExt};
@@ -62,6 +62,54 @@ fn in_the_way(alloc: Global, path: &str, what: &str) -> Failure {
     }
 }
 
+fn write_fault(alloc: Global, purpose: &str, path: &str, error: io::Error) -> Failure {
+    Failure::io(alloc, Ending::WriteFault, purpose, path, error)
+}
+
+/// Why the folder in which the answer is begun was not made. Where one of that name is there already, a process of the same
+/// number left it.
+fn not_made(alloc: Global, part: &str, error: io::Error) -> Failure {
+    if error.kind() == io::ErrorKind::AlreadyExists {
+        return match format!(in alloc;
+            "{part} is left of a run that was killed; remove it: rm -r {part}"
+        ) {
+            Ok(text) => Failure::with(Ending::WriteFault, text),
+            Err(refused) => Failure::from(refused),
+        };
+    }
+    write_fault(alloc, "the folder", part, error)
+}
+
+/// The failure where the folder that stood at the path could not be given its name back.
+fn not_put_back(alloc: Global, path: &str, old: &str, error: io::Error) -> Failure {
+    match format!(in alloc;
+        "the output folder {path}: {error}; the folder that stood there is now at {old}"
+    ) {
+        Ok(text) => Failure::with(Ending::WriteFault, text),
+        Err(refused) => Failure::from(refused),
+    }
+}
+
+/// Removes a folder. Where that fails, a line on the standard error says so.
+fn remove_or_tell<R: Files + Eprint + AllocGlobal>(rt: &R, path: &str, what: &str) {
+    match fs::remove_dir_all(rt, path) {
+        Ok(()) => {}
+        Err(error) => {
+            // A standard error that cannot be written to is no failure of the work.
+            match eprintln!(rt; "pkcs12: {path}, {what}, could not be removed: {error}") {
+                Ok(()) | Err(_) => {}
+            }
+        }
+    }
+}
+
+/// Whether the file lies in the folder; both have to be there. Links are followed.
+fn lies_in<R: Files + AllocGlobal>(rt: &R, file: &str, folder: &str) -> io::Result<bool> {
+    let file = fs::canonicalize(rt, file)?;
+    let folder = fs::canonicalize(rt, folder)?;
+    Ok(file.as_path().starts_with(folder.as_path()))
+}
+
 /// Where nothing stands at the path: it can be made where its parent is a folder.
 fn new_folder<'a, R: Files + AllocGlobal>(rt: &R, path: &'a str) -> Result<Folder<'a>, Failure> {
     match fs::metadata(rt, parent(path)) {
@@ -69,13 +117,7 @@ fn new_folder<'a, R: Files + AllocGlobal>(rt: &R, path: &'a str) -> Result<Folde
             path,
             replaces: false,
         }),
-        Err(error) => Err(Failure::io(
-            rt.alloc(),
-            Ending::WriteFault,
-            "the folder",
-            parent(path),
-            error,
-        )),
+        Err(error) => Err(write_fault(rt.alloc(), "the folder", parent(path), error)),
     }
 }
 
@@ -92,13 +134,7 @@ impl<'a> Folder<'a> {
             Ok(there) => there,
             Err(error) if error.kind() == io::ErrorKind::NotFound => return new_folder(rt, path),
             Err(error) => {
-                return Err(Failure::io(
-                    rt.alloc(),
-                    Ending::WriteFault,
-                    "the output folder",
-                    path,
-                    error,
-                ));
+                return Err(write_fault(rt.alloc(), "the output folder", path, error));
             }
         };
         if there.is_symlink() {
@@ -117,19 +153,38 @@ impl<'a> Folder<'a> {
                 replaces: true,
             }),
             Ok(false) => Err(in_the_way(rt.alloc(), path, "is there already, and is not empty")),
-            Err(error) => Err(Failure::io(
-                rt.alloc(),
-                Ending::WriteFault,
-                "the output folder",
-                path,
-                error,
-            )),
+            Err(error) => Err(write_fault(rt.alloc(), "the output folder", path, error)),
+        }
+    }
+
+    /// `Usage` where the file lies in the folder, and so would be removed with what the folder has now.
+    pub fn keeps<R: Files + AllocGlobal>(&self, rt: &R, file: &str) -> Result<(), Failure> {
+        if !self.replaces {
+            return Ok(());
+        }
+        match lies_in(rt, file, self.path) {
+            Ok(true) => {
+                let path = self.path;
+                Err(Failure::with(
+                    Ending::Usage,
+                    format!(in rt.alloc();
+                        "{file} lies in {path}, and --force would remove it with all that is there"
+                    )?,
+                ))
+            }
+            Ok(false) => Ok(()),
+            Err(error) if error.kind() == io::ErrorKind::OutOfMemory => {
+                Err(Failure::from(AllocError))
+            }
+            // What is not there, or is a pipe, is not in the folder.
+            Err(_) => Ok(()),
         }
     }
 
     /// Writes all of it beside the folder's place, in a folder that this process alone has, and then gives it the folder's
-    /// name. After a failure nothing of it is left, and what stood there before stands there again.
-    pub fn write<R: Files + AllocGlobal>(
+    /// name. After a failure that is removed again, and what stood at the place before stands there again; where either cannot
+    /// be done, a line or the failure says so. A folder that was replaced and cannot be removed is no failure: a line names it.
+    pub fn write<R: Files + Eprint + AllocGlobal>(
         &self,
         rt: &R,
         process: u32,
@@ -140,45 +195,58 @@ impl<'a> Folder<'a> {
         let part = format!(in rt.alloc(); "{path}.part-{process}")?;
         let old = format!(in rt.alloc(); "{path}.old-{process}")?;
         if let Err(error) = DirBuilder::new().mode(0o700).create(rt, &part) {
-            return Err(Failure::io(
-                rt.alloc(),
-                Ending::WriteFault,
-                "the folder",
-                part.as_str(),
-                error,
-            ));
+            return Err(not_made(rt.alloc(), part.as_str(), error));
         }
         let written = match fill(rt, part.as_str(), format, transferred) {
-            Ok(()) if self.replaces => replace(rt, part.as_str(), path, old.as_str()),
-            Ok(()) => fs::rename(rt, &part, path),
-            Err(error) => Err(error),
+            Ok(()) => self.place(rt, part.as_str(), old.as_str()),
+            Err(error) => Err(write_fault(rt.alloc(), "the output folder", path, error)),
         };
         match written {
             Ok(()) => Ok(()),
-            Err(error) => {
-                // The first failure is told, also where the folder cannot be removed.
-                match fs::remove_dir_all(rt, &part) {
-                    Ok(()) | Err(_) => {}
-                }
-                Err(Failure::io(
-                    rt.alloc(),
-                    Ending::WriteFault,
-                    "the output folder",
-                    path,
-                    error,
-                ))
+            Err(failure) => {
+                remove_or_tell(rt, part.as_str(), "the new folder");
+                Err(failure)
             }
+        }
+    }
+
+    /// Gives the new folder the name of this one.
+    fn place<R: Files + Eprint + AllocGlobal>(
+        &self,
+        rt: &R,
+        part: &str,
+        old: &str,
+    ) -> Result<(), Failure> {
+        let path = self.path;
+        if self.replaces {
+            return replace(rt, part, path, old);
+        }
+        match fs::rename(rt, part, path) {
+            Ok(()) => Ok(()),
+            Err(error) => Err(write_fault(rt.alloc(), "the output folder", path, error)),
         }
     }
 }
 
 /// Puts the new folder in the place of the old one, which is removed.
-fn replace<R: Files + AllocGlobal>(rt: &R, part: &str, path: &str, old: &str) -> io::Result<()> {
-    fs::rename(rt, path, old)?;
+fn replace<R: Files + Eprint + AllocGlobal>(
+    rt: &R,
+    part: &str,
+    path: &str,
+    old: &str,
+) -> Result<(), Failure> {
+    if let Err(error) = fs::rename(rt, path, old) {
+        return Err(write_fault(rt.alloc(), "the output folder", path, error));
+    }
     match fs::rename(rt, part, path) {
-        Ok(()) => fs::remove_dir_all(rt, old),
+        Ok(()) => {
+            // The answer is there.
+            remove_or_tell(rt, old, "the folder that was replaced");
+            Ok(())
+        }
         Err(error) => match fs::rename(rt, old, path) {
-            Ok(()) | Err(_) => Err(error),
+            Ok(()) => Err(write_fault(rt.alloc(), "the output folder", path, error)),
+            Err(_) => Err(not_put_back(rt.alloc(), path, old, error)),
         },
     }
 }

@@ -81,12 +81,17 @@ impl fmt::Display for PassedOver {
 }
 
 /// The contents of a store; none where the outer content is encrypted or of another kind.
-fn contents_of(alloc: Global, store: &[u8]) -> Result<Items<ContentInfo>, Failure> {
-    let store = PFX::parse(alloc, store)?;
+fn contents_in(alloc: Global, store: &PFX) -> Result<Items<ContentInfo>, Failure> {
     match &store.auth_safe {
         ContentInfo::Data(text) => Ok(ContentInfo::parse_all(alloc, text.as_slice())?),
         ContentInfo::EncryptedData(_) | ContentInfo::OtherContext(_) => Ok(Items::new(alloc)),
     }
+}
+
+/// The same of a store's octets.
+fn contents_of(alloc: Global, store: &[u8]) -> Result<Items<ContentInfo>, Failure> {
+    let store = PFX::parse(alloc, store)?;
+    contents_in(alloc, &store)
 }
 
 /// Whether the salt is no longer than a store, as it is in every store that is transferred.
@@ -196,10 +201,20 @@ fn content_work(content: &ContentInfo) -> u128 {
     }
 }
 
-/// The steps of opening the contents, which is seen before one of them is opened.
+/// The steps of the MAC; 0 where there is none.
+fn mac_work(store: &PFX) -> u128 {
+    match &store.mac_data {
+        Some(mac) => u128::from(mac.iterations),
+        None => 0,
+    }
+}
+
+/// The steps of the MAC and of opening the contents, which are seen before one of them is opened. Those of the private keys are
+/// not.
 pub fn visible_work(alloc: Global, store: &[u8]) -> Result<u128, Failure> {
-    let contents = contents_of(alloc, store)?;
-    let mut work: u128 = 0;
+    let store = PFX::parse(alloc, store)?;
+    let contents = contents_in(alloc, &store)?;
+    let mut work = mac_work(&store);
     for content in contents.as_slice() {
         work = work.saturating_add(content_work(content));
     }

@@ -19,16 +19,16 @@ use transfer::{TransferError, Transferred, transfer};
 const RANDOM: &str = "/dev/urandom";
 
 /// One octet more than the longest store that is opened, so that a longer one is told.
-const ENOUGH: u64 = 16_777_216;
+const STORE_OCTETS: u64 = 16_777_216;
 
 /// The octets of the store: those of a file, or of the standard input for `-`. No more than 16,777,216 are read.
 pub fn read_store<R: Files + Input + AllocGlobal>(rt: &R, store: &str) -> Result<Vec<u8>, Failure> {
     let mut octets = Vec::new(rt.alloc());
     let read = if store == "-" {
-        rt.reader().take(ENOUGH).read_to_end(&mut octets)
+        rt.reader().take(STORE_OCTETS).read_to_end(&mut octets)
     } else {
         match fs::open(rt, store) {
-            Ok(file) => file.take(ENOUGH).read_to_end(&mut octets),
+            Ok(file) => file.take(STORE_OCTETS).read_to_end(&mut octets),
             Err(error) => Err(error),
         }
     };
@@ -158,8 +158,7 @@ fn meaning_of(refusal: TransferError) -> &'static str {
         TransferError::Malformed => "the file is not a PKCS#12 store in DER",
         TransferError::Unsupported =>
             "something in the store is encrypted by an algorithm that is not opened",
-        TransferError::MacMissing =>
-            "the store has no MAC, so nobody can tell whether it was changed",
+        TransferError::MacMissing => "the store has no MAC, so a change to it would go unnoticed",
         TransferError::MacUnsupported =>
             "the MAC of the store is made neither with SHA-1 nor with SHA-256",
         TransferError::ZeroIterations =>
@@ -168,9 +167,9 @@ fn meaning_of(refusal: TransferError) -> &'static str {
         TransferError::MacMismatch => "the password is wrong, or the store was changed",
         TransferError::ContentMalformed => "the MAC agrees, but the contents are damaged",
         TransferError::DecryptFailed =>
-            "a part of the store does not open under the password of its MAC",
+            "the password agrees with the MAC, but a part does not decrypt with it",
         TransferError::KeyMalformed => "a private key of the store opens, but is not a PKCS#8 key",
-        TransferError::Rng => "no random octets could be had for a sealed key",
+        TransferError::Rng => "the system gave no random octets",
         TransferError::Memory => "there was not enough memory",
     }
 }

@@ -3,15 +3,15 @@ ghost use Rattle.std.specs.Prelude.{◌≡◌, ◌<◌, ◌==◌, IfSome, length
 ghost use Rattle.pkcs12.specs.Origin.{line_of, without_return};
 
 use crate::ending::{Ending, Failure};
-use crate::password::{LONGEST, Password};
+use crate::password::{LONGEST, Password, too_long};
 use std::alloc::{AllocError, Global};
 use std::env::VarError;
-use std::io::Read;
+use std::io::{BufRead, BufReader, Read};
 use std::rt::{Env, Files};
-use std::{env, fs};
+use std::{env, fs, io};
 
-/// The most octets that are read: the longest password, CR LF, and one more, which tells that the line is longer.
-const ENOUGH: u64 = 1027;
+/// The most octets that are read of a line: the longest password, CR LF, and one more, which tells that the line is longer.
+const LINE_OCTETS: u64 = 1027;
 
 /// Where a password comes from.
 #[derive(Clone, Copy)]
@@ -54,9 +54,14 @@ pub fn first_line(octets: &[u8]) -> &[u8]
     }
 }
 
-/// A password for this purpose, from the octets of a file.
+/// A password for this purpose, from the octets that were read of a file.
 fn password_of(alloc: Global, octets: &[u8], purpose: &'static str) -> Result<Password, Failure> {
-    match std::str::from_utf8(first_line(octets)) {
+    let line = first_line(octets);
+    // First, since what was read of a longer line may end inside a letter.
+    if line.len() > LONGEST {
+        return Err(too_long());
+    }
+    match std::str::from_utf8(line) {
         Ok(text) => Password::new(String::from_str(alloc, text)?),
         Err(_) => Err(not_utf8(alloc, purpose)?),
     }
@@ -71,17 +76,25 @@ fn not_utf8(alloc: Global, purpose: &'static str) -> Result<Failure, AllocError>
     ))
 }
 
-/// The first line of what a reader gives.
-fn read_line<R: Read + Drop>(
-    alloc: Global,
-    purpose: &'static str,
-    path: &str,
-    reader: R,
-) -> Result<Password, Failure> {
+/// The octets of a reader to its first LF; no more than 1,027.
+fn line_octets<R: BufRead + Drop>(alloc: Global, reader: R) -> io::Result<Vec<u8>> {
     let mut octets = Vec::new(alloc);
-    match reader.take(ENOUGH).read_to_end(&mut octets) {
-        Ok(_) => password_of(alloc, octets.as_slice(), purpose),
-        Err(error) => Err(Failure::io(alloc, Ending::ReadFault, purpose, path, error)),
+    let mut line = reader.take(LINE_OCTETS);
+    line.read_until(b'\n', &mut octets)?;
+    Ok(octets)
+}
+
+/// The same of a file.
+fn file_octets<R: Files + AllocGlobal>(rt: &R, path: &str) -> io::Result<Vec<u8>> {
+    let file = fs::open(rt, path)?;
+    line_octets(rt.alloc(), BufReader::new(rt.alloc(), file)?)
+}
+
+/// The failure of reading a file of a password.
+fn not_read(alloc: Global, purpose: &'static str, path: &str, error: io::Error) -> Failure {
+    match format!(in alloc; "the {purpose} file") {
+        Ok(file) => Failure::io(alloc, Ending::ReadFault, file.as_str(), path, error),
+        Err(refused) => Failure::from(refused),
     }
 }
 
@@ -107,12 +120,22 @@ pub fn read_password<R: Files + Env + Input + AllocGlobal>(
     purpose: &'static str,
     origin: Origin<'_>,
 ) -> Result<Password, Failure> {
+    let alloc = rt.alloc();
     match origin {
-        Origin::File(path) => match fs::open(rt, path) {
-            Ok(file) => read_line(rt.alloc(), purpose, path, file),
-            Err(error) => Err(Failure::io(rt.alloc(), Ending::ReadFault, purpose, path, error)),
+        Origin::File(path) => match file_octets(rt, path) {
+            Ok(octets) => password_of(alloc, octets.as_slice(), purpose),
+            Err(error) => Err(not_read(alloc, purpose, path, error)),
         },
         Origin::Variable(name) => variable(rt, purpose, name),
-        Origin::Standard => read_line(rt.alloc(), purpose, "standard input", rt.reader()),
+        Origin::Standard => match line_octets(alloc, rt.reader()) {
+            Ok(octets) => password_of(alloc, octets.as_slice(), purpose),
+            Err(error) => Err(Failure::io(
+                alloc,
+                Ending::ReadFault,
+                "the",
+                "standard input",
+                error,
+            )),
+        },
     }
 }

@@ -25,6 +25,16 @@ impl Model for Password {
     ghost invariant = { λ p. length (string_bytes p.text) ≤ 1024 };
 }
 
+/// The failure of a password that is too long.
+pub fn too_long() -> Failure
+    ensures { result.ending ≡ Ending.PasswordUnusable }
+{
+    Failure::new(
+        Ending::PasswordUnusable,
+        "a password has more than 1,024 octets",
+    )
+}
+
 impl Password {
     /// The password of this text. `PasswordUnusable` exactly where it has more than 1,024 octets.
     pub fn new(text: String) -> Result<Password, Failure>
@@ -33,10 +43,7 @@ impl Password {
         ensures err { IfErr result (λ e. e.ending ≡ Ending.PasswordUnusable) }
     {
         if text.len() > LONGEST {
-            return Err(Failure::new(
-                Ending::PasswordUnusable,
-                "a password has more than 1,024 octets",
-            ));
+            return Err(too_long());
         }
         Ok(Password { text })
     }
@@ -54,6 +61,7 @@ impl Password {
 pub fn as_new_password(password: Password, allow_empty: bool) -> Result<Password, Failure>
     ensures ok { IfOk result (λ p. p ≡ password) }
     ensures not_empty { IfOk result (λ p. length p ≡ 0 → IsTrue allow_empty) }
+    ensures allowed { IsTrue allow_empty → IsOk result }
     ensures err { IfErr result (λ e. (e.ending ≡ Ending.PasswordUnusable) × (length password ≡ 0)) }
 {
     if password.as_str().is_empty() && !allow_empty {

@@ -58,7 +58,7 @@ fn detail(
         TransferError::Unsupported => unsupported(alloc, store, password),
         TransferError::MacUnsupported => match mac_digest(alloc, store)? {
             Some(digest) => Ok(Some(format!(in alloc;
-                "the MAC of the store is made with {digest}, and only SHA-1 and SHA-256 are tested"
+                "the MAC of the store is made with {digest}, and only SHA-1 and SHA-256 are supported"
             )?)),
             None => Ok(None),
         },

@@ -1,5 +1,6 @@
 //! What the arguments ask for.
-ghost use Rattle.std.specs.Prelude.{◌≤◌, IfOk};
+ghost use Rattle.std.specs.Prelude.{◌≤◌, IfOk, OkIff};
+ghost use Rattle.std.specs.Str.Parse.{IsNumeral, digits_value, without_leading_plus};
 
 use crate::ending::{Ending, Failure};
 use crate::origin::Origin;
@@ -57,9 +58,15 @@ pub enum Request<'a> {
     SelfTest,
 }
 
-/// The number of rounds. `Usage` where the text is no number from 1 to 100,000,000.
+/// The number of rounds, which the text writes in decimal, with or without a plus. `Usage` where it writes none from 1 to
+/// 100,000,000.
 pub fn rounds_of(alloc: Global, text: &str) -> Result<u32, Failure>
-    ensures { IfOk result (λ n. (1 ≤ n) × (n ≤ 100000000)) }
+    ensures fit { IfOk result (λ n. (1 ≤ n) × (n ≤ 100000000)) }
+    ensures exact { OkIff result
+        (IsNumeral 10 (without_leading_plus text.now)
+        × (1 ≤ digits_value 10 (without_leading_plus text.now))
+        × (digits_value 10 (without_leading_plus text.now) ≤ 100000000))
+        (digits_value 10 (without_leading_plus text.now)) }
 {
     match text.parse::<u32>() {
         Ok(rounds) if rounds >= 1 && rounds <= MOST_ROUNDS => Ok(rounds),

@@ -21,6 +21,9 @@ use transfer::{TransferError, Transferred};
 /// keeps silent. Its value is the path under which the wrapper gives the store's password in each run.
 const ASKING: &str = "PKCS12_ASKING";
 
+/// The standard input as a path, which may be a link to a file.
+const INPUT: &str = "/dev/stdin";
+
 /// More steps than a machine takes in about a second.
 const LONG_WORK: u128 = 2_000_000;
 
@@ -97,22 +100,37 @@ fn refused_unasked<R: Runtime + AllocGlobal>(rt: &R, store: &[u8], limit: u64) -
     }
 }
 
+fn are_many(rounds: Option<u32>) -> bool {
+    match rounds {
+        Some(rounds) => rounds > LONG_ROUNDS,
+        None => false,
+    }
+}
+
+/// Says what the work takes; `rounds` are those of each private key that is written.
+fn tell_work<R: Eprint>(rt: &R, work: u128, rounds: Option<u32>) -> io::Result<()> {
+    match rounds {
+        Some(rounds) => eprintln!(rt;
+            "pkcs12: working: opening the store takes at least {work} steps, and each private key {rounds} rounds .."
+        ),
+        None => eprintln!(rt; "pkcs12: working: opening the store takes at least {work} steps .."),
+    }
+}
+
 /// Says at a terminal that the work takes a while.
 fn tell_long_work<R: Runtime + AllocGlobal>(
     rt: &R,
     around: Surroundings,
     store: &[u8],
-    rounds: u32,
+    rounds: Option<u32>,
 ) {
     let work = match visible_work(rt.alloc(), store) {
         Ok(work) => work,
         Err(_) => 0,
     };
-    if around.at_terminal && (work > LONG_WORK || rounds > LONG_ROUNDS) {
+    if around.at_terminal && (work > LONG_WORK || are_many(rounds)) {
         // A terminal that cannot be written to is no failure of the work.
-        match eprintln!(rt;
-            "pkcs12: working: {work} steps to open the store, {rounds} rounds for each key .."
-        ) {
+        match tell_work(rt, work, rounds) {
             Ok(()) | Err(_) => {}
         }
     }
@@ -182,7 +200,7 @@ fn run_check<R: Runtime + AllocGlobal>(
     asked: &Check<'_>,
 ) -> Result<(), Failure> {
     let given = read_given(rt, asked.store, asked.password, asked.limit)?;
-    tell_long_work(rt, around, given.store.as_slice(), 1);
+    tell_long_work(rt, around, given.store.as_slice(), None);
     let counts = checked(rt, &given, asked.limit)?;
     let text = summary_of(rt.alloc(), &given, counts)?;
     printed(rt, rt.print(text.as_str()))
@@ -210,7 +228,7 @@ fn sealed<R: Runtime + AllocGlobal>(
     given: &Given,
     new_password: &Password,
 ) -> Result<Transferred, Failure> {
-    tell_long_work(rt, around, given.store.as_slice(), asked.rounds);
+    tell_long_work(rt, around, given.store.as_slice(), Some(asked.rounds));
     let order = Order {
         store: given.store.as_slice(),
         password: &given.password,
@@ -231,7 +249,7 @@ fn transferred<R: Runtime + AllocGlobal>(
     match new_password(rt, asked)? {
         Some(new_password) => sealed(rt, around, asked, given, &new_password),
         None => {
-            tell_long_work(rt, around, given.store.as_slice(), 1);
+            tell_long_work(rt, around, given.store.as_slice(), None);
             export_certificates(rt, given.store.as_slice(), &given.password, asked.limit)
         }
     }
@@ -255,12 +273,42 @@ fn exported<R: Runtime + AllocGlobal>(
     }
 }
 
+/// `Usage` where `--force` would remove the file in which this password stands.
+fn password_stays<R: Files + AllocGlobal>(
+    rt: &R,
+    folder: &Folder<'_>,
+    origin: Option<Origin<'_>>,
+) -> Result<(), Failure> {
+    match origin {
+        Some(Origin::File(path)) => folder.keeps(rt, path),
+        Some(Origin::Standard) => folder.keeps(rt, INPUT),
+        Some(Origin::Variable(_)) | None => Ok(()),
+    }
+}
+
+/// `Usage` where `--force` would remove a file that is read.
+fn inputs_stay<R: Files + AllocGlobal>(
+    rt: &R,
+    folder: &Folder<'_>,
+    asked: &Export<'_>,
+) -> Result<(), Failure> {
+    let store = if asked.store == "-" {
+        INPUT
+    } else {
+        asked.store
+    };
+    folder.keeps(rt, store)?;
+    password_stays(rt, folder, asked.password)?;
+    password_stays(rt, folder, asked.new_password)
+}
+
 fn run_export<R: Runtime + AllocGlobal>(
     rt: &R,
     around: Surroundings,
     asked: &Export<'_>,
 ) -> Result<(), Failure> {
     let folder = Folder::find(rt, asked.out, asked.force)?;
+    inputs_stay(rt, &folder, asked)?;
     if needs_new_password(rt, asked) {
         return Err(new_password_missing());
     }
