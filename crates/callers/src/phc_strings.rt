@@ -142,7 +142,7 @@ fn a_refusal_is_printed_as_its_name(rt: HostRuntime) -> Result<(), Fail> {
         (Error::SaltInvalid, "SaltInvalid"),
         (Error::Version, "Version"),
         (Error::Rng, "Rng"),
-        (Error::Memory, "Memory"),
+        (Error::Memory, "out of memory"),
     ] {
         assert_eq!(rt; refusal.to_string(rt.alloc())?.as_str(), text);
     }

@@ -104,7 +104,7 @@ fn refusals_are_printed(rt: HostRuntime) {
     assert_eq!(rt; costs.as_str(), "InvalidParams");
     for (refusal, text) in [
         (ScryptError::InvalidOutputLen, "InvalidOutputLen"),
-        (ScryptError::Memory, "Memory"),
+        (ScryptError::Memory, "out of memory"),
     ] {
         let shown = format!(in alloc; "{refusal}").expect(&rt, "memory");
         assert_eq!(rt; shown.as_str(), text);

@@ -4,6 +4,8 @@
 #![tactic(auto)]
 
 #[cfg(test)]
+mod ciphertexts_opened;
+#[cfg(test)]
 mod stores_made;
 #[cfg(test)]
 mod stores_read;

@@ -1,7 +1,9 @@
 //! Stores that are made.
-use asn1_core::Octets;
+ghost use Rattle.std.specs.Prelude.{◌<◌, ◌^◌, length};
+
+use asn1_core::{Items, Octets};
 use mac_modes::DrawnBytes;
-use p12::{EncryptedContentInfo, EncryptedData, Error, MacData};
+use p12::{EncryptedContentInfo, EncryptedData, Error, MacData, PFX};
 use std::alloc::Global;
 use std::test::Fail;
 
@@ -9,6 +11,20 @@ use std::test::Fail;
 const SALTS: &[u8] = &[
     0, 1, 2, 3, 4, 5, 6, 7, 8, 9, 10, 11, 12, 13, 14, 15, 16, 17, 18, 19, 20, 21, 22, 23,
 ];
+
+/// A public key of Ed25519, which stands for a certificate, and its private key.
+const CERTIFICATE: &[u8] =
+    b"\x30\x2a\x30\x05\x06\x03\x2b\x65\x70\x03\x21\x00\x4d\x29\x16\x7f\x3f\x19\x12\xa6\
+    \xf7\xad\xfa\x29\x3a\x05\x1a\x15\xc0\x5e\xc6\x7b\x8f\x17\x26\x7b\x1c\x55\x50\xdc\
+    \xe8\x53\xbd\x0d";
+
+const KEY: &[u8] =
+    b"\x30\x2e\x02\x01\x00\x30\x05\x06\x03\x2b\x65\x70\x04\x22\x04\x20\x17\xed\x9c\x73\
+    \xe9\xdb\x64\x9e\xc1\x89\xa6\x12\x83\x1c\x5f\xc5\x70\x23\x82\x07\xc1\xaa\x9d\xfb\
+    \xd2\xc5\x3e\x3f\xf5\xe5\xea\x85";
+
+/// The certificate of an authority, by its form alone.
+const AUTHORITY: &[u8] = b"\x30\x00";
 
 /// The MAC of an empty list under no password and the first salt, and the empty list under the second and the third; by
 /// `tests/make_store.py`.
@@ -34,5 +50,80 @@ fn parts_are_made_under_drawn_salts(rt: HostRuntime) -> Result<(), Fail> {
         Ok(_) => assert!(rt; false),
         Err(refusal) => assert!(rt; refusal == Error::Rng),
     }
+    Ok(())
+}
+
+/// Whether these octets stand at this place of a list.
+fn stand_at(items: &Items<Octets>, at: usize, octets: &[u8]) -> bool {
+    match items.get(at) {
+        Some(found) => found.as_slice() == octets,
+        None => false,
+    }
+}
+
+/// Whether a store of the certificate, a key and the authority's certificate gives them under its password, and its MAC
+/// agrees under no other.
+fn gives_its_parts(
+    alloc: Global,
+    key: &[u8],
+    password: &str,
+    other_password: &str,
+) -> Result<bool, Error>
+    requires password { length password.now < 2 ^ 57 }
+    requires other { length other_password.now < 2 ^ 57 }
+{
+    let mut draw = DrawnBytes::new(Octets::from_slice(alloc, SALTS)?);
+    let authority = Some(AUTHORITY);
+    let store = PFX::new(
+        alloc,
+        CERTIFICATE,
+        key,
+        authority,
+        password,
+        "look",
+        &mut draw,
+    )?;
+    let certificates = store.cert_x509_bags(alloc, password)?;
+    let keys = store.key_bags(alloc, password)?;
+    let agrees = store.verify_mac(alloc, password)?;
+    let agrees_under_other = store.verify_mac(alloc, other_password)?;
+    Ok(
+        certificates.len() == 2
+            && stand_at(&certificates, 0, CERTIFICATE)
+            && stand_at(&certificates, 1, AUTHORITY)
+            && keys.len() == 1
+            && stand_at(&keys, 0, key)
+            && agrees
+            && !agrees_under_other,
+    )
+}
+
+#[test]
+fn a_store_gives_what_it_was_made_of(rt: HostRuntime) -> Result<(), Fail> {
+    assert!(rt; gives_its_parts(rt.alloc(), KEY, "changeit", "changed")?);
+    Ok(())
+}
+
+#[test]
+fn a_store_of_an_empty_key_has_an_empty_password(rt: HostRuntime) -> Result<(), Fail> {
+    assert!(rt; gives_its_parts(rt.alloc(), &[], "", "changeit")?);
+    Ok(())
+}
+
+#[test]
+fn a_store_gives_further_certificates_in_order(rt: HostRuntime) -> Result<(), Fail> {
+    let alloc = rt.alloc();
+    let mut draw = DrawnBytes::new(Octets::from_slice(alloc, SALTS)?);
+    let mut others = Items::new(alloc);
+    others.push(Octets::from_slice(alloc, AUTHORITY)?)?;
+    others.push(Octets::from_slice(alloc, &[0x30, 2, 5, 0])?)?;
+    let others = others.as_slice();
+    let store = PFX::new_with_cas(alloc, CERTIFICATE, KEY, others, "p", "look", &mut draw)?;
+    let certificates = store.cert_x509_bags(alloc, "p")?;
+    assert!(rt; certificates.len() == 3 && stand_at(&certificates, 0, CERTIFICATE));
+    assert!(rt; stand_at(&certificates, 1, AUTHORITY));
+    assert!(rt; stand_at(&certificates, 2, &[0x30, 2, 5, 0]));
+    let keys = store.key_bags(alloc, "p")?;
+    assert!(rt; keys.len() == 1 && stand_at(&keys, 0, KEY) && store.verify_mac(alloc, "p")?);
     Ok(())
 }

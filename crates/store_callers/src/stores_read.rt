@@ -39,13 +39,13 @@ const BAGS: &[u8] =
     \x12\x06\x0a\x2a\x86\x48\x86\xf7\x0d\x01\x09\x16\x01\xa0\x04\x04\x02\x30\x00";
 
 /// A private key of OpenSSL.
-const KEY: &[u8] =
+pub const KEY: &[u8] =
     b"\x30\x2e\x02\x01\x00\x30\x05\x06\x03\x2b\x65\x70\x04\x22\x04\x20\x34\x50\x10\x42\
     \x3a\x87\xc0\x11\xc2\x56\x1f\x62\x3f\x4e\x81\x32\x59\x0a\xc5\x4b\x0c\x4b\xe3\x28\
     \x4d\xb6\xfc\xb9\xc5\x34\xff\x85";
 
 /// Its EncryptedPrivateKeyInfo under the password `p` (`openssl pkcs8 -topk8 -v1 PBE-SHA1-3DES -iter 1`).
-const ENCRYPTED_KEY: &[u8] =
+pub const ENCRYPTED_KEY: &[u8] =
     b"\x30\x57\x30\x1b\x06\x0a\x2a\x86\x48\x86\xf7\x0d\x01\x0c\x01\x03\x30\x0d\x04\x08\
     \x26\xe0\x1c\xe8\xa9\xfe\x34\x83\x02\x01\x01\x04\x38\xb6\x30\x4f\x1c\xdd\xfc\xda\
     \xc1\x69\x8f\xd1\xe0\xf2\x44\x4f\xf5\xbc\x3b\x33\xdb\x65\x25\xc7\xeb\x41\x13\x12\
@@ -64,9 +64,9 @@ const PBES2_KEY: &[u8] =
     \x94\x36\x71\xa3\x0b\x3d\x08\x88\xeb\xc9\xfa\x28\xe7\x39\x88\xbf\x79";
 
 /// The password `p` in UTF-16 (RFC 7292 appendix B.1).
-const PASSWORD: [u8; 4] = [0, 0x70, 0, 0];
+pub const PASSWORD: [u8; 4] = [0, 0x70, 0, 0];
 
-const SALT: [u8; 8] = [1, 2, 3, 4, 5, 6, 7, 8];
+pub const SALT: [u8; 8] = [1, 2, 3, 4, 5, 6, 7, 8];
 
 #[test]
 fn a_password_is_utf16_and_two_zeros(rt: HostRuntime) -> Result<(), Fail> {
@@ -333,6 +333,26 @@ fn bags_are_read_with_their_attributes(rt: HostRuntime) -> Result<(), Fail> {
     assert!(rt;
         bag.bag.oid().as_bytes() == b"\x2a\x86\x48\x86\xf7\x0d\x01\x0c\x0a\x01\x03".as_slice()
     );
+    Ok(())
+}
+
+/// A store without a MAC, of one SDSI certificate, `ab`.
+const SDSI_STORE: &[u8] =
+    b"\x30\x4e\x02\x01\x03\x30\x49\x06\x09\x2a\x86\x48\x86\xf7\x0d\x01\x07\x01\xa0\x3c\
+    \x04\x3a\x30\x38\x30\x36\x06\x09\x2a\x86\x48\x86\xf7\x0d\x01\x07\x01\xa0\x29\x04\x27\
+    \x30\x25\x30\x23\x06\x0b\x2a\x86\x48\x86\xf7\x0d\x01\x0c\x0a\x01\x03\xa0\x14\x30\x12\
+    \x06\x0a\x2a\x86\x48\x86\xf7\x0d\x01\x09\x16\x02\xa0\x04\x16\x02\x61\x62";
+
+#[test]
+fn the_sdsi_certificates_of_a_store_are_collected(rt: HostRuntime) -> Result<(), Fail> {
+    let alloc = rt.alloc();
+    let store = PFX::parse(alloc, SDSI_STORE)?;
+    let texts = store.cert_sdsi_bags(alloc, "p")?;
+    assert!(rt; texts.len() == 1 && texts.get(0).expect(&rt, "a text").as_str() == "ab");
+    assert!(rt; store.cert_x509_bags(alloc, "p")?.is_empty() && store.verify_mac(alloc, "p")?);
+    let bags = store.bags(alloc, "p")?;
+    let bag = bags.get(0).expect(&rt, "a bag");
+    assert!(rt; bag.bag.get_sdsi_cert(alloc)?.expect(&rt, "a text").as_str() == "ab");
     Ok(())
 }
 

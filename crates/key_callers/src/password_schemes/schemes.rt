@@ -156,3 +156,58 @@ fn parameters_of_drawn_octets(rt: HostRuntime) {
     let other = oid(&rt, "1.2.840.113549.1.5.12");
     assert!(rt; PBKDF2_OID == other);
 }
+
+/// Whether parameters are of scrypt under these costs, with a salt of the octet 9 eight times.
+fn is_of_scrypt(parameters: &Parameters) -> bool {
+    match parameters.kdf.scrypt() {
+        Some(params) => {
+            parameters.kdf.is_scrypt()
+                && (params.cost_parameter, params.block_size) == (16, 8)
+                && params.parallelization == 1
+                && params.key_length.is_none()
+                && params.salt.as_bytes() == [9u8; 8].as_slice()
+        }
+        None => false,
+    }
+}
+
+#[test]
+fn parameters_of_scrypt_have_their_cipher(rt: HostRuntime) {
+    let costs = scrypt_core::Params::new(4, 8, 1).expect(&rt, "costs");
+    let made = [
+        Parameters::generate_scrypt_aes128cbc(costs, &[9; 8], [7; 16]),
+        Parameters::generate_scrypt_aes256cbc(costs, &[9; 8], [7; 16]),
+        Parameters::scrypt_aes128gcm(costs, &[9; 8], [7; 12]),
+        Parameters::scrypt_aes256gcm(costs, &[9; 8], [7; 12]),
+    ];
+    let ciphers = [
+        pbes2::EncryptionScheme::Aes128Cbc { iv: [7; 16] },
+        pbes2::EncryptionScheme::Aes256Cbc { iv: [7; 16] },
+        pbes2::EncryptionScheme::Aes128Gcm { nonce: [7; 12] },
+        pbes2::EncryptionScheme::Aes256Gcm { nonce: [7; 12] },
+    ];
+    for at in 0..4 {
+        let Ok(parameters) = &made[at] else {
+            panic!(rt; "parameters");
+        };
+        assert!(rt; is_of_scrypt(parameters) && parameters.encryption == ciphers[at]);
+    }
+}
+
+#[test]
+fn parameters_of_pbkdf2_from_drawn_octets(rt: HostRuntime) {
+    let alloc = rt.alloc();
+    let drawn =
+        b"\x00\x01\x02\x03\x04\x05\x06\x07\x08\x09\x0a\x0b\x0c\x0d\x0e\x0f\x10\x11\x12\x13\x14\x15\x16\x17\x18\x19\x1a\x1b\x1c\x1d\x1e\x1f";
+    let mut draw = DrawnBytes::new(Octets::from_slice(alloc, drawn).expect(&rt, "memory"));
+    let parameters = Parameters::generate_pbkdf2(&mut draw).expect(&rt, "parameters");
+    let pbes2::EncryptionScheme::Aes256Cbc { iv } = parameters.encryption else {
+        panic!(rt; "AES-256");
+    };
+    assert!(rt; iv[..] == drawn[..16] && !parameters.kdf.is_scrypt());
+    let Kdf::Pbkdf2(params) = parameters.kdf else {
+        panic!(rt; "PBKDF2");
+    };
+    assert!(rt; params.salt.as_bytes() == &drawn[16..] && params.iteration_count == 600_000);
+    assert!(rt; params.prf == pbes2::Pbkdf2Prf::HmacWithSha256 && params.key_length.is_none());
+}

@@ -59,7 +59,7 @@ fn opened<K: DecodePrivateKey>(alloc: Global, document: &[u8], password: &[u8]) 
 }
 
 /// The document of a key of a type of one's own under scrypt, with an initialization vector and a salt that are drawn.
-fn sealed<K: EncodePrivateKey, D: Draw>(
+pub fn sealed<K: EncodePrivateKey, D: Draw>(
     alloc: Global,
     draw: &mut D,
     key: &K,

@@ -1,9 +1,15 @@
 //! Private keys under passwords. More documents are lines of `tests/vectors/encrypted_keys.txt`.
 use super::KEY;
+use super::callers::sealed;
 use crate::values::{octets, oid};
+use asn1_core::Octets;
 use der_core::{Decode, Encode, OctetStringRef, canon_is_read, exact_spellings, texts_are_read};
+use outside::DrawnBytes;
 use pkcs5::pbes2;
-use pkcs8::{EncryptedPrivateKeyInfo, EncryptedPrivateKeyInfoRef, Error, PrivateKeyInfoRef};
+use pkcs8::{
+    EncryptedPrivateKeyInfo, EncryptedPrivateKeyInfoOwned, EncryptedPrivateKeyInfoRef, Error,
+    PrivateKeyInfoRef, Result, SecretDocument,
+};
 use std::alloc::Global;
 use std::process::Abort;
 
@@ -38,6 +44,73 @@ fn opens_and_seals(rt: &impl Abort, alloc: Global, document: &str, key: &str) ->
 fn a_document_of_another_program_is_opened_and_made_again(rt: HostRuntime) {
     let alloc = rt.alloc();
     assert!(rt; opens_and_seals(&rt, alloc, SEALED, KEY));
+}
+
+/// That key under `hunter42` by scrypt and AES-256-CBC, with the octets 00 to 0f for the vector and 10 to 1f for the salt, by Python's
+/// `hashlib` and OpenSSL.
+const BY_SCRYPT: &str =
+    "30819b305706092a864886f70d01050d304a302906092b06010401da47040b301c0410101112131415161718191a1b1c1d1e1f02024000020108020101301d060960864801650304012a0410000102030405060708090a0b0c0d0e0f0440c71606ab8c756e70dfce46b276fea10139d0c07a32d7c58ff5a7a5db004455a17f54e3af29bd8b5c47a5c161064cade7b0da070d4b2aeffd867a35bbed8e0631";
+
+/// Draws these octets.
+fn drawing(rt: &impl Abort, alloc: Global) -> DrawnBytes {
+    let drawn =
+        b"\x00\x01\x02\x03\x04\x05\x06\x07\x08\x09\x0a\x0b\x0c\x0d\x0e\x0f\x10\x11\x12\x13\x14\x15\x16\x17\x18\x19\x1a\x1b\x1c\x1d\x1e\x1f";
+    DrawnBytes::new(Octets::from_slice(alloc, drawn).expect(rt, "memory"))
+}
+
+/// Whether a call made that document.
+fn is_by_scrypt(rt: &impl Abort, alloc: Global, document: Result<SecretDocument>) -> bool {
+    let expected = octets(rt, alloc, BY_SCRYPT);
+    match document {
+        Ok(document) => document.as_bytes() == expected.as_slice(),
+        Err(_) => false,
+    }
+}
+
+#[test]
+fn a_key_is_sealed_under_drawn_octets(rt: HostRuntime) {
+    let alloc = rt.alloc();
+    let text = octets(&rt, alloc, KEY);
+    let key = PrivateKeyInfoRef::try_from(text.as_slice()).expect(&rt, "a private key");
+    let mut draw = drawing(&rt, alloc);
+    let document = key.encrypt(alloc, &mut draw, b"hunter42");
+    assert!(rt; is_by_scrypt(&rt, alloc, document));
+    let mut draw = drawing(&rt, alloc);
+    let document = key.encrypt_with_rng(alloc, &mut draw, b"hunter42");
+    assert!(rt; is_by_scrypt(&rt, alloc, document));
+    let mut draw = drawing(&rt, alloc);
+    let document = sealed(alloc, &mut draw, &key, b"hunter42");
+    assert!(rt; is_by_scrypt(&rt, alloc, document));
+    let document = octets(&rt, alloc, BY_SCRYPT);
+    let Ok(info) = EncryptedPrivateKeyInfoRef::try_from(document.as_slice()) else {
+        panic!(rt; "a document");
+    };
+    let opened = info.decrypt(alloc, b"hunter42").expect(&rt, "a key");
+    assert!(rt; opened.as_bytes() == text.as_slice());
+}
+
+/// Whether a document in memory of its own, a copy of it and one from the borrowed form are that document.
+fn are_owned(alloc: Global, document: &[u8]) -> bool {
+    let Ok(info) = EncryptedPrivateKeyInfoRef::try_from(document) else {
+        return false;
+    };
+    let Ok(owned) = EncryptedPrivateKeyInfoOwned::from_der(alloc, document) else {
+        return false;
+    };
+    let Ok(copy) = owned.try_clone(alloc) else {
+        return false;
+    };
+    let Ok(other) = info.ref_to_owned(alloc) else {
+        return false;
+    };
+    owned.owned_to_ref() == info && copy == owned && other == owned
+}
+
+#[test]
+fn documents_in_memory_of_their_own_are_equal(rt: HostRuntime) {
+    let alloc = rt.alloc();
+    let text = octets(&rt, alloc, SEALED);
+    assert!(rt; are_owned(alloc, text.as_slice()));
 }
 
 /// What decrypting these octets under a password is refused for.

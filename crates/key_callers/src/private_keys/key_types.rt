@@ -141,5 +141,7 @@ fn owned_forms_are_equal(rt: HostRuntime) {
     let text = octets(&rt, alloc, WITH_PUBLIC_KEY);
     let key = PrivateKeyInfoRef::try_from(text.as_slice()).expect(&rt, "a key");
     let owned = PrivateKeyInfoOwned::from_der(alloc, text.as_slice()).expect(&rt, "a key");
-    assert!(rt; owned.owned_to_ref() == key && key.ref_to_owned(alloc) == Ok(owned));
+    let copy = owned.try_clone(alloc).expect(&rt, "memory");
+    assert!(rt; copy.owned_to_ref() == key && owned.owned_to_ref() == key);
+    assert!(rt; key.ref_to_owned(alloc) == Ok(owned));
 }
