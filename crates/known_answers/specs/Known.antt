@@ -1,5 +1,5 @@
 -- What each call answers, by the definitions of the crates; which lines are cases, and which cases hold.
-use Rattle.std.specs.Prelude.{◌≡◌, ℕ, ◌^◌, ◌-◌, List, [], ◌++◌, drop, length, get_or, codes, Ok}
+use Rattle.std.specs.Prelude.{◌≡◌, ℕ, ◌^◌, ◌-◌, List, [], ◌∷◌, ◌++◌, drop, length, get_or, codes, Ok}
 use Rattle.sha1.specs.Sha1.{sha1}
 use Rattle.sha2.specs.Sha256.{sha224, sha256}
 use Rattle.sha2.specs.Sha512.{sha384, sha512}
@@ -26,6 +26,8 @@ use Rattle.p12.specs.declared.pfx.PFX.{PFX}
 use Rattle.pkcs5.specs.Scheme.{scheme_at, scheme_text}
 use Rattle.pkcs5.specs.SchemeOpening.{SchemeOpens}
 use Rattle.pkcs5.specs.declared.encryption_scheme.EncryptionScheme.{EncryptionScheme}
+use Rattle.spki.specs.Seen.{AnyPublicKey, IsPublicKey}
+use Rattle.spki.specs.Spelling.{public_key_text}
 use Rattle.known_answers.specs.declared.call.Call.{Call}
 use Rattle.known_answers.specs.declared.call.Call.TheVariants.{Aes128Encrypt, Aes128Decrypt, Aes192Encrypt, Aes192Decrypt, Aes256Encrypt, Aes256Decrypt, DesEncrypt, DesDecrypt, TdesEncrypt, TdesDecrypt, CbcAes128Decrypt, CbcAes192Decrypt, CbcAes256Decrypt, CbcDesDecrypt, CbcTdesDecrypt, GcmAes128Encrypt, GcmAes128Decrypt, GcmAes192Encrypt, GcmAes192Decrypt, GcmAes256Encrypt, GcmAes256Decrypt, HmacSha1, HmacSha224, HmacSha256, HmacSha384, HmacSha512, Pbkdf2Sha1, Pbkdf2Sha256, Pbkdf2Sha512, Scrypt, Pkcs12Key, Pkcs12Store, Pkcs12Written, PhcVerify, PhcString, Pkcs5Decrypt, Pkcs5Encrypt, Pkcs5Scheme, SpkiFingerprint, Identifier}
 
@@ -117,6 +119,12 @@ pub record IsMade (certificate key password name drawn : List ℕ) (others : Lis
 abbrev pub IsWritten : List ℕ → List ℕ → Type 0
 IsWritten t o = (store : PFX) × IsStore t store × (o ≡ store_canon store)
 
+-- o is the fingerprint of the public key that the text t has
+pub record IsFingerprint (t o : List ℕ) : Type 0 where
+  pub key : AnyPublicKey
+  pub is : IsPublicKey t key
+  pub digest : o ≡ sha256 (public_key_text key)
+
 -- o is what the call answers at these words
 abbrev pub IsAnswer : Call → List (List ℕ) → List ℕ → Type 0
 IsAnswer Aes128Encrypt words o = o ≡ aes_128 (word words 0) (word words 1)
@@ -155,7 +163,7 @@ IsAnswer Pkcs12Key words o = (rounds id size : ℕ) × (uint_of (2 ^ 32 - 1) (wo
     × (o ≡ derive12 sha1 20 (word words 0) (word words 1) rounds id size)
 IsAnswer Pkcs12Store words o = IsMade (word words 0) (word words 1) (word words 2) (word words 3) (word words 4) (drop 5 words) o
 IsAnswer Pkcs12Written words o = IsWritten (word words 0) o
-IsAnswer PhcVerify words o = (hash : PasswordHash) × Phc (word words 1) hash × Agrees (word words 0) hash
+IsAnswer PhcVerify words o = (hash : PasswordHash) × Phc (word words 1) hash × Agrees (word words 0) hash × (o ≡ 1 ∷ [])
 IsAnswer Pkcs5Decrypt words o = (scheme : EncryptionScheme) × (whole scheme_at (word words 0) ≡ Ok scheme)
     × SchemeOpens scheme (word words 1) (word words 2) o
 IsAnswer PhcString words o = IsRewritten (word words 0) o
@@ -163,5 +171,5 @@ IsAnswer Pkcs5Encrypt words o = (scheme : EncryptionScheme) × (whole scheme_at 
     × SchemeOpens scheme (word words 1) o (word words 2)
 IsAnswer Pkcs5Scheme words o = (scheme : EncryptionScheme) × (whole scheme_at (word words 0) ≡ Ok scheme)
     × (o ≡ scheme_text scheme)
-IsAnswer SpkiFingerprint words o = length o ≡ 32
+IsAnswer SpkiFingerprint words o = IsFingerprint (word words 0) o
 IsAnswer Identifier words o = IsText (word words 0) o

@@ -4,7 +4,7 @@ ghost use Rattle.phc_core.specs.PasswordHash.{Phc};
 ghost use Rattle.phc_core.specs.declared.password_hash.PasswordHash.{PasswordHash};
 ghost use Rattle.pbkdf2.specs.Hashes.{Agrees};
 ghost use Rattle.mac_modes.specs.Hmac.{hmac};
-ghost use Rattle.known_answers.specs.Known.{word, Costs, IsAnswer, IsDerived, IsGcmOpened, IsGcmSealed, IsMade, IsOpened, IsRewritten};
+ghost use Rattle.known_answers.specs.Known.{word, Costs, IsAnswer, IsDerived, IsFingerprint, IsGcmOpened, IsGcmSealed, IsMade, IsOpened, IsRewritten};
 ghost use Rattle.known_answers.specs.declared.call.Call.TheVariants.{Pkcs12Key, Pkcs12Store, Pkcs12Written, Scrypt, PhcVerify, PhcString, Pkcs5Decrypt, Pkcs5Encrypt, Pkcs5Scheme, SpkiFingerprint, Identifier};
 
 use crate::call::Call;
@@ -22,7 +22,7 @@ use pbkdf2::{PasswordVerifier, Pbkdf2, pbkdf2_hmac};
 use phc_core::PasswordHash;
 use pkcs5::EncryptionScheme;
 use scrypt_core::{Params, scrypt};
-use spki::SubjectPublicKeyInfoRef;
+use spki::{SubjectPublicKeyInfoOwned, public_keys_are_written};
 use std::alloc::Global;
 
 /// The longest password, in octets.
@@ -357,6 +357,15 @@ fn scheme_written(alloc: Global, words: &[Octets]) -> Result<Octets, Refused>
     }
 }
 
+/// The fingerprint of the public key of this text.
+fn fingerprint_of(alloc: Global, text: &[u8]) -> Result<Octets, Refused>
+    ensures { IfOk result (λ o. IsFingerprint text.now o) }
+{
+    let key = SubjectPublicKeyInfoOwned::from_der(alloc, text)?;
+    public_keys_are_written(&key.owned_to_ref(), &key);
+    Ok(Octets::from_slice(alloc, &key.fingerprint_bytes()?)?)
+}
+
 /// The fingerprint of a public key: its text.
 fn fingerprint(alloc: Global, words: &[Octets]) -> Result<Octets, Refused>
     ensures { IfOk result (λ o. IsAnswer SpkiFingerprint words.now o) }
@@ -364,8 +373,7 @@ fn fingerprint(alloc: Global, words: &[Octets]) -> Result<Octets, Refused>
     if words.len() != 1 {
         return Err(Refused::Words);
     }
-    let key = SubjectPublicKeyInfoRef::from_der(words[0].as_slice())?;
-    Ok(Octets::from_slice(alloc, &key.fingerprint_bytes()?)?)
+    fingerprint_of(alloc, words[0].as_slice())
 }
 
 /// The octets of an identifier: its text.

@@ -73,7 +73,11 @@ impl From<p12::Error> for Refused {
 
 impl From<spki::Error> for Refused {
     fn from(e: spki::Error) -> Refused {
-        Refused::Spki(e)
+        match e {
+            spki::Error::Asn1(e) => Refused::Asn1(e),
+            spki::Error::Memory => Refused::Memory,
+            other => Refused::Spki(other),
+        }
     }
 }
 
