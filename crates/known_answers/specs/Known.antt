@@ -19,8 +19,8 @@ use Rattle.phc_core.specs.declared.password_hash.PasswordHash.{PasswordHash}
 use Rattle.pbkdf2.specs.Hashes.{Agrees}
 use Rattle.p12.specs.Building.{IsStoreOf, Salts}
 use Rattle.p12.specs.Canonical.{store_canon}
-use Rattle.p12.specs.Derivation.{derive12}
-use Rattle.p12.specs.Password.{bmp_password}
+use Rattle.pkcs12_kdf.specs.Derivation.{derive12}
+use Rattle.pkcs12_kdf.specs.Password.{bmp_password}
 use Rattle.p12.specs.Pfx.{IsStore}
 use Rattle.p12.specs.declared.pfx.PFX.{PFX}
 use Rattle.pkcs5.specs.Scheme.{scheme_at, scheme_text}

@@ -1,5 +1,5 @@
 -- What is written of a value that some text has is read again.
-use Rattle.std.proofs.Common.{◌≡◌, ℕ, suc, ◌≤◌, ◌-◌, ◌^◌, List, [], ◌∷◌, ◌++◌, map, length, Option, Some, None, refl, sym, ap, subst, ◌∙◌, inl, inr, arith, append-nil}
+use Rattle.std.proofs.Common.{◌≡◌, ℕ, suc, ◌-◌, ◌^◌, List, [], ◌∷◌, ◌++◌, map, length, Option, Some, None, refl, sym, ap, subst, ◌∙◌, inl, inr, arith, append-nil}
 use Rattle.std.proofs.lemmas.List.{map-id}
 use Rattle.std.proofs.lemmas.List.Sorted.{IsPermutation-refl, IsPermutation-trans, IsPermutation-map, length_permutation}
 use Rattle.std.proofs.lemmas.List.Elements.{All-nil, All-cons}
@@ -7,9 +7,9 @@ use Rattle.std.specs.Prelude.{All, IsPermutation}
 use Rattle.asn1_core.specs.Der.{IsElement, el, seq, set, oid, octets, uint, ctx, pctx, null, joined, shortest}
 use Rattle.asn1_core.specs.Oid.{oid_octets}
 use Rattle.asn1_core.specs.Texts.{On, Within, Many, Perhaps, Raw, Uint, Inside, Oid}
-use Rattle.asn1_core.specs.Fields.{Field, End, Sequence, OrNothing, Latest, The}
-use Rattle.asn1_core.specs.Sets.{Each, SameSet, SpellSet, Decodes, IsRead, in_order}
-use Rattle.asn1_core.specs.Unicode.{Bmp, Ia5, text_units}
+use Rattle.asn1_core.specs.Fields.{Field, End, Sequence, OrNothing, Latest}
+use Rattle.asn1_core.specs.Sets.{Each, SameSet, Decodes, IsRead, in_order}
+use Rattle.asn1_core.specs.Unicode.{Bmp, text_units}
 use Rattle.asn1_core.specs.declared.identifier.ObjectIdentifier.{ObjectIdentifier}
 use Rattle.asn1_core.proofs.SetLaws.{spelled_set, in_order-permutes, in_order-sorted, sorted_is_in_order, same_nothing}
 use Rattle.asn1_core.proofs.TextLaws.{bmp_written}
@@ -17,7 +17,7 @@ use Rattle.der_core.specs.Optional.{canon_option, writable_option}
 use Rattle.pkcs5.specs.Identifiers.{pbes2_oid}
 use Rattle.pkcs5.specs.Parameters.{parameters_content}
 use Rattle.pkcs5.specs.ParametersLaws.{parameters_canonical, parameters_spelled}
-use Rattle.p12.specs.Identifiers.{sha1_oid, sha256_oid, rc2_scheme_oid, triple_des_scheme_oid, data_oid, encrypted_data_oid, friendly_name_oid, local_key_id_oid, x509_certificate_oid, sdsi_certificate_oid, shrouded_key_bag_oid, cert_bag_oid, data_identifier}
+use Rattle.p12.specs.Identifiers.{sha1_oid, sha256_oid, rc2_scheme_oid, triple_des_scheme_oid, data_oid, encrypted_data_oid, friendly_name_oid, local_key_id_oid, x509_certificate_oid, sdsi_certificate_oid}
 use Rattle.p12.specs.AlgorithmIdentifier.{AlgorithmCase, AlgorithmText, ParamsText}
 use Rattle.p12.specs.DigestInfo.{DigestText}
 use Rattle.p12.specs.MacData.{MacText}

@@ -13,12 +13,12 @@ use Rattle.p12.specs.declared.algorithm_identifier.AlgorithmIdentifier.TheVarian
 use Rattle.p12.specs.declared.content_info.ContentInfo.{ContentInfo}
 use Rattle.p12.specs.declared.pfx.PFX.{PFX}
 use Rattle.p12.specs.declared.safe_bag.SafeBag.{SafeBag}
-use Rattle.pkcs5.specs.Kinds.{is_pbkdf2, key_size, rounds_of}
+use Rattle.pkcs5.specs.Kinds.{key_size, rounds_of}
 use Rattle.pkcs5.specs.Opening.{opened, states_length, steps_of}
 use Rattle.pkcs5.specs.declared.pbes2.parameters.Parameters.{Parameters}
 use Rattle.p12.specs.AlgorithmIdentifier.{IsOpened, cost, is_blocks, taken, taken_pbe, unlock, unlock_pbe, unlock_pbes2, unpadded, triple_des_text}
 use Rattle.p12.specs.ContentInfo.{ContentFits, ContentText, IsContents}
-use Rattle.p12.specs.Password.{bmp_password, units_of_char}
+use Rattle.pkcs12_kdf.specs.Password.{bmp_password, units_of_char}
 use Rattle.p12.specs.Pfx.{IsStore, PfxText, StoreFits}
 use Rattle.p12.specs.SafeBag.{BagFits, BagText, IsBags}
 use Rattle.p12.proofs.Pbes2.{by_rounds}

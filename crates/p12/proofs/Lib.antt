@@ -2,8 +2,6 @@ pub mod AlgorithmRows
 pub mod ContentRows
 pub mod BagRows
 pub mod Public
-pub mod Sums
-pub mod Texts
 pub mod Paddings
 mod Pbes2
 pub mod Opened

@@ -1,9 +1,7 @@
 -- A MAC that is made here agrees.
-use Rattle.std.proofs.Common.{◌≡◌, ℕ, ◌*◌, ◌≤◌, List, true, refl, ap, ◌∙◌, arith}
+use Rattle.std.proofs.Common.{◌≡◌, ℕ, ◌≤◌, List, true, refl, ap, ◌∙◌, arith}
 use Rattle.std.proofs.lemmas.Slice.Eq.{bytes_eq-Decides}
 use Rattle.std.proofs.lemmas.Bool.{lt-ltb}
-use Rattle.std.proofs.Math.Nat.{div-eq_of_lt-le}
-use Rattle.p12.specs.Derivation.{turns}
 use Rattle.p12.specs.MacData.{is_mac_digest, mac_agrees, mac_of, mac_value}
 use Rattle.p12.specs.declared.algorithm_identifier.AlgorithmIdentifier.{AlgorithmIdentifier}
 use Rattle.p12.specs.declared.mac_data.MacData.{MacData}
@@ -18,10 +16,3 @@ mac_is a q v salt d s r e f = ap (λ (x : List ℕ). made_mac a x s r) e ∙ ap 
 pub mac_of_agrees : (a : AlgorithmIdentifier) (q v salt : List ℕ) (r : ℕ) → is_mac_digest a ≡ true → 1 ≤ r → mac_agrees (mac_of a q v salt r) q v ≡ true
 unfolding mac_of mac_agrees
 mac_of_agrees a q v salt r is h = rw (is, lt-ltb 0 r (omega (arith, h)), (bytes_eq-Decides (mac_value a q salt r v) (mac_value a q salt r v)).1 refl) refl
-
--- one answer is enough for as many octets as it has
-turns_one : (u : ℕ) → 1 ≤ u → turns u u ≡ 1
-turns_one u h = div-eq_of_lt-le {k = 1} u (omega arith) (omega (arith, h))
-
-pub one_turn : (u : ℕ) → 1 ≤ u → (r n : ℕ) → r ≡ n → r * turns u u ≡ n
-one_turn u h r n e = ap (λ (k : ℕ). r * k) (turns_one u h) ∙ (let one : r * 1 ≡ r = omega arith in one ∙ e)

@@ -16,7 +16,7 @@ use Rattle.p12.specs.Collected.{ContentFault, FirstFault, HoldAll, HoldsBags, St
 use Rattle.p12.specs.ContentInfo.{ContentFits, IsContents}
 use Rattle.p12.specs.Attribute.{AttributeCase, AttributeText, AttributesText}
 use Rattle.p12.specs.MacData.{mac_of, mac_value}
-use Rattle.p12.specs.Password.{bmp_password}
+use Rattle.pkcs12_kdf.specs.Password.{bmp_password}
 use Rattle.p12.specs.Pfx.{IsStore, PfxText, StoreFits}
 use Rattle.p12.specs.SafeBag.{BagText, IsBags}
 use Rattle.p12.specs.Same.{SameBag}

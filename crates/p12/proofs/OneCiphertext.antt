@@ -11,12 +11,12 @@ use Rattle.mac_modes.specs.Cbc.{uncbc}
 use Rattle.mac_modes.specs.Padding.{padded}
 use Rattle.mac_modes.specs.Sha1Laws.{length-sha1}
 use Rattle.mac_modes.proofs.Uniqueness.{one_ciphertext}
-use Rattle.p12.specs.Derivation.{derive12}
+use Rattle.pkcs12_kdf.specs.Derivation.{derive12}
 use Rattle.p12.specs.AlgorithmIdentifier.{is_blocks, triple_des_text, unlock_pbe, unpadded}
 use Rattle.p12.specs.declared.algorithm_identifier.Pkcs12PbeParams.{Pkcs12PbeParams}
 use Rattle.p12.specs.declared.algorithm_identifier.AlgorithmIdentifier.TheVariants.{PbeWithSHAAnd3KeyTripleDESCBC}
 use Rattle.p12.proofs.Paddings.{unpadded_is}
-use Rattle.p12.proofs.Texts.{length-derive12}
+use Rattle.pkcs12_kdf.proofs.Texts.{length-derive12}
 
 abbrev Octets : List ℕ → Type 0
 Octets c = All (λ octet. octet < 256) c

@@ -7,7 +7,7 @@ use Rattle.mac_modes.specs.Cbc.{uncbc}
 use Rattle.octet_core.specs.Lending.{written_over}
 use Rattle.mac_modes.specs.Padding.{padded}
 use Rattle.p12.proofs.Paddings.{unpadded_some}
-use Rattle.p12.specs.Derivation.{derive12}
+use Rattle.pkcs12_kdf.specs.Derivation.{derive12}
 use Rattle.p12.specs.AlgorithmIdentifier.{unpadded, triple_des_text}
 
 -- octets that are written over as many are those octets

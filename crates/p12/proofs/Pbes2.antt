@@ -1,9 +1,9 @@
 -- What decryption by PBES2 answers is what a store's text opens to.
-use Rattle.std.proofs.Common.{◌≡◌, ℕ, ◌+◌, ◌*◌, ◌<◌, Bool, true, false, List, length, Option, Some, None, refl, sym, ap, ◌∙◌, arith, IsTrue, nat_lt, lit<}
+use Rattle.std.proofs.Common.{◌≡◌, ℕ, ◌+◌, ◌*◌, ◌<◌, Bool, true, false, List, Option, Some, None, refl, ap, ◌∙◌, arith, nat_lt}
 use Rattle.std.specs.Prelude.{◌&&◌, ◌==◌, if◌then◌else◌, IfSome, max}
 use Rattle.std.proofs.lemmas.Bool.{lt-ltb, eq-eqb, eqb-true}
 use Rattle.pkcs5.specs.Kinds.{IsScrypt, is_pbkdf2, key_size, rounds_of, stated_length}
-use Rattle.pkcs5.specs.Opening.{FitsKey, LeftBy, Opens, StatesLength, key_steps, key_under, opened, opening_steps, states_length, steps_of}
+use Rattle.pkcs5.specs.Opening.{FitsKey, LeftBy, Opens, StatesLength, key_under, opened, opening_steps, states_length, steps_of}
 use Rattle.pkcs5.specs.OpeningLaws.{opened_none, opened_some}
 use Rattle.pkcs5.specs.Refusals.{LeftUnopened, RefusedAfter, RefusesToOpenByRounds}
 use Rattle.pkcs5.specs.declared.error.Error.{Error}

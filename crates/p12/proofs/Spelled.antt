@@ -1,29 +1,21 @@
 -- The texts of a value are its canonical text and its other spellings.
-use Rattle.std.specs.Prelude.{◌↔◌}
-use Rattle.std.proofs.Common.{◌≡◌, ℕ, ◌^◌, ◌-◌, List, [], ◌∷◌, ◌++◌, Option, Some, None, refl, sym, ap, subst, ◌∙◌, inl, inr, ◌⊎◌, append-nil, append_assoc}
-use Rattle.std.proofs.lemmas.Str.{chars-encodes}
-use Rattle.std.specs.Char.Escape.{encode_utf16}
-use Rattle.std.specs.List.{flat_map}
-use Rattle.std.specs.Str.{chars}
-use Rattle.asn1_core.specs.Der.{el, seq, set, oid, octets, uint, ctx, pctx, null}
+use Rattle.std.proofs.Common.{◌≡◌, ℕ, ◌^◌, ◌-◌, List, [], ◌++◌, refl, sym, ap, subst, ◌∙◌, inl, inr, ◌⊎◌, append-nil}
+use Rattle.asn1_core.specs.Der.{el, seq, oid, octets, uint, null}
 use Rattle.asn1_core.specs.Oid.{oid_octets}
-use Rattle.asn1_core.specs.Texts.{Many, Perhaps, Raw, Uint, Inside, Oid}
-use Rattle.asn1_core.specs.Fields.{Latest}
-use Rattle.asn1_core.specs.Sets.{Decodes, IsRead, Each, SameSet, SpellSet, Other as AnotherSpelling}
-use Rattle.asn1_core.specs.Unicode.{Bmp, text_units, unit_octets}
+use Rattle.asn1_core.specs.Texts.{Uint, Inside, Oid}
+use Rattle.asn1_core.specs.Sets.{IsRead}
 use Rattle.asn1_core.specs.declared.identifier.ObjectIdentifier.{ObjectIdentifier}
-use Rattle.asn1_core.proofs.SetLaws.{set_spelled, spelled_set, told_apart, told_back, same_nothing, SameSet-refl}
-use Rattle.der_core.specs.Optional.{SpellsOption}
+use Rattle.asn1_core.proofs.SetLaws.{told_apart, told_back}
 use Rattle.pkcs5.specs.Identifiers.{pbes2_oid}
 use Rattle.pkcs5.specs.ParametersLaws.{parameters_spelled}
-use Rattle.p12.specs.Identifiers.{sha1_oid, sha256_oid, rc2_scheme_oid, triple_des_scheme_oid, data_oid, encrypted_data_oid, friendly_name_oid, local_key_id_oid, x509_certificate_oid, sdsi_certificate_oid, data_identifier}
+use Rattle.p12.specs.Identifiers.{sha1_oid, sha256_oid, rc2_scheme_oid, triple_des_scheme_oid}
 use Rattle.p12.specs.AlgorithmIdentifier.{AlgorithmCase, AlgorithmText, ParamsText}
 use Rattle.p12.specs.DigestInfo.{DigestText}
 use Rattle.p12.specs.MacData.{MacText}
 use Rattle.p12.specs.EncryptedPrivateKeyInfo.{EncryptedKeyText}
 use Rattle.p12.specs.Canonical.{params_canon, algorithm_canon, digest_canon, mac_canon, encrypted_key_canon}
 use Rattle.p12.specs.Spellings.{HasOneText, IsSpelled, SpellsAlgorithm, SpellsCount, SpellsDigest, SpellsEncryptedKey, SpellsHash, SpellsMac}
-use Rattle.p12.proofs.Again.{Count, count_again, algorithm_again, algorithm_writes, digest_again, encrypted_key_again, known, mac_again, one_left, params_again, raw_is}
+use Rattle.p12.proofs.Again.{Count, count_again, algorithm_again, digest_again, encrypted_key_again, known, mac_again, one_left, params_again, raw_is}
 use Rattle.p12.specs.declared.algorithm_identifier.Pkcs12PbeParams.{Pkcs12PbeParams}
 use Rattle.p12.specs.declared.algorithm_identifier.AlgorithmIdentifier.{AlgorithmIdentifier}
 use Rattle.p12.specs.declared.algorithm_identifier.AlgorithmIdentifier.TheVariants.{Sha1, Sha256, PbewithSHAAnd40BitRC2CBC, PbeWithSHAAnd3KeyTripleDESCBC, Pbes2, OtherAlg}

@@ -9,7 +9,7 @@ use Rattle.asn1_core.specs.Der.{el, seq, set, oid, octets, uint, ctx, pctx, shor
 use Rattle.asn1_core.specs.Oid.{oid_octets}
 use Rattle.asn1_core.specs.Texts.{Many, Perhaps, Raw, Inside, Within}
 use Rattle.asn1_core.specs.Fields.{Latest}
-use Rattle.asn1_core.specs.Sets.{Decodes, IsRead, Each, SameSet, SpellSet}
+use Rattle.asn1_core.specs.Sets.{Decodes, IsRead, Each, SameSet}
 use Rattle.asn1_core.specs.Unicode.{Bmp, text_units, unit_octets}
 use Rattle.asn1_core.specs.declared.identifier.ObjectIdentifier.{ObjectIdentifier}
 use Rattle.asn1_core.proofs.SetLaws.{set_spelled, spelled_set, told_apart, told_back, same_nothing}

@@ -1,12 +1,12 @@
 -- From the refusal of a part to that of a whole.
-use Rattle.std.proofs.Common.{◌≡◌, ℕ, ◌+◌, ◌<◌, ◌≤◌, List, [], ◌∷◌, ◌++◌, length, map, take, drop, get_or, Ok, Err, None, refl, sym, ap, subst, ◌∙◌, arith, append_assoc, append-nil, length-append, IsPermutation}
+use Rattle.std.proofs.Common.{◌≡◌, ℕ, ◌+◌, ◌<◌, ◌≤◌, List, [], ◌∷◌, ◌++◌, length, map, take, drop, get_or, Ok, Err, None, refl, sym, ap, subst, ◌∙◌, arith, append_assoc, append-nil, length-append}
 use Rattle.std.specs.Prelude.{Result, All, MatchResult}
 use Rattle.std.specs.List.{sum_by}
 use Rattle.std.proofs.lemmas.List.{drop_more, map-id}
 use Rattle.std.proofs.lemmas.List.Elements.{All-cons}
 use Rattle.std.proofs.lemmas.List.Sums.{sum_by-cons}
 use Rattle.std.proofs.lemmas.List.Sorted.{sum_by-IsPermutation}
-use Rattle.asn1_core.specs.Der.{IsElement, IsShort, el, oid, seq, set, joined}
+use Rattle.asn1_core.specs.Der.{IsElement, IsShort, el, oid, seq, joined}
 use Rattle.asn1_core.specs.Oid.{oid_octets}
 use Rattle.asn1_core.specs.Reading.{is_ended, raw_at}
 use Rattle.asn1_core.specs.Gives.{Fails, Gives}

@@ -16,8 +16,8 @@ use Rattle.pkcs5.specs.Opening.{opened, states_length, steps_of}
 use Rattle.pkcs5.specs.Kinds.{IsDes, is_pbkdf2, key_size, rounds_of}
 use Rattle.pkcs5.specs.Parameters.{ParametersText}
 use Rattle.pkcs5.specs.declared.pbes2.parameters.Parameters.{Parameters}
-use Rattle.p12.specs.Derivation.{derive12}
-use Rattle.p12.specs.Password.{bmp_password}
+use Rattle.pkcs12_kdf.specs.Derivation.{derive12}
+use Rattle.pkcs12_kdf.specs.Password.{bmp_password}
 use Rattle.p12.specs.Identifiers.{sha1_oid, sha256_oid, rc2_scheme_oid, triple_des_scheme_oid}
 use Rattle.p12.specs.declared.error.Error.{Error}
 use Rattle.p12.specs.declared.error.Error.TheVariants as errors

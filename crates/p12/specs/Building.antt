@@ -1,6 +1,6 @@
 -- Stores that are made here (RFC 7292 section 5): every part under a salt of 8 drawn octets and 2,048 rounds, texts
 -- under Triple DES, the MAC under SHA-1.
-use Rattle.std.specs.Prelude.{◌≡◌, ◌⊎◌, ℕ, ◌^◌, List, [], ◌∷◌, ◌++◌, length, map, replicate, All, Option, Some, ⊤}
+use Rattle.std.specs.Prelude.{◌≡◌, ◌⊎◌, ℕ, List, [], ◌∷◌, ◌++◌, length, map, replicate, All, Option, Some, ⊤}
 use Rattle.std.specs.Io.KnownBytes.{Consumes}
 use Rattle.outside.specs.Draw.{Lacks}
 use Rattle.sha1.specs.Sha1.{sha1}

@@ -10,7 +10,7 @@ use Rattle.asn1_core.specs.Unicode.{is_ascii_text, text_units}
 use Rattle.der_core.specs.Optional.{canon_option, writable_option}
 use Rattle.pkcs5.specs.Identifiers.{pbes2_oid}
 use Rattle.pkcs5.specs.Parameters.{AreParameters, parameters_content}
-use Rattle.p12.specs.Identifiers.{sha1_oid, sha256_oid, rc2_scheme_oid, triple_des_scheme_oid, data_oid, encrypted_data_oid, friendly_name_oid, local_key_id_oid, x509_certificate_oid, sdsi_certificate_oid, shrouded_key_bag_oid, cert_bag_oid}
+use Rattle.p12.specs.Identifiers.{sha1_oid, sha256_oid, rc2_scheme_oid, triple_des_scheme_oid, data_oid, encrypted_data_oid, friendly_name_oid, local_key_id_oid, x509_certificate_oid, sdsi_certificate_oid}
 use Rattle.p12.specs.SafeBag.{kind_oid}
 use Rattle.p12.specs.declared.algorithm_identifier.Pkcs12PbeParams.{Pkcs12PbeParams}
 use Rattle.p12.specs.declared.algorithm_identifier.AlgorithmIdentifier.{AlgorithmIdentifier}

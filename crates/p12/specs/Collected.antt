@@ -1,10 +1,10 @@
 -- What the calls of a store give that collect its bags, one content behind the other, or why they give none.
-use Rattle.std.specs.Prelude.{◌⊎◌, ◌≡◌, ℕ, List, [], ◌∷◌, ◌++◌, Option, Some, None, Bool, true, false, length}
+use Rattle.std.specs.Prelude.{◌⊎◌, ◌≡◌, ℕ, List, [], ◌∷◌, ◌++◌, Option, Some, None, Bool, true, false}
 use Rattle.std.specs.List.{flat_map}
 use Rattle.p12.specs.AlgorithmIdentifier.{unlock}
 use Rattle.p12.specs.ContentInfo.{IsContents, NoContents}
 use Rattle.p12.specs.MacData.{mac_agrees}
-use Rattle.p12.specs.Password.{bmp_password}
+use Rattle.pkcs12_kdf.specs.Password.{bmp_password}
 use Rattle.p12.specs.SafeBag.{IsBags, NoBags, x509_of, sdsi_of}
 use Rattle.p12.specs.declared.content_info.ContentInfo.{ContentInfo}
 use Rattle.p12.specs.declared.content_info.ContentInfo.TheVariants as content

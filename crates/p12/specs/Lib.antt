@@ -1,8 +1,5 @@
 pub mod Identifiers
 pub mod Error
-pub mod Numbers
-pub mod Derivation
-pub mod Password
 pub mod AlgorithmIdentifier
 pub mod DigestInfo
 pub mod MacData

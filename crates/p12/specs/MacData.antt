@@ -5,8 +5,7 @@ use Rattle.asn1_core.specs.Fields.{Field, End, OrNothing, Sequence}
 use Rattle.std.specs.Str.{bytes_eq}
 use Rattle.sha1.specs.Sha1.{sha1}
 use Rattle.sha2.specs.Sha256.{sha256}
-use Rattle.mac_modes.specs.Hmac.{hmac}
-use Rattle.p12.specs.Derivation.{derive12}
+use Rattle.pkcs12_kdf.specs.Mac.{mac_under}
 use Rattle.p12.specs.declared.algorithm_identifier.AlgorithmIdentifier.{AlgorithmIdentifier}
 use Rattle.p12.specs.declared.algorithm_identifier.AlgorithmIdentifier.TheVariants.{Sha1, Sha256, PbewithSHAAnd40BitRC2CBC, PbeWithSHAAnd3KeyTripleDESCBC, Pbes2, OtherAlg}
 use Rattle.p12.specs.DigestInfo.{DigestText}
@@ -25,12 +24,7 @@ is_mac_digest (PbeWithSHAAnd3KeyTripleDESCBC p) = false
 is_mac_digest (Pbes2 par) = false
 is_mac_digest (OtherAlg o) = false
 
--- HMAC over the hash h, whose answers have u octets, under a key of as many octets (RFC 7292 appendix B.4). The password comes in
--- UTF-16.
-unfoldable pub mac_under : (List ℕ → List ℕ) → ℕ → List ℕ → List ℕ → ℕ → List ℕ → List ℕ
-mac_under h u q salt r v = hmac h 64 (derive12 h u q salt r 3 u) v
-
--- the MAC of a content under the digest's own hash
+-- the MAC of a content under the digest's own hash; the password comes in UTF-16
 unfoldable pub mac_value : AlgorithmIdentifier → List ℕ → List ℕ → ℕ → List ℕ → List ℕ
 mac_value Sha1 = mac_under sha1 20
 mac_value Sha256 = mac_under sha256 32

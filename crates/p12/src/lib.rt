@@ -5,7 +5,6 @@ mod algorithm_identifier;
 mod attribute;
 mod bags_view;
 mod building;
-mod carry;
 mod cert_bag;
 mod collecting;
 mod content_info;

@@ -2,7 +2,7 @@
 ghost use Rattle.std.specs.Prelude.{◌+◌, ◌≡◌, ◌<◌, ◌≤◌, ◌^◌, length, OnOk, IfOk, IfErr, true};
 ghost use Rattle.asn1_core.specs.Gives.{Gives, ReadsAs, ReadsIn};
 ghost use Rattle.p12.specs.MacData.{MacText, mac_agrees, mac_of, mac_steps};
-ghost use Rattle.p12.specs.Password.{bmp_password};
+ghost use Rattle.pkcs12_kdf.specs.Password.{bmp_password};
 ghost use Rattle.p12.specs.declared.algorithm_identifier.AlgorithmIdentifier.TheVariants as algorithm;
 ghost use Rattle.p12.specs.MacView.{seen_mac};
 ghost use Rattle.p12.specs.Error.{Reads};
@@ -12,7 +12,7 @@ ghost use Rattle.p12.specs.Reading.{iterations_all, mac_at};
 use crate::algorithm_identifier::{AlgorithmIdentifier, AlgorithmView};
 use crate::digest_info::{DigestInfo, digest_view};
 use crate::error::Error;
-use crate::mac::{agrees_under, mac_from};
+use crate::mac::{agrees_under, made_under};
 use crate::password::bmp_string;
 use asn1_core::{Octets, Reader, SliceReader, Tag, read_inner, read_uint};
 use mac_modes::{Sha1, Sha256};
@@ -282,8 +282,7 @@ impl MacData {
         ensures agrees { IfOk result (λ m. mac_agrees m password.now content.now ≡ true) }
         ensures err { IfErr result (λ e. e ≡ Error.Memory) }
     {
-        let blank = Blank::new(1);
-        let mac = mac_from::<Sha1, Brand>(alloc, content, password, salt, iterations, blank)?;
+        let mac = made_under::<Sha1>(alloc, content, password, salt, iterations)?;
         Ok(MacData {
             mac: DigestInfo {
                 digest_algorithm: AlgorithmIdentifier::Sha1,
@@ -312,8 +311,7 @@ impl MacData {
         ensures agrees { IfOk result (λ m. mac_agrees m password.now content.now ≡ true) }
         ensures err { IfErr result (λ e. e ≡ Error.Memory) }
     {
-        let blank = Blank::new(1);
-        let mac = mac_from::<Sha256, Brand>(alloc, content, password, salt, iterations, blank)?;
+        let mac = made_under::<Sha256>(alloc, content, password, salt, iterations)?;
         Ok(MacData {
             mac: DigestInfo {
                 digest_algorithm: AlgorithmIdentifier::Sha256,

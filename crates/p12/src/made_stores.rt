@@ -6,7 +6,7 @@ ghost use Rattle.p12.specs.Building.{Entry, GivesBack, IsStoreOf, Salts};
 ghost use Rattle.p12.specs.Canonical.{WritableStore, store_canon};
 ghost use Rattle.p12.specs.Collected.{StoreFault, StoreHolds, store_agrees};
 ghost use Rattle.p12.specs.MacData.{is_mac_digest, mac_agrees, mac_of};
-ghost use Rattle.p12.specs.Password.{bmp_password};
+ghost use Rattle.pkcs12_kdf.specs.Password.{bmp_password};
 ghost use Rattle.p12.specs.Pfx.{IsStore};
 ghost use Rattle.p12.specs.declared.algorithm_identifier.AlgorithmIdentifier.{AlgorithmIdentifier};
 ghost use Rattle.p12.specs.declared.error.Error.{Error};

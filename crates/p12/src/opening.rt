@@ -4,26 +4,21 @@ ghost use Rattle.block_core.specs.Tdes.{inv_tdes};
 ghost use Rattle.mac_modes.specs.Cbc.{uncbc};
 ghost use Rattle.p12.specs.AlgorithmIdentifier.{taken, triple_des_text, unlock_pbes2, unpadded};
 ghost use Rattle.p12.specs.AlgorithmView.{LeftPbes2};
-ghost use Rattle.p12.specs.Derivation.{turns};
+ghost use Rattle.pkcs12_kdf.specs.Derivation.{turns};
 ghost use Rattle.p12.specs.declared.algorithm_identifier.AlgorithmIdentifier.TheVariants.{Pbes2};
 
 use crate::algorithm_identifier::{ParamsView, rounds_of};
-use crate::derivation::derive;
 use crate::error::Error;
 use asn1_core::Octets;
 use block_core::{BlockCipher, TdesEde3};
 use mac_modes::cbc_decrypt_padded;
 use pkcs5::pbes2::Parameters;
+use pkcs12_kdf::{Derivation, IV_ID, KEY_ID};
 use sha1::Sha1;
 use std::alloc::Global;
 use std::marker::Brand;
 use std::sync::ledger::{Blank, Ledger};
 use steps::Steps;
-
-/// What a derived text is for (RFC 7292 appendix B.3).
-pub(crate) const KEY_ID: u8 = 1;
-
-pub(crate) const IV_ID: u8 = 2;
 
 /// The sizes of Triple DES in octets.
 pub(crate) const TRIPLE_DES_KEY: usize = 24;
@@ -78,19 +73,14 @@ pub(crate) fn open_blocks<L: Ledger>(
     ensures at_most { (steps.old ≤ steps.new)
         × (steps.new ≤ steps.old + 3 * params.now.iterations) }
 {
-    let salt = params.salt;
-    let rounds = params.iterations;
-    let key = derive::<Sha1, L>(alloc, password, salt, rounds, KEY_ID, TRIPLE_DES_KEY, steps)?;
-    let iv = derive::<Sha1, L>(
-        alloc,
+    let derivation = Derivation {
         password,
-        salt,
-        rounds,
-        IV_ID,
-        TRIPLE_DES_BLOCK,
-        steps,
-    )?;
-    Ok(decrypt_in_place(&key, &iv, buffer))
+        salt: params.salt,
+        rounds: params.iterations,
+    };
+    let key = derivation.key_counted::<Sha1, L>(alloc, KEY_ID, TRIPLE_DES_KEY, steps)?;
+    let iv = derivation.key_counted::<Sha1, L>(alloc, IV_ID, TRIPLE_DES_BLOCK, steps)?;
+    Ok(decrypt_in_place(key.as_slice(), iv.as_slice(), buffer))
 }
 
 /// Opens a text in place under PBES2, and answers its length.

@@ -8,13 +8,13 @@ ghost use Rattle.pkcs5.specs.Kinds.{IsDes, key_size, rounds_of};
 ghost use Rattle.pkcs5.specs.Opening.{states_length};
 
 use crate::algorithm_identifier::Pkcs12PbeParams;
-use crate::derivation::pbepkcs12sha1;
 use crate::error::Error;
-use crate::opening::{IV_ID, KEY_ID, TRIPLE_DES_BLOCK, TRIPLE_DES_KEY};
+use crate::opening::{TRIPLE_DES_BLOCK, TRIPLE_DES_KEY};
 use asn1_core::Octets;
 use block_core::{BlockCipher, TdesEde3};
-use mac_modes::cbc_encrypt_padded;
+use mac_modes::{Sha1, cbc_encrypt_padded};
 use pkcs5::pbes2::Parameters;
+use pkcs12_kdf::{Derivation, IV_ID, KEY_ID};
 use std::alloc::Global;
 
 /// Encrypts the text `buffer[..pos]` in place under Triple DES; its padding takes the rest of the buffer.
@@ -48,17 +48,13 @@ pub(crate) fn seal_blocks(
         ≡ Some plaintext.now) }
     ensures err { IfErr result (λ e. e ≡ Error.Memory) }
 {
-    let salt = params.salt.as_slice();
-    let rounds = params.iterations;
-    let key = pbepkcs12sha1(alloc, password, salt, rounds, KEY_ID, TRIPLE_DES_KEY as u64)?;
-    let iv = pbepkcs12sha1(
-        alloc,
+    let derivation = Derivation {
         password,
-        salt,
-        rounds,
-        IV_ID,
-        TRIPLE_DES_BLOCK as u64,
-    )?;
+        salt: params.salt.as_slice(),
+        rounds: params.iterations,
+    };
+    let key = derivation.key::<Sha1>(alloc, KEY_ID, TRIPLE_DES_KEY)?;
+    let iv = derivation.key::<Sha1>(alloc, IV_ID, TRIPLE_DES_BLOCK)?;
     let mut text = Vec::from_slice(alloc, plaintext)?;
     text.extend_from_slice(
         &[0; TRIPLE_DES_BLOCK][..TRIPLE_DES_BLOCK - plaintext.len() % TRIPLE_DES_BLOCK],

@@ -3,7 +3,7 @@ ghost use Rattle.std.specs.Prelude.{◌≡◌, ◌<◌, ◌≤◌, ◌-◌, ◌^
 ghost use Rattle.asn1_core.specs.Texts.{seen_option};
 ghost use Rattle.p12.specs.Building.{DrawsSalts, IsCiphertext, IsOuterText, IsStoreOf, IsTooLong, IsTooLongStore, RefusesDrawn, RefusesStore, certificate_bag, certificate_bags, entry_of, key_bag, own_attributes, seen_entry, seen_salts};
 ghost use Rattle.p12.specs.Collected.{at_most_one};
-ghost use Rattle.p12.specs.Password.{bmp_password};
+ghost use Rattle.pkcs12_kdf.specs.Password.{bmp_password};
 ghost use Rattle.p12.specs.Pfx.{OpeningFits, StoreFits};
 
 use crate::attribute::PKCS12Attribute;

@@ -1,10 +1,12 @@
-//! Callers of `p12`: tests of its public calls.
+//! Callers of `p12` and `pkcs12_kdf`: tests of their public calls.
 //!
-//! They stand here and not in `p12` since a test is proved with the whole crate that it stands in.
+//! They stand here and not in those crates since a test is proved with the whole crate that it stands in.
 #![tactic(auto)]
 
 #[cfg(test)]
 mod ciphertexts_opened;
+#[cfg(test)]
+mod keys_derived;
 #[cfg(test)]
 mod stores_made;
 #[cfg(test)]

@@ -8,7 +8,7 @@ use Rattle.asn1_core.specs.Sets.{Each}
 use Rattle.p12.specs.Canonical.{bag_canon, bags_canon, contents_canon, store_canon}
 use Rattle.p12.specs.ContentInfo.{IsContents}
 use Rattle.p12.specs.MacData.{mac_of, mac_value}
-use Rattle.p12.specs.Password.{bmp_password}
+use Rattle.pkcs12_kdf.specs.Password.{bmp_password}
 use Rattle.p12.specs.Pfx.{IsStore, PfxText}
 use Rattle.p12.specs.SafeBag.{BagText, IsBags}
 use Rattle.p12.proofs.DefinitionLaws.{bags_sole, contents_sole, store_sole}

@@ -14,7 +14,7 @@ use Rattle.p12.specs.declared.encrypted_private_key_info.EncryptedPrivateKeyInfo
 use Rattle.p12.specs.AlgorithmIdentifier.{cost, count, openable, taken, unlock}
 use Rattle.p12.specs.ContentInfo.{IsContents, NoContents}
 use Rattle.p12.specs.MacData.{is_mac_digest, mac_agrees}
-use Rattle.p12.specs.Password.{bmp_password}
+use Rattle.pkcs12_kdf.specs.Password.{bmp_password}
 use Rattle.p12.specs.Pfx.{IsStore, NoStore}
 use Rattle.p12.specs.SafeBag.{IsBags, NoBags}
 use Rattle.pkcs8.specs.Seen.{AnyPrivateKey, IsPrivateKey}

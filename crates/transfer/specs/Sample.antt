@@ -6,7 +6,7 @@ use Rattle.asn1_core.specs.Sets.{Each}
 use Rattle.p12.specs.AlgorithmIdentifier.{unlock}
 use Rattle.p12.specs.Canonical.{bags_canon, contents_canon, store_canon}
 use Rattle.p12.specs.MacData.{mac_of}
-use Rattle.p12.specs.Password.{bmp_password}
+use Rattle.pkcs12_kdf.specs.Password.{bmp_password}
 use Rattle.p12.specs.declared.algorithm_identifier.AlgorithmIdentifier.{AlgorithmIdentifier}
 use Rattle.p12.specs.declared.algorithm_identifier.AlgorithmIdentifier.TheVariants.{Sha1, PbeWithSHAAnd3KeyTripleDESCBC}
 use Rattle.p12.specs.declared.cert_bag.CertBag.TheVariants as cert

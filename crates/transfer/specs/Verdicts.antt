@@ -9,7 +9,7 @@ use Rattle.p12.specs.declared.safe_bag.SafeBag.{SafeBag}
 use Rattle.p12.specs.MacData.{is_mac_digest}
 use Rattle.p12.specs.ContentInfo.{IsContents}
 use Rattle.p12.specs.MacData.{mac_agrees}
-use Rattle.p12.specs.Password.{bmp_password}
+use Rattle.pkcs12_kdf.specs.Password.{bmp_password}
 use Rattle.p12.specs.Pfx.{IsStore}
 use Rattle.transfer.specs.Limits.{store_limit}
 use Rattle.transfer.specs.declared.store.error.TransferError.{TransferError}

@@ -3,7 +3,7 @@ ghost use Rattle.std.specs.Prelude.{◌≡◌, ◌+◌, ◌≤◌, ◌<◌, ◌^
 ghost use Rattle.p12.specs.AlgorithmView.{seen_algorithm};
 ghost use Rattle.p12.specs.MacData.{is_mac_digest, mac_agrees, mac_steps};
 ghost use Rattle.p12.specs.MacView.{seen_mac};
-ghost use Rattle.p12.specs.Password.{bmp_password};
+ghost use Rattle.pkcs12_kdf.specs.Password.{bmp_password};
 ghost use Rattle.transfer.specs.Limits.{store_limit};
 ghost use Rattle.transfer.specs.Opening.{MacTable, RefusedAfter, refused};
 ghost use Rattle.transfer.specs.Verdicts.{IsMacOk};

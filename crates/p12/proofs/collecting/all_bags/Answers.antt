@@ -1,5 +1,4 @@
-use Rattle.std.proofs.Common.{arith, inl, refl, subst}
-use Rattle.p12.specs.Collected.{HoldAll}
+use Rattle.std.proofs.Common.{arith}
 use Rattle.p12.proofs.HeldBags.{fault_at, hold_next}
 use Rattle.p12.proofs.collecting.all_bags.Goals as goal
 

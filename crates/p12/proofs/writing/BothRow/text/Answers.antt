@@ -1,6 +1,6 @@
 use Rattle.std.proofs.Common.{arith, length-append}
 use Rattle.std.proofs.lemmas.Result.{err_from_is_err_and}
-use Rattle.p12.proofs.TextRefusals.{part_refused, made_as}
+use Rattle.p12.proofs.TextRefusals.{part_refused}
 use Rattle.p12.proofs.writing.BothRow.text.Goals as goal
 
 pub returns-in_err-front : goal.returns-in_err-front

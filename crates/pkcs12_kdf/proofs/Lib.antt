@@ -1,0 +1,3 @@
+mod Sums
+pub mod Texts
+mod Turns

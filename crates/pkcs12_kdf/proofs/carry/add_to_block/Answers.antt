@@ -1,0 +1,44 @@
+use Rattle.std.proofs.Common.{lit<, List, ◌≡◌, ℕ, ◌+◌, ◌-◌, ◌*◌, ◌^◌, ◌<◌, length, take, drop, sym, subst, ap, ◌∙◌, arith, refl, get_or}
+use Rattle.std.proofs.lemmas.List.{take-set, take-take}
+use Rattle.std.proofs.lemmas.List.{drop_all}
+use Rattle.std.proofs.lemmas.Nat.{mod_below}
+use Rattle.pkcs12_kdf.specs.Numbers.{number}
+use Rattle.pkcs12_kdf.proofs.Sums.{fits_set, sum_step, without_carry, number_lt}
+use Rattle.pkcs12_kdf.proofs.carry.add_to_block.Goals as goal
+
+pub loop-i-preserved : goal.loop-i-preserved
+loop-i-preserved c =
+    let i = c.loop-i.i - 1 in
+    let e : c.loop-i.i ≡ i + 1 = omega arith in
+    let front : take (i + 1) c.loop-i.block ≡ take (i + 1) c.args.block.now = subst (λ (n : ℕ). take n c.loop-i.block ≡ take n c.args.block.now) e c.loop-i.invariant.front in
+    let sum : number (drop (i + 1) c.loop-i.block) + c.loop-i.carry * 256 ^ (64 - (i + 1)) ≡ number (drop (i + 1) c.args.block.now) + number (drop (i + 1) c.args.addend.now) + 1 =
+    subst (λ (n : ℕ). number (drop n c.loop-i.block) + c.loop-i.carry * 256 ^ (64 - n) ≡ number (drop n c.args.block.now) + number (drop n c.args.addend.now) + 1) e c.loop-i.invariant.sum in
+    let lb : length c.loop-i.block ≡ 64 = omega arith in
+    let la : length c.args.addend.now ≡ 64 = omega arith in
+    let lt : i < 64 = omega arith in
+    let x : get_or c.loop-i.block i 0 < 256 = c.loop-i.invariant.fits i in
+    let y : get_or c.args.addend.now i 0 < 256 = omega arith in
+    record {
+      fits = fits_set c.loop-i.block i _ (mod_below _ 256 (lit< tt)) c.loop-i.invariant.fits;
+      bit = omega (arith, x, y);
+      sum = sum_step c.loop-i.block c.args.block.now c.args.addend.now i c.loop-i.carry lb c.requires la lt front sum;
+      front = take-set c.loop-i.block i _ ∙ (sym (take-take i (i + 1) c.loop-i.block (omega arith)) ∙ (ap (take i) front ∙ take-take i (i + 1) c.args.block.now (omega arith)));
+    }
+
+pub loop-i-init : goal.loop-i-init
+loop-i-init c =
+    let none : (t : List ℕ) → length t ≡ 64 → number (drop 64 t) ≡ 0 = λ t l. ap number (drop_all 64 t (omega (arith, l))) in
+    record {
+      fits = λ k. omega (arith, c.type_inv.block k);
+      bit = omega arith;
+      sum = omega (arith, none c.args.block.now c.requires, none c.args.addend.now c.told-addend);
+      front = refl;
+    }
+
+pub returns : goal.returns
+returns c =
+    let all : length c.loop-i.block ≡ 64 = omega arith in
+    let lt : number c.loop-i.block < 256 ^ 64 = subst (λ (n : ℕ). number c.loop-i.block < 256 ^ n) all (number_lt c.loop-i.block c.loop-i.invariant.fits) in
+    let done : c.loop-i.i ≡ 0 = omega arith in
+    let sum = subst (λ (n : ℕ). number (drop n c.loop-i.block) + c.loop-i.carry * 256 ^ (64 - n) ≡ number (drop n c.args.block.now) + number (drop n c.args.addend.now) + 1) done c.loop-i.invariant.sum in
+    without_carry (number c.loop-i.block) c.loop-i.carry (number c.args.block.now + number c.args.addend.now + 1) lt sum

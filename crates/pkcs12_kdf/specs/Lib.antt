@@ -1,0 +1,4 @@
+pub mod Numbers
+pub mod Derivation
+pub mod Password
+pub mod Mac

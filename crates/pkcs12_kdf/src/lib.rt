@@ -1,0 +1,10 @@
+//! What PKCS#12 derives from a password (RFC 7292 appendix B): keys, initialization vectors and MACs, over a hash function
+//! whose blocks have 64 octets, as SHA-1 and SHA-256 have.
+#![tactic(auto)]
+
+mod carry;
+mod derivation;
+mod password;
+
+pub use derivation::{Derivation, IV_ID, KEY_ID, MAC_ID};
+pub use password::utf16_password;
