@@ -4,6 +4,8 @@
 #![tactic(auto)]
 
 #[cfg(test)]
+mod calls;
+#[cfg(test)]
 mod ciphertexts_opened;
 #[cfg(test)]
 mod keys_derived;

@@ -1,8 +1,10 @@
 //! Stores that are made.
-ghost use Rattle.std.specs.Prelude.{◌<◌, ◌^◌, length};
+ghost use Rattle.std.specs.Prelude.{◌<◌, ◌^◌, length, IfOk};
+ghost use Rattle.p12.specs.Pfx.{OpeningFits};
 
+use crate::calls;
 use asn1_core::{Items, Octets};
-use mac_modes::DrawnBytes;
+use mac_modes::{Draw, DrawnBytes};
 use p12::{EncryptedContentInfo, EncryptedData, Error, MacData, PFX};
 use std::alloc::Global;
 use std::test::Fail;
@@ -35,17 +37,37 @@ const NOTHING_SEALED: &[u8] = b"\x7d\x4a\x15\x45\xd3\x30\x74\xc3";
 
 const NOTHING_SEALED_AGAIN: &[u8] = b"\x84\x58\xde\x90\x99\xe4\xbe\x52";
 
+fn drawn(alloc: Global) -> Result<DrawnBytes, Error> {
+    Ok(DrawnBytes::new(Octets::from_slice(alloc, SALTS)?))
+}
+
 #[test]
-fn parts_are_made_under_drawn_salts(rt: HostRuntime) -> Result<(), Fail> {
+fn a_mac_is_made_under_a_drawn_salt(rt: HostRuntime) -> Result<(), Fail> {
     let alloc = rt.alloc();
-    let mut draw = DrawnBytes::new(Octets::from_slice(alloc, SALTS)?);
+    let mut draw = drawn(alloc)?;
     let mac = MacData::new(alloc, &[0x30, 0], &[0, 0], &mut draw)?;
     assert!(rt; mac.mac.digest.as_slice() == MAC_OF_NOTHING && mac.iterations == 2_048);
+    Ok(())
+}
+
+#[test]
+fn contents_are_made_under_drawn_salts(rt: HostRuntime) -> Result<(), Fail> {
+    let alloc = rt.alloc();
+    let mut draw = drawn(alloc)?;
+    let mut passed_over = [0; 8];
+    assert!(rt; draw.fill(&mut passed_over).is_ok());
     let sealed = EncryptedData::from_safe_bags(alloc, &[], &[0, 0], &mut draw)?;
     let ciphertext = &sealed.encrypted_content_info.encrypted_content;
     assert!(rt; ciphertext.as_slice() == NOTHING_SEALED);
     let again = EncryptedContentInfo::from_safe_bags(alloc, &[], &[0, 0], &mut draw)?;
     assert!(rt; again.encrypted_content.as_slice() == NOTHING_SEALED_AGAIN);
+    Ok(())
+}
+
+#[test]
+fn no_mac_is_made_without_a_salt(rt: HostRuntime) -> Result<(), Fail> {
+    let alloc = rt.alloc();
+    let mut draw = DrawnBytes::new(Octets::from_slice(alloc, &SALTS[..7])?);
     match MacData::new(alloc, &[0x30, 0], &[0, 0], &mut draw) {
         Ok(_) => assert!(rt; false),
         Err(refusal) => assert!(rt; refusal == Error::Rng),
@@ -53,28 +75,14 @@ fn parts_are_made_under_drawn_salts(rt: HostRuntime) -> Result<(), Fail> {
     Ok(())
 }
 
-/// Whether these octets stand at this place of a list.
-fn stand_at(items: &Items<Octets>, at: usize, octets: &[u8]) -> bool {
-    match items.get(at) {
-        Some(found) => found.as_slice() == octets,
-        None => false,
-    }
-}
-
-/// Whether a store of the certificate, a key and the authority's certificate gives them under its password, and its MAC
-/// agrees under no other.
-fn gives_its_parts(
-    alloc: Global,
-    key: &[u8],
-    password: &str,
-    other_password: &str,
-) -> Result<bool, Error>
-    requires password { length password.now < 2 ^ 57 }
-    requires other { length other_password.now < 2 ^ 57 }
+/// A store of the certificate, a key and the authority's certificate.
+fn made(alloc: Global, key: &[u8], password: &str) -> Result<PFX, Error>
+    requires { length password.now < 2 ^ 57 }
+    ensures { IfOk result OpeningFits }
 {
-    let mut draw = DrawnBytes::new(Octets::from_slice(alloc, SALTS)?);
     let authority = Some(AUTHORITY);
-    let store = PFX::new(
+    let mut draw = drawn(alloc)?;
+    PFX::new(
         alloc,
         CERTIFICATE,
         key,
@@ -82,48 +90,88 @@ fn gives_its_parts(
         password,
         "look",
         &mut draw,
-    )?;
-    let certificates = store.cert_x509_bags(alloc, password)?;
-    let keys = store.key_bags(alloc, password)?;
-    let agrees = store.verify_mac(alloc, password)?;
-    let agrees_under_other = store.verify_mac(alloc, other_password)?;
-    Ok(
-        certificates.len() == 2
-            && stand_at(&certificates, 0, CERTIFICATE)
-            && stand_at(&certificates, 1, AUTHORITY)
-            && keys.len() == 1
-            && stand_at(&keys, 0, key)
-            && agrees
-            && !agrees_under_other,
     )
+}
+
+/// A store of three certificates and a key under the password `p`.
+fn made_of_three(alloc: Global) -> Result<PFX, Error>
+    ensures { IfOk result OpeningFits }
+{
+    let mut draw = drawn(alloc)?;
+    let mut others = Items::new(alloc);
+    others.push(Octets::from_slice(alloc, AUTHORITY)?)?;
+    others.push(Octets::from_slice(alloc, &[0x30, 2, 5, 0])?)?;
+    let others = others.as_slice();
+    PFX::new_with_cas(alloc, CERTIFICATE, KEY, others, "p", "look", &mut draw)
+}
+
+/// Whether such a store gives the two certificates under its password.
+fn gives_its_certificates(alloc: Global, key: &[u8], password: &str) -> Result<bool, Error>
+    requires { length password.now < 2 ^ 57 }
+{
+    let store = made(alloc, key, password)?;
+    Ok(
+        calls::x509_count(alloc, &store, password)? == 2
+            && calls::is_x509_at(alloc, &store, password, 0, CERTIFICATE)?
+            && calls::is_x509_at(alloc, &store, password, 1, AUTHORITY)?,
+    )
+}
+
+/// Whether it gives the key.
+fn gives_its_key(alloc: Global, key: &[u8], password: &str) -> Result<bool, Error>
+    requires { length password.now < 2 ^ 57 }
+{
+    let store = made(alloc, key, password)?;
+    Ok(
+        calls::key_count(alloc, &store, password)? == 1
+            && calls::is_first_key(alloc, &store, password, key)?,
+    )
+}
+
+/// Whether its MAC agrees under its password, and not under another.
+fn agrees_under(alloc: Global, key: &[u8], password: &str, other: &str) -> Result<bool, Error>
+    requires password { length password.now < 2 ^ 57 }
+    requires other { length other.now < 2 ^ 57 }
+{
+    let store = made(alloc, key, password)?;
+    Ok(calls::agrees(alloc, &store, password)? && !calls::agrees(alloc, &store, other)?)
 }
 
 #[test]
 fn a_store_gives_what_it_was_made_of(rt: HostRuntime) -> Result<(), Fail> {
-    assert!(rt; gives_its_parts(rt.alloc(), KEY, "changeit", "changed")?);
+    let alloc = rt.alloc();
+    assert!(rt; gives_its_certificates(alloc, KEY, "changeit")?);
+    assert!(rt; gives_its_key(alloc, KEY, "changeit")?);
+    assert!(rt; agrees_under(alloc, KEY, "changeit", "changed")?);
     Ok(())
 }
 
 #[test]
 fn a_store_of_an_empty_key_has_an_empty_password(rt: HostRuntime) -> Result<(), Fail> {
-    assert!(rt; gives_its_parts(rt.alloc(), &[], "", "changeit")?);
+    let alloc = rt.alloc();
+    assert!(rt; gives_its_certificates(alloc, &[], "")?);
+    assert!(rt; gives_its_key(alloc, &[], "")?);
+    assert!(rt; agrees_under(alloc, &[], "", "changeit")?);
     Ok(())
 }
 
 #[test]
 fn a_store_gives_further_certificates_in_order(rt: HostRuntime) -> Result<(), Fail> {
     let alloc = rt.alloc();
-    let mut draw = DrawnBytes::new(Octets::from_slice(alloc, SALTS)?);
-    let mut others = Items::new(alloc);
-    others.push(Octets::from_slice(alloc, AUTHORITY)?)?;
-    others.push(Octets::from_slice(alloc, &[0x30, 2, 5, 0])?)?;
-    let others = others.as_slice();
-    let store = PFX::new_with_cas(alloc, CERTIFICATE, KEY, others, "p", "look", &mut draw)?;
-    let certificates = store.cert_x509_bags(alloc, "p")?;
-    assert!(rt; certificates.len() == 3 && stand_at(&certificates, 0, CERTIFICATE));
-    assert!(rt; stand_at(&certificates, 1, AUTHORITY));
-    assert!(rt; stand_at(&certificates, 2, &[0x30, 2, 5, 0]));
-    let keys = store.key_bags(alloc, "p")?;
-    assert!(rt; keys.len() == 1 && stand_at(&keys, 0, KEY) && store.verify_mac(alloc, "p")?);
+    let store = made_of_three(alloc)?;
+    assert!(rt; calls::x509_count(alloc, &store, "p")? == 3);
+    assert!(rt; calls::is_x509_at(alloc, &store, "p", 0, CERTIFICATE)?);
+    assert!(rt; calls::is_x509_at(alloc, &store, "p", 1, AUTHORITY)?);
+    assert!(rt; calls::is_x509_at(alloc, &store, "p", 2, &[0x30, 2, 5, 0])?);
+    Ok(())
+}
+
+#[test]
+fn a_store_of_further_certificates_gives_its_key(rt: HostRuntime) -> Result<(), Fail> {
+    let alloc = rt.alloc();
+    let store = made_of_three(alloc)?;
+    assert!(rt; calls::key_count(alloc, &store, "p")? == 1);
+    assert!(rt; calls::is_first_key(alloc, &store, "p", KEY)?);
+    assert!(rt; calls::agrees(alloc, &store, "p")?);
     Ok(())
 }

@@ -1,6 +1,7 @@
 //! Stores, their parts and their derivation, with octets that other programs made: the derivation and the MACs by Python's `hashlib`
 //! and `hmac`, Triple DES, PBES2 and keys by OpenSSL.
 
+use crate::calls;
 use asn1_core::{ObjectIdentifier, Reader, SliceReader};
 use mac_modes::Sha256;
 use p12::{
@@ -32,6 +33,12 @@ const SEALED_STORE: &[u8] =
     \x1b\x84\x69\x62\xc7\x94\x82\xf0\xc6\x30\x30\x30\x21\x30\x09\x06\x05\x2b\x0e\x03\
     \x02\x1a\x05\x00\x04\x14\x5f\x73\x79\xad\xe1\x22\x64\x29\x77\xf1\x23\xae\x10\xf9\
     \xf1\x5c\xde\xb0\xbc\xc3\x04\x08\x01\x02\x03\x04\x05\x06\x07\x08\x02\x01\x01";
+
+/// The contents of `STORE`.
+const CONTENTS: &[u8] =
+    b"\x30\x38\x30\x36\x06\x09\x2a\x86\x48\x86\xf7\x0d\x01\x07\x01\xa0\x29\x04\x27\x30\
+    \x25\x30\x23\x06\x0b\x2a\x86\x48\x86\xf7\x0d\x01\x0c\x0a\x01\x03\xa0\x14\x30\x12\
+    \x06\x0a\x2a\x86\x48\x86\xf7\x0d\x01\x09\x16\x01\xa0\x04\x04\x02\x30\x00";
 
 /// The bag of both stores, in its list.
 const BAGS: &[u8] =
@@ -102,16 +109,22 @@ fn keys_are_derived(rt: HostRuntime) -> Result<(), Fail> {
 }
 
 #[test]
-fn macs_are_made_and_agree(rt: HostRuntime) -> Result<(), Fail> {
+fn a_mac_under_sha1_is_made(rt: HostRuntime) -> Result<(), Fail> {
     let alloc = rt.alloc();
-    let mac = MacData::with_salt(alloc, &[0x30, 0], &[0, 0], &SALT, 1)?.try_clone(alloc)?;
+    let mac = MacData::with_salt(alloc, &[0x30, 0], &[0, 0], &SALT, 1)?;
     assert!(rt;
         mac.mac.digest.as_slice()
             == b"\xa4\xa4\xaf\x5b\xf3\x0c\x0e\xd0\xd0\x79\xc4\xd2\xa5\x7f\xdc\xd2\x30\x14\x9e\xc9".as_slice()
     );
     assert!(rt; mac.salt.len() == 8);
-    assert!(rt; mac.verify_mac(alloc, &[0x30, 0], &[0, 0])?);
-    assert!(rt; !mac.verify_mac(alloc, &[0x30, 0], &PASSWORD)?);
+    assert!(rt; calls::mac_agrees(alloc, &mac, &[0x30, 0], &[0, 0])?);
+    assert!(rt; !calls::mac_agrees(alloc, &mac, &[0x30, 0], &PASSWORD)?);
+    Ok(())
+}
+
+#[test]
+fn a_mac_under_sha256_is_made(rt: HostRuntime) -> Result<(), Fail> {
+    let alloc = rt.alloc();
     let mac = MacData::with_salt_sha256(alloc, b"abc", &PASSWORD, &SALT, 3)?;
     assert!(rt;
         mac.mac.digest.as_slice()
@@ -119,35 +132,55 @@ fn macs_are_made_and_agree(rt: HostRuntime) -> Result<(), Fail> {
     \x71\xf8\x5a\xf4\xc1\x6a\x68\x3d\x09\xdc\x58\x0b"
                 .as_slice()
     );
+    let mac = mac.try_clone(alloc)?;
     assert!(rt; mac.salt.len() == 8);
-    assert!(rt; mac.verify_mac(alloc, b"abc", &PASSWORD)?);
+    assert!(rt; calls::mac_agrees(alloc, &mac, b"abc", &PASSWORD)?);
     Ok(())
 }
 
 #[test]
 fn a_plain_store_is_read(rt: HostRuntime) -> Result<(), Fail> {
     let alloc = rt.alloc();
-    let store = PFX::parse(alloc, STORE)?.try_clone(alloc)?;
+    let store = calls::store(alloc, STORE)?.try_clone(alloc)?;
     assert!(rt; store.version == 3 && store.mac_data.is_some());
     let ContentInfo::Data(contents) = &store.auth_safe else {
         panic!(rt; "another variant");
     };
-    let list = ContentInfo::parse_all(alloc, contents.as_slice())?;
+    assert!(rt; contents.as_slice() == CONTENTS);
+    Ok(())
+}
+
+#[test]
+fn a_list_of_contents_is_read(rt: HostRuntime) -> Result<(), Fail> {
+    let list = ContentInfo::parse_all(rt.alloc(), CONTENTS)?;
     let ContentInfo::Data(inner) = list.get(0).expect(&rt, "a content") else {
         panic!(rt; "another variant");
     };
     assert!(rt; inner.as_slice() == BAGS);
+    Ok(())
+}
+
+#[test]
+fn a_list_of_bags_is_read(rt: HostRuntime) -> Result<(), Fail> {
+    let alloc = rt.alloc();
     let bags = SafeBag::parse_all(alloc, BAGS)?;
     let certificate = bags.get(0).expect(&rt, "a bag").bag.get_x509_cert(alloc)?;
     assert!(rt; certificate.expect(&rt, "a certificate").as_slice() == b"\x30\x00".as_slice());
     Ok(())
 }
 
+/// The content of `SEALED_STORE`.
+fn sealed_content(alloc: Global) -> Result<ContentInfo, Error> {
+    let Some(text) = SEALED_STORE.get(25..) else {
+        return Err(Error::Malformed);
+    };
+    Ok(ContentInfo::parse(alloc, &mut SliceReader::new(text))?)
+}
+
 #[test]
 fn a_sealed_content_opens(rt: HostRuntime) -> Result<(), Fail> {
     let alloc = rt.alloc();
-    let contents = SEALED_STORE.get(25..).expect(&rt, "contents");
-    let content = ContentInfo::parse(alloc, &mut SliceReader::new(contents))?.try_clone(alloc)?;
+    let content = sealed_content(alloc)?.try_clone(alloc)?;
     let ContentInfo::EncryptedData(encrypted) = &content else {
         panic!(rt; "another variant");
     };
@@ -165,32 +198,59 @@ fn a_sealed_content_opens(rt: HostRuntime) -> Result<(), Fail> {
     Ok(())
 }
 
+/// Whether a store has one bag under its password, the certificate `3000`.
+fn has_one_certificate(alloc: Global, text: &[u8]) -> Result<bool, Error> {
+    let store = calls::store(alloc, text)?;
+    Ok(
+        calls::bag_count(alloc, &store, "p")? == 1
+            && calls::certificate_count(alloc, &store, "p")? == 1
+            && calls::x509_count(alloc, &store, "p")? == 1
+            && calls::is_x509_at(alloc, &store, "p", 0, &[0x30, 0])?,
+    )
+}
+
+/// Whether a store has neither an SDSI certificate nor a key.
+fn has_nothing_else(alloc: Global, text: &[u8]) -> Result<bool, Error> {
+    let store = calls::store(alloc, text)?;
+    Ok(calls::sdsi_count(alloc, &store, "p")? == 0 && calls::key_count(alloc, &store, "p")? == 0)
+}
+
 #[test]
 fn the_bags_of_a_store_are_collected(rt: HostRuntime) -> Result<(), Fail> {
     let alloc = rt.alloc();
-    for octets in [STORE, SEALED_STORE] {
-        let store = PFX::parse(alloc, octets)?;
-        assert!(rt; store.verify_mac(alloc, "p")? && !store.verify_mac(alloc, "q")?);
-        assert!(rt; store.bags(alloc, "p")?.len() == 1);
-        let certificates = store.cert_x509_bags(alloc, "p")?;
-        assert!(rt; certificates.len() == 1 && store.cert_bags(alloc, "p")?.len() == 1);
-        let Some(certificate) = certificates.get(0) else {
-            panic!(rt; "no certificate");
-        };
-        assert!(rt; certificate.as_slice() == &[0x30, 0][..]);
-        assert!(rt; store.cert_sdsi_bags(alloc, "p")?.is_empty());
-        assert!(rt; store.key_bags(alloc, "p")?.is_empty());
-    }
-    let store = PFX::parse(alloc, SEALED_STORE)?;
-    assert!(rt; store.bags(alloc, "q").is_err());
+    assert!(rt; has_one_certificate(alloc, STORE)?);
+    assert!(rt; has_nothing_else(alloc, STORE)?);
+    assert!(rt; has_one_certificate(alloc, SEALED_STORE)?);
+    assert!(rt; has_nothing_else(alloc, SEALED_STORE)?);
     Ok(())
+}
+
+/// Whether the MAC of a store agrees under its password, and not under another.
+fn agrees_under_its_password(alloc: Global, text: &[u8]) -> Result<bool, Error> {
+    let store = calls::store(alloc, text)?;
+    Ok(calls::agrees(alloc, &store, "p")? && !calls::agrees(alloc, &store, "q")?)
+}
+
+#[test]
+fn a_store_opens_under_its_password_alone(rt: HostRuntime) -> Result<(), Fail> {
+    let alloc = rt.alloc();
+    assert!(rt; agrees_under_its_password(alloc, STORE)?);
+    assert!(rt; agrees_under_its_password(alloc, SEALED_STORE)?);
+    let store = calls::store(alloc, SEALED_STORE)?;
+    assert!(rt; calls::bag_count(alloc, &store, "q").is_err());
+    Ok(())
+}
+
+/// The bag of `ENCRYPTED_KEY`.
+fn key_bag(alloc: Global) -> Result<SafeBagKind, Error> {
+    let identifier = ObjectIdentifier::from_bytes(b"\x2a\x86\x48\x86\xf7\x0d\x01\x0c\x0a\x01\x02")?;
+    Ok(SafeBagKind::parse(alloc, &mut SliceReader::new(ENCRYPTED_KEY), identifier)?)
 }
 
 #[test]
 fn an_encrypted_key_opens(rt: HostRuntime) -> Result<(), Fail> {
     let alloc = rt.alloc();
-    let identifier = ObjectIdentifier::from_bytes(b"\x2a\x86\x48\x86\xf7\x0d\x01\x0c\x0a\x01\x02")?;
-    let bag = SafeBagKind::parse(alloc, &mut SliceReader::new(ENCRYPTED_KEY), identifier)?;
+    let bag = key_bag(alloc)?;
     let SafeBagKind::Pkcs8ShroudedKeyBag(key) = &bag else {
         panic!(rt; "another variant");
     };
@@ -203,6 +263,18 @@ fn an_encrypted_key_opens(rt: HostRuntime) -> Result<(), Fail> {
     let plain = bag.get_key(alloc, &PASSWORD)?;
     assert!(rt; plain.expect(&rt, "a key").as_slice() == KEY);
     assert!(rt; key.decrypt(alloc, &[0, 0])?.is_none());
+    Ok(())
+}
+
+#[test]
+fn a_key_is_sealed_under_triple_des(rt: HostRuntime) -> Result<(), Fail> {
+    let alloc = rt.alloc();
+    let key = calls::encrypted_key(alloc, ENCRYPTED_KEY)?;
+    let AlgorithmIdentifier::PbeWithSHAAnd3KeyTripleDESCBC(params) = &key.encryption_algorithm
+    else {
+        panic!(rt; "another variant");
+    };
+    assert!(rt; params.salt.len() == 8 && params.iterations == 1);
     let sealed = key.encryption_algorithm.encrypt_pbe(alloc, KEY, &PASSWORD)?;
     assert!(rt; sealed == key.encrypted_data);
     Ok(())
@@ -233,14 +305,22 @@ const RC2: &[u8] =
 #[test]
 fn algorithms_are_read(rt: HostRuntime) -> Result<(), Fail> {
     let alloc = rt.alloc();
-    let rc2 = AlgorithmIdentifier::parse(alloc, &mut SliceReader::new(RC2))?.try_clone(alloc)?;
+    let rc2 = calls::algorithm(alloc, RC2)?.try_clone(alloc)?;
     let AlgorithmIdentifier::PbewithSHAAnd40BitRC2CBC(params) = &rc2 else {
         panic!(rt; "another variant");
     };
     assert!(rt; params.salt.len() == 8 && params.iterations == 2048);
     assert!(rt; rc2.decrypt_pbe(alloc, &[0; 8], &[0, 0])?.is_none());
-    let mut r = SliceReader::new(&RC2[14..]);
-    assert!(rt; &Pkcs12PbeParams::parse(alloc, &mut r)?.try_clone(alloc)? == params);
+    Ok(())
+}
+
+#[test]
+fn the_parameters_of_an_algorithm_are_read(rt: HostRuntime) -> Result<(), Fail> {
+    let alloc = rt.alloc();
+    let params = Pkcs12PbeParams::parse(alloc, &mut SliceReader::new(&RC2[14..]))?;
+    let params = params.try_clone(alloc)?;
+    assert!(rt; params.salt.as_slice() == &RC2[18..26]);
+    assert!(rt; params.iterations == 2048);
     Ok(())
 }
 
@@ -323,12 +403,24 @@ const NAMED_BAG: &[u8] =
     \x11\x06\x09\x2a\x86\x48\x86\xf7\x0d\x01\x09\x14\x31\x04\x1e\x02\x00\x62\x30\x10\
     \x06\x09\x2a\x86\x48\x86\xf7\x0d\x01\x09\x15\x31\x03\x04\x01\x07";
 
+/// The bag of a text.
+fn safe_bag(alloc: Global, text: &[u8]) -> Result<SafeBag, Error> {
+    Ok(SafeBag::parse(alloc, &mut SliceReader::new(text))?)
+}
+
 #[test]
 fn bags_are_read_with_their_attributes(rt: HostRuntime) -> Result<(), Fail> {
     let alloc = rt.alloc();
-    let bag = SafeBag::parse(alloc, &mut SliceReader::new(NAMED_BAG))?.try_clone(alloc)?;
+    let bag = safe_bag(alloc, NAMED_BAG)?.try_clone(alloc)?;
     assert!(rt; bag.friendly_name(alloc)?.expect(&rt, "a name").as_str() == "b");
     assert!(rt; bag.local_key_id(alloc)?.expect(&rt, "a key id").as_slice() == &[7][..]);
+    Ok(())
+}
+
+#[test]
+fn bags_are_told_by_their_identifiers(rt: HostRuntime) -> Result<(), Fail> {
+    let alloc = rt.alloc();
+    let bag = safe_bag(alloc, NAMED_BAG)?;
     assert!(rt; bag.bag.get_sdsi_cert(alloc)?.is_none());
     assert!(rt;
         bag.bag.oid().as_bytes() == b"\x2a\x86\x48\x86\xf7\x0d\x01\x0c\x0a\x01\x03".as_slice()
@@ -346,11 +438,18 @@ const SDSI_STORE: &[u8] =
 #[test]
 fn the_sdsi_certificates_of_a_store_are_collected(rt: HostRuntime) -> Result<(), Fail> {
     let alloc = rt.alloc();
-    let store = PFX::parse(alloc, SDSI_STORE)?;
-    let texts = store.cert_sdsi_bags(alloc, "p")?;
-    assert!(rt; texts.len() == 1 && texts.get(0).expect(&rt, "a text").as_str() == "ab");
-    assert!(rt; store.cert_x509_bags(alloc, "p")?.is_empty() && store.verify_mac(alloc, "p")?);
-    let bags = store.bags(alloc, "p")?;
+    let store = calls::store(alloc, SDSI_STORE)?;
+    assert!(rt; calls::sdsi_count(alloc, &store, "p")? == 1);
+    assert!(rt; calls::is_first_sdsi(alloc, &store, "p", "ab")?);
+    assert!(rt; calls::x509_count(alloc, &store, "p")? == 0);
+    assert!(rt; calls::agrees(alloc, &store, "p")?);
+    Ok(())
+}
+
+#[test]
+fn a_bag_gives_its_sdsi_certificate(rt: HostRuntime) -> Result<(), Fail> {
+    let alloc = rt.alloc();
+    let bags = calls::store(alloc, SDSI_STORE)?.bags(alloc, "p")?;
     let bag = bags.get(0).expect(&rt, "a bag");
     assert!(rt; bag.bag.get_sdsi_cert(alloc)?.expect(&rt, "a text").as_str() == "ab");
     Ok(())
@@ -366,13 +465,18 @@ fn sdsi_certificates_are_read(rt: HostRuntime) -> Result<(), Fail> {
     let certificate = CertBag::parse(alloc, &mut SliceReader::new(SDSI))?;
     let kind = SafeBagKind::CertBag(certificate.try_clone(alloc)?).try_clone(alloc)?;
     assert!(rt; kind.get_sdsi_cert(alloc)?.expect(&rt, "a text").as_str() == "ab");
+    Ok(())
+}
+
+#[test]
+fn other_certificates_are_refused(rt: HostRuntime) -> Result<(), Fail> {
     // a character over 127, a third kind
     for bad in [
         b"\x30\x12\x06\x0a\x2a\x86\x48\x86\xf7\x0d\x01\x09\x16\x02\xa0\x04\x16\x02\x61\xff".as_slice(),
         b"\x30\x12\x06\x0a\x2a\x86\x48\x86\xf7\x0d\x01\x09\x16\x03\xa0\x04\x16\x02\x61\x62".as_slice(),
     ] {
         let mut r = SliceReader::new(bad);
-        assert!(rt; CertBag::parse(alloc, &mut r).is_err());
+        assert!(rt; CertBag::parse(rt.alloc(), &mut r).is_err());
         assert!(rt; r.position() == 0);
     }
     Ok(())
