@@ -1,10 +1,7 @@
 -- Laws of the definitions, for the crates above.
-use Rattle.std.proofs.Common.{◌<◌, ◌≡◌, ℕ, zero, suc, inl, inr, ◌+◌, ◌*◌, ◌-◌, ◌≤◌, List, [], ◌∷◌, length, Bool, true, false, Option, Some, None, refl, arith, length-append, IsTrue, nat_lt}
+use Rattle.std.proofs.Common.{◌<◌, ◌≡◌, ℕ, ◌*◌, ◌-◌, ◌≤◌, List, length, Bool, true, false, Option, Some, None, refl, arith, IsTrue, nat_lt}
 use Rattle.std.specs.Prelude.{All, if◌then◌else◌, ◌&&◌}
-use Rattle.std.specs.List.{flat_map}
-use Rattle.std.specs.Str.{chars, chars_after, continuation_len, lead_bits}
-use Rattle.std.specs.Int.{w16, to_be_bytes}
-use Rattle.std.proofs.lemmas.Bool.{ltb-true, lt-ltb, cases_lt, le-ltb}
+use Rattle.std.proofs.lemmas.Bool.{ltb-true}
 use Rattle.asn1_core.specs.Texts.{Within, Many}
 use Rattle.asn1_core.specs.OctetLaws.{both}
 use Rattle.asn1_core.specs.StandLaws.{whole_sole}
@@ -18,7 +15,7 @@ use Rattle.pkcs5.specs.Opening.{opened, states_length, steps_of}
 use Rattle.pkcs5.specs.declared.pbes2.parameters.Parameters.{Parameters}
 use Rattle.p12.specs.AlgorithmIdentifier.{IsOpened, cost, is_blocks, taken, taken_pbe, unlock, unlock_pbe, unlock_pbes2, unpadded, triple_des_text}
 use Rattle.p12.specs.ContentInfo.{ContentFits, ContentText, IsContents}
-use Rattle.pkcs12_kdf.specs.Password.{bmp_password, units_of_char}
+use Rattle.pkcs12_kdf.specs.Password.{bmp_password}
 use Rattle.p12.specs.Pfx.{IsStore, PfxText, StoreFits}
 use Rattle.p12.specs.SafeBag.{BagFits, BagText, IsBags}
 use Rattle.p12.proofs.Pbes2.{by_rounds}
@@ -96,33 +93,3 @@ taken_most (PbewithSHAAnd40BitRC2CBC p) c = omega arith
 taken_most (PbeWithSHAAnd3KeyTripleDESCBC p) c = at_most (is_blocks c) (3 * p.iterations)
 taken_most (Pbes2 par) c = at_most (states_length par.kdf (key_size par.encryption)) (rounds_of par.kdf * steps_of par)
 taken_most (OtherAlg o) c = omega arith
-
--- ---- the octets of a password
-
-after_length : (n c : ℕ) (bs : List ℕ) → length (chars_after n c bs) ≤ length bs + 1
-after_length zero c [] = omega arith
-after_length zero c (b ∷ bs) = omega (arith, after_length (continuation_len b) (lead_bits b) bs)
-after_length (suc n) c [] = omega arith
-after_length (suc n) c (b ∷ bs) = omega (arith, after_length n (c * 64 + (b - 128)) bs)
-
-chars_length : (p : List ℕ) → length (chars p) ≤ length p
-unfolding chars
-chars_length [] = omega arith
-chars_length (b ∷ bs) = omega (arith, after_length (continuation_len b) (lead_bits b) bs)
-
-unit_size : (u : ℕ) → length (to_be_bytes w16 u) ≡ 2
-unit_size u = refl
-
-units_size : (c : ℕ) → length (units_of_char c) ≤ 4
-units_size c = elim (cases_lt c 0x1_0000) [
-  | inl low ↦ rw (lt-ltb c 0x1_0000 low) (omega (arith, unit_size c))
-  | inr high ↦ rw (le-ltb c 0x1_0000 high) (omega arith)
-]
-
-all_units_size : (cs : List ℕ) → length (flat_map units_of_char cs) ≤ 4 * length cs
-all_units_size [] = omega arith
-all_units_size (c ∷ cs) = omega (arith, length-append (units_of_char c) (flat_map units_of_char cs), units_size c, all_units_size cs)
-
-pub password_fits : (p : List ℕ) → length (bmp_password p) ≤ 4 * length p + 2
-unfolding bmp_password
-password_fits p = omega (arith, length-append (flat_map units_of_char (chars p)) (0 ∷ 0 ∷ []), all_units_size (chars p), chars_length p)

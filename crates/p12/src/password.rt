@@ -1,5 +1,5 @@
 //! The password of a store.
-ghost use Rattle.std.specs.Prelude.{◌≡◌, ◌<◌, ◌^◌, length, IfOk, IfErr};
+ghost use Rattle.std.specs.Prelude.{◌≡◌, IfOk, IfErr};
 ghost use Rattle.pkcs12_kdf.specs.Password.{bmp_password};
 
 use crate::error::Error;
@@ -9,10 +9,7 @@ use std::alloc::Global;
 
 /// A password as the derivation of a store takes it (RFC 7292 appendix B.1): its UTF-16, the higher octet of each unit first, and
 /// two zero octets behind it, also for the empty password. The only refusal is `Memory`.
-///
-/// Caller: the text has fewer than 2^57 octets.
 pub fn bmp_string(alloc: Global, s: &str) -> Result<Octets, Error>
-    requires { length s.now < 2 ^ 57 }
     ensures ok { IfOk result (λ q. q ≡ bmp_password s.now) }
     ensures err { IfErr result (λ e. e ≡ Error.Memory) }
 {

@@ -1,3 +1,4 @@
+pub mod PasswordSizes
 mod Sums
 pub mod Texts
 mod Turns

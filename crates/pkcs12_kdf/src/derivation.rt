@@ -22,13 +22,13 @@ pub const IV_ID: u8 = 2;
 /// The purpose of the key of a MAC.
 pub const MAC_ID: u8 = 3;
 
-/// From what octets are derived.
+/// What keys and MACs are derived from.
 #[derive(Clone, Copy, Drop)]
 pub struct Derivation<'a> {
     /// As `utf16_password` gives it.
     pub password: &'a [u8],
     pub salt: &'a [u8],
-    /// How often the hash function is applied for each of its answers.
+    /// How often the hash function is applied for each of its answers (the iterations of RFC 7292), at least 1.
     pub rounds: u64,
 }
 
@@ -97,10 +97,11 @@ fn hmac_of<H: HashFn>(key: &[u8], content: &[u8]) -> [u8; 64]
 }
 
 impl<'a> Derivation<'a> {
-    /// `size` octets for the purpose `id`: `KEY_ID`, `IV_ID` or `MAC_ID`. The only refusal is want of memory. Each round for
-    /// each answer of the hash is a step.
+    /// `size` octets for the purpose `id`: `KEY_ID`, `IV_ID` or `MAC_ID` (RFC 7292 appendix B.2); another number is not refused.
+    /// The only refusal is want of memory. Each answer of the hash that `size` octets need takes `rounds` steps; a refusal takes
+    /// no more than all of them.
     ///
-    /// Caller: `rounds` at least 1, `size` at most 2^32, password and salt of fewer than 2^59 octets each.
+    /// Caller: `H::BLOCK` is 64, `rounds` at least 1, `size` at most 2^32, password and salt of fewer than 2^59 octets each.
     pub fn key_counted<H: HashFn, L: Ledger>(
         &self,
         alloc: Global,
@@ -108,6 +109,7 @@ impl<'a> Derivation<'a> {
         size: usize,
         steps: &mut Steps<L>,
     ) -> Result<Octets, AllocError>
+        requires block { H.BLOCK ≡ 64 }
         requires rounds { 1 ≤ self.now.rounds }
         requires password { length self.now.password.now < 2 ^ 59 }
         requires salt { length self.now.salt.now < 2 ^ 59 }
@@ -143,6 +145,7 @@ impl<'a> Derivation<'a> {
         requires name { blank.name ≡ L.name }
         requires parts { blank.parts ≡ L.parts }
         requires some { 0 < blank.parts }
+        requires block { H.BLOCK ≡ 64 }
         requires rounds { 1 ≤ self.now.rounds }
         requires password { length self.now.password.now < 2 ^ 59 }
         requires salt { length self.now.salt.now < 2 ^ 59 }
@@ -156,6 +159,7 @@ impl<'a> Derivation<'a> {
 
     /// `key_counted` where nothing is counted. Caller: as there.
     pub fn key<H: HashFn>(&self, alloc: Global, id: u8, size: usize) -> Result<Octets, AllocError>
+        requires block { H.BLOCK ≡ 64 }
         requires rounds { 1 ≤ self.now.rounds }
         requires password { length self.now.password.now < 2 ^ 59 }
         requires salt { length self.now.salt.now < 2 ^ 59 }
@@ -166,8 +170,8 @@ impl<'a> Derivation<'a> {
         self.key_from::<H, Brand>(alloc, id, size, Blank::new(1))
     }
 
-    /// The MAC of a content under the hash `H`, whose key has as many octets as an answer of the hash. The only refusal is want
-    /// of memory. Each round is a step.
+    /// The MAC of a content under the hash `H`, whose key has as many octets as an answer of the hash (RFC 7292 appendix B.4). The
+    /// only refusal is want of memory. Each round is a step.
     ///
     /// Caller: `H::BLOCK` is 64, `rounds` at least 1, password and salt of fewer than 2^59 octets each.
     pub fn mac_counted<H: HashFn, L: Ledger>(

@@ -1,5 +1,5 @@
 //! The password of a store.
-ghost use Rattle.std.specs.Prelude.{◌≡◌, ◌++◌, IfOk, OnOk};
+ghost use Rattle.std.specs.Prelude.{◌≡◌, ◌++◌, ◌+◌, ◌*◌, ◌≤◌, length, IfOk, OnOk};
 ghost use Rattle.pkcs12_kdf.specs.Password.{units_of_char, bmp_password};
 
 use octet_core::Octets;
@@ -18,9 +18,11 @@ fn push_char(out: &mut Vec<u8>, character: char) -> Result<(), AllocError>
 }
 
 /// A password as `Derivation` takes it (RFC 7292 appendix B.1): its UTF-16, the higher octet of each unit first, and two zero
-/// octets behind it, also for the empty password. The only refusal is want of memory.
+/// octets behind it, also for the empty password. These are at most four octets for each of the text, and two. The only refusal
+/// is want of memory.
 pub fn utf16_password(alloc: Global, text: &str) -> Result<Octets, AllocError>
-    ensures { IfOk result (λ q. q ≡ bmp_password text.now) }
+    ensures ok { IfOk result (λ q. q ≡ bmp_password text.now) }
+    ensures size { IfOk result (λ q. length q ≤ 4 * length text.now + 2) }
 {
     let mut octets = Vec::new(alloc);
     for character in text.chars() {

@@ -1,5 +1,5 @@
 use Rattle.std.proofs.Common.{ap, ◌∙◌, length, arith}
-use Rattle.p12.proofs.DefinitionLaws.{password_fits}
+use Rattle.pkcs12_kdf.proofs.PasswordSizes.{password_fits}
 use Rattle.p12.proofs.algorithm_identifier.AlgorithmIdentifier.decrypt_text.Goals as goal
 
 pub decrypt_pbe-requires-clause-password : goal.decrypt_pbe-requires-clause-password

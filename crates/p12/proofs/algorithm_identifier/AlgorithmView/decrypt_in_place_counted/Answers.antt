@@ -1,5 +1,5 @@
 use Rattle.std.proofs.Common.{ap, ◌∙◌, length, arith}
-use Rattle.p12.proofs.DefinitionLaws.{password_fits}
+use Rattle.pkcs12_kdf.proofs.PasswordSizes.{password_fits}
 use Rattle.p12.proofs.algorithm_identifier.AlgorithmView.decrypt_in_place_counted.Goals as goal
 
 pub open_pbe-requires-clause-password : goal.open_pbe-requires-clause-password

@@ -1,5 +1,5 @@
 use Rattle.std.proofs.Common.{ap, ◌∙◌, length, arith}
-use Rattle.p12.proofs.DefinitionLaws.{password_fits}
+use Rattle.pkcs12_kdf.proofs.PasswordSizes.{password_fits}
 use Rattle.p12.proofs.mac_data.MacView.verify_counted.Goals as goal
 
 pub agrees-requires-clause-password : goal.agrees-requires-clause-password

@@ -1,5 +1,5 @@
 use Rattle.std.proofs.Common.{◌≡◌, ap, ◌∙◌, length, arith, rules}
-use Rattle.p12.proofs.DefinitionLaws.{password_fits}
+use Rattle.pkcs12_kdf.proofs.PasswordSizes.{password_fits}
 use Rattle.p12.proofs.MadeRefusals.{made_salt}
 use Rattle.p12.proofs.pfx.PFX.new_with_cas.Goals as goal
 

@@ -1,5 +1,5 @@
 use Rattle.std.proofs.Common.{ap, ◌∙◌, length, arith}
-use Rattle.p12.proofs.DefinitionLaws.{password_fits}
+use Rattle.pkcs12_kdf.proofs.PasswordSizes.{password_fits}
 use Rattle.p12.proofs.pfx.PFX.verify_mac.Goals as goal
 
 pub verify_mac-requires-clause-password : goal.verify_mac-requires-clause-password

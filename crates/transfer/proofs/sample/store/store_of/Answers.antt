@@ -1,5 +1,5 @@
 use Rattle.std.proofs.Common.{ap, arith, length}
-use Rattle.p12.proofs.DefinitionLaws.{password_fits}
+use Rattle.pkcs12_kdf.proofs.PasswordSizes.{password_fits}
 use Rattle.transfer.specs.Sample.{sample_password}
 use Rattle.transfer.proofs.sample.store.store_of.Goals as goal
 
