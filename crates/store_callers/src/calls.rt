@@ -1,5 +1,5 @@
-//! Calls of `p12` that promise next to nothing here. What a call promises stands before the prover until the end of the test that
-//! makes it, so a test of several calls is proved far sooner by these.
+//! Calls of `p12` with weaker contracts. The prover keeps what a call promises until the end of the test that makes it, so a test
+//! of several calls is proved much sooner through these.
 ghost use Rattle.std.specs.Prelude.{◌<◌, ◌^◌, length, IfOk};
 ghost use Rattle.p12.specs.Pfx.{OpeningFits};
 
@@ -7,6 +7,7 @@ use asn1_core::{Items, Octets, SliceReader};
 use p12::{AlgorithmIdentifier, EncryptedPrivateKeyInfo, Error, MacData, PFX};
 use std::alloc::Global;
 
+/// Reads a store.
 pub fn store(alloc: Global, text: &[u8]) -> Result<PFX, Error>
     ensures { IfOk result OpeningFits }
 {
@@ -21,7 +22,7 @@ pub fn bag_count(alloc: Global, store: &PFX, password: &str) -> Result<usize, Er
     Ok(store.bags(alloc, password)?.len())
 }
 
-/// How many of them hold certificates.
+/// How many certificate bags a store has.
 pub fn certificate_count(alloc: Global, store: &PFX, password: &str) -> Result<usize, Error>
     requires fits { OpeningFits store.now }
     requires password { length password.now < 2 ^ 57 }
@@ -29,7 +30,7 @@ pub fn certificate_count(alloc: Global, store: &PFX, password: &str) -> Result<u
     Ok(store.cert_bags(alloc, password)?.len())
 }
 
-/// How many of those are X.509 certificates.
+/// How many X.509 certificates a store has.
 pub fn x509_count(alloc: Global, store: &PFX, password: &str) -> Result<usize, Error>
     requires fits { OpeningFits store.now }
     requires password { length password.now < 2 ^ 57 }
@@ -37,7 +38,7 @@ pub fn x509_count(alloc: Global, store: &PFX, password: &str) -> Result<usize, E
     Ok(store.cert_x509_bags(alloc, password)?.len())
 }
 
-/// Whether one of these octets stands at this place among them.
+/// Whether the X.509 certificate at this place, counted from 0, has these octets.
 pub fn is_x509_at(
     alloc: Global,
     store: &PFX,
@@ -51,7 +52,7 @@ pub fn is_x509_at(
     Ok(stand_at(&store.cert_x509_bags(alloc, password)?, at, octets))
 }
 
-/// How many are SDSI certificates.
+/// How many SDSI certificates a store has.
 pub fn sdsi_count(alloc: Global, store: &PFX, password: &str) -> Result<usize, Error>
     requires fits { OpeningFits store.now }
     requires password { length password.now < 2 ^ 57 }
@@ -59,7 +60,7 @@ pub fn sdsi_count(alloc: Global, store: &PFX, password: &str) -> Result<usize, E
     Ok(store.cert_sdsi_bags(alloc, password)?.len())
 }
 
-/// Whether the first of those is this text.
+/// Whether the first SDSI certificate is this text.
 pub fn is_first_sdsi(alloc: Global, store: &PFX, password: &str, text: &str) -> Result<bool, Error>
     requires fits { OpeningFits store.now }
     requires password { length password.now < 2 ^ 57 }
@@ -70,7 +71,7 @@ pub fn is_first_sdsi(alloc: Global, store: &PFX, password: &str, text: &str) -> 
     }
 }
 
-/// How many private keys open.
+/// How many private keys of a store open.
 pub fn key_count(alloc: Global, store: &PFX, password: &str) -> Result<usize, Error>
     requires fits { OpeningFits store.now }
     requires password { length password.now < 2 ^ 57 }
@@ -78,7 +79,7 @@ pub fn key_count(alloc: Global, store: &PFX, password: &str) -> Result<usize, Er
     Ok(store.key_bags(alloc, password)?.len())
 }
 
-/// Whether the first of those has these octets.
+/// Whether the first private key has these octets.
 pub fn is_first_key(
     alloc: Global,
     store: &PFX,
@@ -91,6 +92,7 @@ pub fn is_first_key(
     Ok(stand_at(&store.key_bags(alloc, password)?, 0, octets))
 }
 
+/// Whether the MAC of a store agrees.
 pub fn agrees(alloc: Global, store: &PFX, password: &str) -> Result<bool, Error>
     requires fits { OpeningFits store.now }
     requires password { length password.now < 2 ^ 57 }
@@ -106,15 +108,17 @@ fn stand_at(items: &Items<Octets>, at: usize, octets: &[u8]) -> bool {
     }
 }
 
+/// Reads an EncryptedPrivateKeyInfo.
 pub fn encrypted_key(alloc: Global, text: &[u8]) -> Result<EncryptedPrivateKeyInfo, Error> {
     Ok(EncryptedPrivateKeyInfo::parse(alloc, &mut SliceReader::new(text))?)
 }
 
+/// Reads an AlgorithmIdentifier.
 pub fn algorithm(alloc: Global, text: &[u8]) -> Result<AlgorithmIdentifier, Error> {
     Ok(AlgorithmIdentifier::parse(alloc, &mut SliceReader::new(text))?)
 }
 
-/// Whether a MAC agrees.
+/// Whether a MAC by itself agrees over a content, under a password as `bmp_string` gives it.
 pub fn mac_agrees(
     alloc: Global,
     mac: &MacData,

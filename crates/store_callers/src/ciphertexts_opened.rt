@@ -1,4 +1,4 @@
-//! Ciphertexts that are opened, and MACs that are tested, by the calls that count their steps.
+//! Ciphertexts that are opened, and MACs that are tested, mostly by the calls that count their steps.
 ghost use Rattle.std.specs.Prelude.{◌≡◌, ◌<◌, ◌^◌, length};
 ghost use Rattle.p12.specs.AlgorithmIdentifier.{salt_of};
 
@@ -136,7 +136,7 @@ fn opened_in_place<L: Ledger>(
 }
 
 #[test]
-fn pbes2_opens_under_utf8(rt: HostRuntime) -> Result<(), Fail> {
+fn pbes2_opens_by_the_call_that_counts_nothing(rt: HostRuntime) -> Result<(), Fail> {
     let alloc = rt.alloc();
     let key = calls::encrypted_key(alloc, PBES2_KEY)?;
     let algorithm = key.encryption_algorithm.view().owned(alloc)?;

@@ -1,27 +1,39 @@
-//! What a password gives, with octets that Python's `hashlib` and `hmac` made.
+//! Keys and MACs that `pkcs12_kdf` derives. The octets are those that Python's `hashlib` and `hmac` give.
 
 use crate::stores_read::{PASSWORD, SALT};
-use mac_modes::Sha256;
-use pkcs12_kdf::{Derivation, MAC_ID, utf16_password};
+use mac_modes::{Sha1, Sha256};
+use pkcs12_kdf::{Derivation, IV_ID, KEY_ID, utf16_password};
 use std::test::Fail;
 
 #[test]
-fn keys_and_macs_come_of_a_password(rt: HostRuntime) -> Result<(), Fail> {
+fn a_cipher_key_and_its_vector_are_derived(rt: HostRuntime) -> Result<(), Fail> {
     let alloc = rt.alloc();
     let password = utf16_password(alloc, "p")?;
-    assert!(rt; password.as_slice() == PASSWORD.as_slice());
+    let derivation = Derivation {
+        password: password.as_slice(),
+        salt: &SALT,
+        rounds: 3,
+    };
+    let key = derivation.key::<Sha1>(alloc, KEY_ID, 24)?;
+    let iv = derivation.key::<Sha1>(alloc, IV_ID, 8)?;
+    assert!(rt;
+        key.as_slice()
+            == b"\x51\xad\x7a\x01\x28\x1f\x9e\x9d\x16\xe0\x94\x67\x17\x42\x8a\x7b\x48\xbc\xd5\x9f\
+    \xbd\x36\xb1\x16"
+                .as_slice()
+    );
+    assert!(rt; iv.as_slice() == b"\x84\x5a\x75\xee\x5e\x16\x2e\x77".as_slice());
+    Ok(())
+}
+
+#[test]
+fn a_mac_is_derived_under_sha256(rt: HostRuntime) -> Result<(), Fail> {
+    let alloc = rt.alloc();
     let derivation = Derivation {
         password: &PASSWORD,
         salt: &SALT,
         rounds: 3,
     };
-    let key = derivation.key::<Sha256>(alloc, MAC_ID, 32)?;
-    assert!(rt;
-        key.as_slice()
-            == b"\xd0\x4c\x49\x26\x50\xaa\x7f\x7b\xae\xf9\xa5\xd0\x4b\xa4\x61\x32\x71\x47\x09\x38\
-    \x27\xb5\xf7\xc9\x2f\x70\xf7\xae\x62\x99\xe8\xf4"
-                .as_slice()
-    );
     let mac = derivation.mac::<Sha256>(alloc, b"abc")?;
     assert!(rt;
         mac.as_slice()

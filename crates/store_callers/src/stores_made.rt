@@ -28,8 +28,8 @@ const KEY: &[u8] =
 /// The certificate of an authority, by its form alone.
 const AUTHORITY: &[u8] = b"\x30\x00";
 
-/// The MAC of an empty list under no password and the first salt, and the empty list under the second and the third; by
-/// `tests/make_store.py`.
+/// The MAC of an empty list under the empty password and the first salt, and the ciphertexts of the empty list under the second
+/// and the third; by `tests/make_store.py`.
 const MAC_OF_NOTHING: &[u8] =
     b"\xdb\x5f\x60\xb0\x11\x3c\x5e\xc2\x04\x7f\xb8\x6a\x4a\xe6\xbd\x1d\x33\xba\x55\x81";
 
@@ -47,6 +47,8 @@ fn a_mac_is_made_under_a_drawn_salt(rt: HostRuntime) -> Result<(), Fail> {
     let mut draw = drawn(alloc)?;
     let mac = MacData::new(alloc, &[0x30, 0], &[0, 0], &mut draw)?;
     assert!(rt; mac.mac.digest.as_slice() == MAC_OF_NOTHING && mac.iterations == 2_048);
+    let mut next = [0; 1];
+    assert!(rt; draw.fill(&mut next).is_ok() && next[0] == 8);
     Ok(())
 }
 
@@ -65,7 +67,7 @@ fn contents_are_made_under_drawn_salts(rt: HostRuntime) -> Result<(), Fail> {
 }
 
 #[test]
-fn no_mac_is_made_without_a_salt(rt: HostRuntime) -> Result<(), Fail> {
+fn no_mac_is_made_where_seven_octets_are_left(rt: HostRuntime) -> Result<(), Fail> {
     let alloc = rt.alloc();
     let mut draw = DrawnBytes::new(Octets::from_slice(alloc, &SALTS[..7])?);
     match MacData::new(alloc, &[0x30, 0], &[0, 0], &mut draw) {
