@@ -29,6 +29,18 @@ run() (
     "$program" "$@"
 )
 
+# Runs the case $1, the words $2 over $work/input, and compares with the status $3 and the text in $work/due.
+try() {
+    code=0
+    run "$2" <"$work/input" >"$work/found" || code=$?
+    if [ "$code" = "$(code_of "$3")" ] && cmp -s "$work/due" "$work/found"; then
+        echo "ok $1"
+    else
+        echo "not ok $1: due is $3, found is $code, $(head -n 1 "$work/found" | cut -c 1-60)"
+        failed=1
+    fi
+}
+
 cat "$home/tests/vectors/transfers.txt" "$home/tests/vectors/transferred_keys.txt" >"$work/cases"
 while IFS='|' read -r name words input status text; do
     case $name in
@@ -36,14 +48,15 @@ while IFS='|' read -r name words input status text; do
     esac
     printf '%b' "$input" >"$work/input"
     printf '%b' "$text" >"$work/due"
-    code=0
-    run "$words" <"$work/input" >"$work/found" || code=$?
-    if [ "$code" = "$(code_of "$status")" ] && cmp -s "$work/due" "$work/found"; then
-        echo "ok $name"
-    else
-        echo "not ok $name: due is $status, found is $code, $(head -n 1 "$work/found" | cut -c 1-60)"
-        failed=1
-    fi
+    try "$name" "$words" "$status"
 done <"$work/cases"
+
+# As many digits as are read, which are a store that is too long, and one octet more.
+head -c 67108864 /dev/zero | tr '\0' 0 >"$work/input"
+echo "error: TooLong" >"$work/due"
+try "67,108,864 octets of input" "transfer p q 1 9" TooLong
+printf 0 >>"$work/input"
+echo "error: InputTooLong" >"$work/due"
+try "67,108,865 octets of input" "transfer p q 1 9" InputTooLong
 
 exit "$failed"

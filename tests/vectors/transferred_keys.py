@@ -48,6 +48,12 @@ def realistic():
     return store_with_mac(sequence(sealed(bags, "changeit", SALTS[1], 2048), data(sequence(key))), "changeit", SALTS[2], 2048)
 
 
+def published():
+    """The first store of vectors/pkcs12_stores.txt: a key and its certificate, with two others."""
+    line = next(it for it in Path("tests/vectors/pkcs12_stores.txt").read_text().splitlines() if it.startswith("pkcs12-store"))
+    return bytes.fromhex(line.rpartition("= ")[2])
+
+
 def derived(name, password, salt, count, purpose, size):
     """The derivation of RFC 7292 appendix B.2 over a hash with blocks of 64 octets, by numbers."""
     units = password.encode("utf-16-be") + bytes(2)
@@ -145,6 +151,13 @@ def rows():
     yield "three counts of 2,048", "changeit hunter42 2048 14336", whole, drawn, "Done", due
     yield "one step less", "changeit hunter42 2048 14335", whole, drawn, "WorkLimit", None
     yield "another password", "x hunter42 2048 14336", whole, drawn, "MacMismatch", None
+
+    made, info = published(), bytes.fromhex("302a300506032b6570032100") + PUBLIC
+    assert len(made) == 578
+    due = lines([info, *CERTIFICATES], [seal])
+    yield "a certificate, its key and two others", "changeit hunter42 2048 14336", made, drawn, "Done", due
+    yield "the same, one step less", "changeit hunter42 2048 14335", made, drawn, "WorkLimit", None
+    yield "the same, another password", "x hunter42 2048 14336", made, drawn, "MacMismatch", None
 
     two = store_of([sealed_key(KEY, "p", SALTS[0], 1), certificate_bag(CERTIFICATES[0]), sealed_key(KEY, "p", SALTS[1], 2)], "p")
     more = octets(0x40, 64)
