@@ -2,7 +2,7 @@
 use asn1_core::{
     Error, ObjectIdentifier, SliceReader, Tag, read_identifier, read_inner, read_uint,
 };
-use p12::{AlgorithmIdentifier, OtherAlgorithmIdentifier};
+use p12::AlgorithmView;
 use pkcs5::pbes2::{PBES2_OID, PBKDF2_OID, Parameters};
 use std::alloc::{AllocError, Global};
 
@@ -166,28 +166,32 @@ fn pbes2_not_opened(alloc: Global, parameters: &Parameters) -> Result<String, Al
     }
 }
 
-fn other_name(alloc: Global, other: &OtherAlgorithmIdentifier) -> Result<String, AllocError> {
-    match &other.params {
-        Some(params) if other.algorithm_type == PBES2_OID => pbes2_named(alloc, params.as_slice()),
-        _ => named(alloc, other.algorithm_type),
+fn other_name(
+    alloc: Global,
+    identifier: ObjectIdentifier,
+    params: Option<&[u8]>,
+) -> Result<String, AllocError> {
+    match params {
+        Some(params) if identifier == PBES2_OID => pbes2_named(alloc, params),
+        _ => named(alloc, identifier),
     }
 }
 
 /// The name of an algorithm, with what it says of itself.
-pub fn algorithm_name(
-    alloc: Global,
-    algorithm: &AlgorithmIdentifier,
-) -> Result<String, AllocError> {
+pub fn algorithm_name(alloc: Global, algorithm: &AlgorithmView<'_>) -> Result<String, AllocError> {
     match algorithm {
-        AlgorithmIdentifier::Sha1 => format!(in alloc; "SHA-1 (1.3.14.3.2.26)"),
-        AlgorithmIdentifier::Sha256 => format!(in alloc; "SHA-256 (2.16.840.1.101.3.4.2.1)"),
-        AlgorithmIdentifier::PbewithSHAAnd40BitRC2CBC(_) => {
+        AlgorithmView::Sha1 => format!(in alloc; "SHA-1 (1.3.14.3.2.26)"),
+        AlgorithmView::Sha256 => format!(in alloc; "SHA-256 (2.16.840.1.101.3.4.2.1)"),
+        AlgorithmView::Rc2 { .. } => {
             format!(in alloc; "pbeWithSHAAnd40BitRC2-CBC (1.2.840.113549.1.12.1.6)")
         }
-        AlgorithmIdentifier::PbeWithSHAAnd3KeyTripleDESCBC(_) => {
+        AlgorithmView::TripleDes { .. } => {
             format!(in alloc; "pbeWithSHAAnd3-KeyTripleDES-CBC (1.2.840.113549.1.12.1.3)")
         }
-        AlgorithmIdentifier::Pbes2(parameters) => pbes2_not_opened(alloc, parameters),
-        AlgorithmIdentifier::OtherAlg(other) => other_name(alloc, other),
+        AlgorithmView::Pbes2(parameters) => pbes2_not_opened(alloc, parameters),
+        AlgorithmView::Other {
+            algorithm_type,
+            params,
+        } => other_name(alloc, *algorithm_type, *params),
     }
 }

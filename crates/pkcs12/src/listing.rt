@@ -1,5 +1,5 @@
 //! The certificates and private keys of a store by what their attributes say of them, and the bags that are passed over.
-use crate::inspection::PassedOver;
+use crate::passed_over::PassedOver;
 use asn1_core::{Items, Octets, Text};
 use p12::{Error, SafeBag};
 use std::alloc::Global;

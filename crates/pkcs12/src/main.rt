@@ -11,6 +11,7 @@ mod listing;
 mod not_der;
 mod opening;
 mod origin;
+mod passed_over;
 mod password;
 mod refusal;
 mod request;

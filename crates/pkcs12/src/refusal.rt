@@ -51,10 +51,7 @@ fn detail(
 ) -> Result<Option<String>, Failure> {
     match refusal {
         TransferError::Malformed => malformed(alloc, store),
-        TransferError::ContentMalformed => {
-            let text = outer_text(alloc, store)?;
-            malformed(alloc, text.as_slice())
-        }
+        TransferError::ContentMalformed => malformed(alloc, outer_text(store)),
         TransferError::Unsupported => unsupported(alloc, store, password),
         TransferError::MacUnsupported => match mac_digest(alloc, store)? {
             Some(digest) => Ok(Some(format!(in alloc;

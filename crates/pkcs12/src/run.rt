@@ -124,10 +124,7 @@ fn tell_long_work<R: Runtime + AllocGlobal>(
     store: &[u8],
     rounds: Option<u32>,
 ) {
-    let work = match visible_work(rt.alloc(), store) {
-        Ok(work) => work,
-        Err(_) => 0,
-    };
+    let work = visible_work(store);
     if around.at_terminal && (work > LONG_WORK || are_many(rounds)) {
         // A terminal that cannot be written to is no failure of the work.
         match tell_work(rt, work, rounds) {

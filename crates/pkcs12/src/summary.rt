@@ -1,6 +1,6 @@
 //! What the command says that it found.
-use crate::inspection::PassedOver;
 use crate::listing::{Label, Listing};
+use crate::passed_over::PassedOver;
 use std::alloc::{AllocError, Global};
 use std::fmt::Write;
 
