@@ -22,37 +22,43 @@ fn numbers_are_written_in_the_fewest_octets(rt: HostRuntime) {
     );
 }
 
+/// Whether the writer has no room for the octets.
+fn lacks_room(w: &mut SliceWriter<'_>, octets: &[u8]) -> bool {
+    w.write(octets) == Err(Error::NoRoom)
+}
+
 #[test]
 fn a_buffer_takes_what_it_has_room_for(rt: HostRuntime) {
     let mut buffer = [9; 5];
     let mut w = SliceWriter::new(&mut buffer);
     assert!(rt; write_element(&mut w, Tag::OCTET_STRING, &[1, 2]).is_ok());
-    assert!(rt; w.write(&[3, 4]) == Err(Error::NoRoom));
+    assert!(rt; lacks_room(&mut w, &[3, 4]));
     assert!(rt; w.write(&[3]).is_ok());
     assert!(rt; w.write(&[]).is_ok());
-    assert!(rt; w.write(&[4]) == Err(Error::NoRoom));
+    assert!(rt; lacks_room(&mut w, &[4]));
     assert!(rt; w.finish() == &[4, 2, 1, 2, 3][..]);
 }
 
-fn header(alloc: Global, length: u32) -> Result<Octets, Error> {
+/// Whether these are the octets in front of a SEQUENCE of so many value octets.
+fn is_header(alloc: Global, length: u32, octets: &[u8]) -> bool {
     let mut w = VecWriter::new(alloc);
-    write_header(&mut w, Tag::SEQUENCE, Length::new(length))?;
-    Ok(w.into_octets())
+    let written = write_header(&mut w, Tag::SEQUENCE, Length::new(length));
+    written.is_ok() && w.into_octets().as_slice() == octets
 }
 
 #[test]
 fn lengths_are_written_in_the_fewest_octets(rt: HostRuntime) {
     // X.690 section 8.1.3 and 10.1
     let alloc = rt.alloc();
-    assert!(rt; header(alloc, 127).expect(&rt, "room").as_slice() == &[0x30, 0x7f][..]);
-    assert!(rt; header(alloc, 128).expect(&rt, "room").as_slice() == &[0x30, 0x81, 0x80][..]);
-    assert!(rt; header(alloc, 256).expect(&rt, "room").as_slice() == &[0x30, 0x82, 1, 0][..]);
-    assert!(rt;
-        header(alloc, 0x1_0000).expect(&rt, "room").as_slice() == &[0x30, 0x83, 1, 0, 0][..]
-    );
-    assert!(rt;
-        header(alloc, 0x100_0000).expect(&rt, "room").as_slice() == &[0x30, 0x84, 1, 0, 0, 0][..]
-    );
+    assert!(rt; is_header(alloc, 127, &[0x30, 0x7f]));
+    assert!(rt; is_header(alloc, 128, &[0x30, 0x81, 0x80]));
+    assert!(rt; is_header(alloc, 256, &[0x30, 0x82, 1, 0]));
+    assert!(rt; is_header(alloc, 0x1_0000, &[0x30, 0x83, 1, 0, 0]));
+    assert!(rt; is_header(alloc, 0x100_0000, &[0x30, 0x84, 1, 0, 0, 0]));
+}
+
+#[test]
+fn an_element_has_a_length_below_2_to_the_32nd(rt: HostRuntime) {
     assert!(rt; element_len(Length::new(0xffff_fff9)) == Ok(Length::new(0xffff_ffff)));
     assert!(rt; element_len(Length::new(0xffff_fffa)) == Err(Error::Overlength));
 }

@@ -1,15 +1,16 @@
 //! One key by each call, and the parameters of password hashes.
 ghost use Rattle.std.specs.Prelude.{◌≡◌, ◌<◌};
 
+use crate::answers::prints;
 use mac_modes::{Hmac, InvalidLength, Sha1, Sha256};
 use pbkdf2::{
     Algorithm, Params, Pbkdf2, pbkdf2, pbkdf2_array, pbkdf2_counted, pbkdf2_hmac,
     pbkdf2_hmac_array, pbkdf2_hmac_counted, pbkdf2_hmac_with_params,
 };
 use phc_core::{Error, Kdf};
+use std::alloc::Global;
 use std::marker::Brand;
 use std::sync::ledger::{Blank, Ledger};
-use std::test::Fail;
 use steps::Steps;
 
 /// The key of 1,000 rounds of HMAC-SHA-256 on `password` and `salt`, as OpenSSL gives it.
@@ -17,35 +18,36 @@ const KEY: [u8; 20] =
     *b"\x63\x2c\x28\x12\xe4\x6d\x46\x04\x10\x2b\xa7\x61\x8e\x9d\x6d\x7d\x2f\x81\x28\xf6";
 
 #[test]
-fn every_call_gives_the_same_key(rt: HostRuntime) -> Result<(), Fail> {
+fn a_buffer_is_filled_with_the_key(rt: HostRuntime) {
     let mut filled = [0; 20];
-    pbkdf2::<Hmac<Sha256>>(b"password", b"salt", 1000, &mut filled)?;
-    assert_eq!(rt; filled, KEY);
-    assert_eq!(rt;
-        pbkdf2_array::<Hmac<Sha256>, 20>(b"password", b"salt", 1000)?,
-        KEY
-    );
-    assert_eq!(rt;
-        pbkdf2_hmac_array::<Sha256, 20>(b"password", b"salt", 1000),
-        KEY
-    );
+    assert!(rt; pbkdf2::<Hmac<Sha256>>(b"password", b"salt", 1000, &mut filled).is_ok());
+    assert!(rt; filled == KEY);
     let mut by_hmac = [0; 20];
     pbkdf2_hmac::<Sha256>(b"password", b"salt", 1000, &mut by_hmac);
-    assert_eq!(rt; by_hmac, KEY);
-    let params = Params::new(1000)?;
+    assert!(rt; by_hmac == KEY);
+}
+
+#[test]
+fn an_array_is_the_key(rt: HostRuntime) {
+    assert!(rt; pbkdf2_array::<Hmac<Sha256>, 20>(b"password", b"salt", 1000) == Ok(KEY));
+    assert!(rt; pbkdf2_hmac_array::<Sha256, 20>(b"password", b"salt", 1000) == KEY);
+}
+
+#[test]
+fn parameters_give_the_same_key(rt: HostRuntime) {
+    let params = Params::new(1000).expect(&rt, "parameters");
+    let default = Algorithm::default();
     let mut chosen = [0; 20];
-    pbkdf2_hmac_with_params(
-        b"password",
-        b"salt",
-        Algorithm::default(),
-        params,
-        &mut chosen,
-    );
-    assert_eq!(rt; chosen, KEY);
+    pbkdf2_hmac_with_params(b"password", b"salt", default, params, &mut chosen);
+    assert!(rt; chosen == KEY);
     let mut derived = [0; 20];
-    Pbkdf2::from(params).derive_key(b"password", b"salt", &mut derived)?;
-    assert_eq!(rt; derived, KEY);
-    Ok(())
+    let hasher = Pbkdf2::from(params);
+    assert!(rt;
+        hasher
+            .derive_key(b"password", b"salt", &mut derived)
+            .is_ok()
+    );
+    assert!(rt; derived == KEY);
 }
 
 /// What `pbkdf2_counted` and `pbkdf2_hmac_counted` give, over a counter of its own.
@@ -69,56 +71,78 @@ fn counted_key<L: Ledger>(rounds: u32, blank: Blank) -> Result<[u8; 20], Invalid
 // RFC 6070
 #[test]
 fn a_counted_key_is_the_one_of_the_standard(rt: HostRuntime) {
-    assert_eq!(rt;
-        counted_key::<Brand>(4096, Blank::new(1)),
-        Ok(*b"\x4b\x00\x79\x01\xb7\x65\x48\x9a\xbe\xad\x49\xd9\x26\xf7\x21\xd0\x65\xa4\x29\xc1")
-    );
+    let key = *b"\x4b\x00\x79\x01\xb7\x65\x48\x9a\xbe\xad\x49\xd9\x26\xf7\x21\xd0\x65\xa4\x29\xc1";
+    assert!(rt; counted_key::<Brand>(4096, Blank::new(1)) == Ok(key));
+}
+
+/// Whether the parameters are refused.
+fn is_refused(rounds: u32) -> bool {
+    Params::new(rounds) == Err(Error::ParamsInvalid)
+        && Params::try_from(rounds) == Err(Error::ParamsInvalid)
+}
+
+/// Whether an output of so many octets is taken.
+fn is_taken(output_len: usize) -> bool {
+    Params::new_with_output_len(1000, output_len).is_ok()
 }
 
 #[test]
-fn parameters_have_bounds(rt: HostRuntime) -> Result<(), Fail> {
-    assert_eq!(rt; Params::new(999), Err(Error::ParamsInvalid));
-    let least = Params::new(1000)?;
-    assert_eq!(rt; (least.rounds(), least.output_len()), (1000, 32));
+fn parameters_have_bounds(rt: HostRuntime) {
+    assert!(rt; is_refused(999));
+    let least = Params::new(1000).expect(&rt, "parameters");
+    assert!(rt; least.rounds() == 1000 && least.output_len() == 32);
     for len in 0..80 {
-        assert_eq!(rt;
-            Params::new_with_output_len(1000, len).is_ok(),
-            10 <= len && len <= 64,
-            "{len}"
-        );
+        assert!(rt; is_taken(len) == (10 <= len && len <= 64));
     }
-    assert_eq!(rt; "+2000".parse::<Params>(), Params::new(2000));
-    assert_eq!(rt; "999".parse::<Params>(), Err(Error::ParamsInvalid));
-    assert_eq!(rt; "1e3".parse::<Params>(), Err(Error::EncodingInvalid));
-    assert_eq!(rt; Params::try_from(999), Err(Error::ParamsInvalid));
-    assert_eq!(rt;
-        Params::recommended_for(Algorithm::Pbkdf2Sha512)
-            .to_string(rt.alloc())?
-            .as_str(),
-        "210000"
-    );
-    let sha256 = Pbkdf2::new(Algorithm::Pbkdf2Sha256, Params::new(600_000)?);
-    assert_eq!(rt; Pbkdf2::SHA256, sha256);
-    let sha512 = Pbkdf2::new(Algorithm::Pbkdf2Sha512, Params::new(210_000)?);
-    assert_eq!(rt; Pbkdf2::SHA512, sha512);
-    Ok(())
+}
+
+/// Whether the text is one of so many rounds.
+fn is_text_of(text: &str, rounds: u32) -> bool {
+    text.parse::<Params>() == Params::new(rounds)
+}
+
+/// Whether the text is refused as one of parameters.
+fn is_text_of_none(text: &str, refusal: Error) -> bool {
+    text.parse::<Params>() == Err(refusal)
 }
 
 #[test]
-fn algorithms_are_read_and_printed(rt: HostRuntime) -> Result<(), Fail> {
-    for id in ["pbkdf2-sha256", "pbkdf2-sha512"] {
-        let algorithm = Algorithm::new(id)?;
-        assert_eq!(rt; algorithm.to_string(rt.alloc())?.as_str(), id);
-        assert_eq!(rt; id.parse(), Ok(algorithm));
-    }
-    for id in [
-        "",
-        "pbkdf2",
-        "PBKDF2-SHA256",
-        "pbkdf2-sha1",
-        "pbkdf2-sha256 ",
-    ] {
-        assert_eq!(rt; Algorithm::new(id), Err(Error::Algorithm), "{id}");
-    }
-    Ok(())
+fn parameters_are_read_and_printed(rt: HostRuntime) {
+    assert!(rt; is_text_of("+2000", 2000));
+    assert!(rt; is_text_of_none("999", Error::ParamsInvalid));
+    assert!(rt; is_text_of_none("1e3", Error::EncodingInvalid));
+    let recommended = Params::recommended_for(Algorithm::Pbkdf2Sha512);
+    assert!(rt; prints(rt.alloc(), &recommended, "210000"));
+}
+
+#[test]
+fn hashers_have_the_recommended_rounds(rt: HostRuntime) {
+    let sha256 = Params::new(600_000).expect(&rt, "parameters");
+    assert!(rt; Pbkdf2::SHA256 == Pbkdf2::new(Algorithm::Pbkdf2Sha256, sha256));
+    let sha512 = Params::new(210_000).expect(&rt, "parameters");
+    assert!(rt; Pbkdf2::SHA512 == Pbkdf2::new(Algorithm::Pbkdf2Sha512, sha512));
+}
+
+/// Whether the text names an algorithm, which prints it again.
+fn is_name(alloc: Global, text: &str) -> bool {
+    let Ok(algorithm) = Algorithm::new(text) else {
+        return false;
+    };
+    prints(alloc, &algorithm, text) && text.parse() == Ok(algorithm)
+}
+
+/// Whether the text names no algorithm.
+fn is_no_name(text: &str) -> bool {
+    Algorithm::new(text) == Err(Error::Algorithm)
+}
+
+#[test]
+fn algorithms_are_read_and_printed(rt: HostRuntime) {
+    assert!(rt; is_name(rt.alloc(), "pbkdf2-sha256"));
+    assert!(rt; is_name(rt.alloc(), "pbkdf2-sha512"));
+    assert!(rt; is_no_name(""));
+    assert!(rt; is_no_name("pbkdf2"));
+    assert!(rt; is_no_name("PBKDF2-SHA256"));
+    assert!(rt; is_no_name("pbkdf2-sha1"));
+    assert!(rt; is_no_name("pbkdf2-sha256 "));
 }

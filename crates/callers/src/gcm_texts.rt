@@ -8,46 +8,45 @@ use mac_modes::{ModeError, gcm_decrypt, gcm_encrypt};
 const SEALED: [u8; 32] =
     *b"\x03\x88\xda\xce\x60\xb6\xa3\x92\xf3\x28\xc2\xb9\x71\xb2\xfe\x78\xab\x6e\x47\xd4\x2c\xec\x13\xbd\xf5\x3a\x67\xb2\x12\x57\xbd\xdf";
 
-#[test]
-fn gcm_seals_and_opens_the_text_of_the_standard(rt: HostRuntime) {
-    let cipher = Aes128::new(&[0; 16]);
-    let mut buffer = [0u8; 33];
-    buffer[32] = 7;
-    assert_eq!(rt; gcm_encrypt(&cipher, &[0; 12], &mut buffer, 16), Ok(32));
-    assert!(rt; buffer.starts_with(&SEALED));
-    assert_eq!(rt; buffer[32], 7);
-    let mut sealed = SEALED;
-    assert_eq!(rt; gcm_decrypt(&cipher, &[0; 12], &mut sealed), Ok(16));
-    assert!(rt; sealed.starts_with(&[0; 16]));
+/// What encryption under a key and a nonce of zeros answers, of the first `pos` octets.
+fn sealed(buffer: &mut [u8], pos: usize) -> Result<usize, ModeError> {
+    gcm_encrypt(&Aes128::new(&[0; 16]), &[0; 12], buffer, pos)
+}
+
+/// What decryption under a key and a nonce of zeros answers.
+fn opened(buffer: &mut [u8]) -> Result<usize, ModeError> {
+    gcm_decrypt(&Aes128::new(&[0; 16]), &[0; 12], buffer)
 }
 
 #[test]
-fn a_refusal_of_gcm_leaves_the_buffer(rt: HostRuntime) {
-    let cipher = Aes128::new(&[0; 16]);
+fn gcm_seals_and_opens_the_text_of_the_standard(rt: HostRuntime) {
+    let mut buffer = [0u8; 33];
+    buffer[32] = 7;
+    assert!(rt; sealed(&mut buffer, 16) == Ok(32));
+    assert!(rt; buffer.starts_with(&SEALED) && buffer[32] == 7);
+    let mut text = SEALED;
+    assert!(rt; opened(&mut text) == Ok(16));
+    assert!(rt; text.starts_with(&[0; 16]));
+}
+
+#[test]
+fn gcm_without_room_leaves_the_buffer(rt: HostRuntime) {
     let mut narrow = [7u8; 31];
-    assert_eq!(rt;
-        gcm_encrypt(&cipher, &[0; 12], &mut narrow, 16),
-        Err(ModeError::NoRoom)
-    );
-    assert_eq!(rt; narrow, [7u8; 31]);
-    assert_eq!(rt;
-        gcm_encrypt(&cipher, &[0; 12], &mut narrow, usize::MAX),
-        Err(ModeError::NoRoom)
-    );
+    assert!(rt; sealed(&mut narrow, 16) == Err(ModeError::NoRoom));
+    assert!(rt; narrow == [7u8; 31]);
+    assert!(rt; sealed(&mut narrow, usize::MAX) == Err(ModeError::NoRoom));
+}
+
+#[test]
+fn a_text_that_gcm_refuses_is_left(rt: HostRuntime) {
     let mut short = [7u8; 15];
-    assert_eq!(rt;
-        gcm_decrypt(&cipher, &[0; 12], &mut short),
-        Err(ModeError::BadLength)
-    );
-    assert_eq!(rt; short, [7u8; 15]);
+    assert!(rt; opened(&mut short) == Err(ModeError::BadLength));
+    assert!(rt; short == [7u8; 15]);
     let mut flipped = SEALED;
     flipped[31] ^= 1;
     let before = flipped;
-    assert_eq!(rt;
-        gcm_decrypt(&cipher, &[0; 12], &mut flipped),
-        Err(ModeError::BadTag)
-    );
-    assert_eq!(rt; flipped, before);
+    assert!(rt; opened(&mut flipped) == Err(ModeError::BadTag));
+    assert!(rt; flipped == before);
 }
 
 // The product of two blocks, bit by bit (NIST SP 800-38D section 6.3).
@@ -102,24 +101,27 @@ fn seal_plainly(cipher: &Aes256, nonce: &[u8; 12], buffer: &mut [u8; 64], len: u
     }
 }
 
+/// Whether so many octets are encrypted as by single bits, and decrypted again.
+fn agrees(cipher: &Aes256, len: usize) -> bool
+    requires { len ≤ 48 }
+{
+    let nonce = [1, 2, 3, 4, 5, 6, 7, 8, 9, 10, 11, 12];
+    let mut sealed = [0x5a; 64];
+    let mut plainly = [0x5a; 64];
+    seal_plainly(cipher, &nonce, &mut plainly, len);
+    gcm_encrypt(cipher, &nonce, &mut sealed, len) == Ok(len + 16)
+        && sealed == plainly
+        && gcm_decrypt(cipher, &nonce, &mut sealed[..len + 16]) == Ok(len)
+        && sealed.starts_with(&[0x5a; 48][..len])
+}
+
 #[test]
 fn the_sixteen_products_are_ghash_by_single_bits(rt: HostRuntime) {
     let cipher = Aes256::new(&[0x42; 32]);
-    let nonce = [1, 2, 3, 4, 5, 6, 7, 8, 9, 10, 11, 12];
-    for len in [0usize, 1, 15, 16, 17, 33] {
-        assert!(rt; len <= 48);
-        let mut sealed = [0x5a; 64];
-        assert_eq!(rt;
-            gcm_encrypt(&cipher, &nonce, &mut sealed, len),
-            Ok(len + 16)
-        );
-        let mut plainly = [0x5a; 64];
-        seal_plainly(&cipher, &nonce, &mut plainly, len);
-        assert_eq!(rt; sealed, plainly);
-        assert_eq!(rt;
-            gcm_decrypt(&cipher, &nonce, &mut sealed[..len + 16]),
-            Ok(len)
-        );
-        assert!(rt; sealed[..len].iter().all(|octet| *octet == 0x5a));
-    }
+    assert!(rt; agrees(&cipher, 0));
+    assert!(rt; agrees(&cipher, 1));
+    assert!(rt; agrees(&cipher, 15));
+    assert!(rt; agrees(&cipher, 16));
+    assert!(rt; agrees(&cipher, 17));
+    assert!(rt; agrees(&cipher, 33));
 }

@@ -1,150 +1,184 @@
 //! PHC strings and their parts: what is read, what is written back, and what is refused. More strings are lines of
 //! `tests/vectors/phc_strings.txt` and `tests/vectors/grammars.txt`.
+use crate::answers::prints;
 use phc_core::{Error, Ident, Output, ParamsString, PasswordHash, Salt, Value};
-use std::test::Fail;
+use std::alloc::Global;
+use std::process::Abort;
 
-fn is_written_back(rt: &HostRuntime, text: &str) -> Result<bool, Fail> {
-    let hash = PasswordHash::new(text)?;
-    let written = hash.to_text(rt.alloc())?;
-    let shown = hash.to_string(rt.alloc())?;
-    Ok(written.as_str() == text && shown.as_str() == text && text.parse() == Ok(hash))
+/// Whether the string is that of a hash, which is written and printed as the same string.
+fn is_written_back(rt: &impl Abort, alloc: Global, text: &str) -> bool {
+    let hash = PasswordHash::new(text).expect(rt, "a hash");
+    let written = hash.to_text(alloc).expect(rt, "memory");
+    written.as_str() == text && prints(alloc, &hash, text) && text.parse() == Ok(hash)
+}
+
+/// Whether the string is that of no hash.
+fn is_of_none(text: &str) -> bool {
+    PasswordHash::new(text) == Err(Error::EncodingInvalid)
+        && text.parse::<PasswordHash>() == Err(Error::EncodingInvalid)
 }
 
 #[test]
-fn strings_are_written_back_and_faults_refused(rt: HostRuntime) -> Result<(), Fail> {
+fn strings_are_written_back_and_faults_refused(rt: HostRuntime) {
     let text =
         "$argon2i$v=19$m=65536,t=2,p=1$c29tZXNhbHQ$wWKIMhR9lyDFvRz9YTZweHKfbftvj+qf+YFY4NeBbtA";
-    assert!(rt; is_written_back(&rt, text)?);
-    for fault in ["", "$a$", "$a$v=01", "$a$x=1,x=2", "$a$$AAECAwQFBgcICQ"] {
-        assert_eq!(rt;
-            PasswordHash::new(fault),
-            Err(Error::EncodingInvalid),
-            "{fault}"
-        );
-        assert_eq!(rt;
-            fault.parse::<PasswordHash>(),
-            Err(Error::EncodingInvalid),
-            "{fault}"
-        );
+    assert!(rt; is_written_back(&rt, rt.alloc(), text));
+    assert!(rt; is_of_none(""));
+    assert!(rt; is_of_none("$a$"));
+    assert!(rt; is_of_none("$a$v=01"));
+    assert!(rt; is_of_none("$a$x=1,x=2"));
+    assert!(rt; is_of_none("$a$$AAECAwQFBgcICQ"));
+}
+
+/// Whether the parameter at this place has this name and value.
+fn is_parameter(params: &ParamsString, at: usize, name: &str, value: &str) -> bool {
+    match params.get(at) {
+        Some((ident, given)) => ident.as_str() == name && given.as_str() == value,
+        None => false,
     }
-    Ok(())
+}
+
+/// Whether the salt is of these octets.
+fn is_salt(salt: Option<Salt>, octets: &[u8]) -> bool {
+    match salt {
+        Some(salt) => Salt::new(octets) == Ok(salt) && salt.as_ref() == octets,
+        None => false,
+    }
 }
 
 #[test]
-fn the_parts_of_a_string_are_its_fields(rt: HostRuntime) -> Result<(), Fail> {
-    let hash = PasswordHash::new("$argon2i$v=19$m=65536,t=2$c29tZXNhbHQ")?;
-    assert_eq!(rt; hash.algorithm.as_str(), "argon2i");
-    assert_eq!(rt; hash.version, Some(19));
-    assert_eq!(rt; hash.params.len(), 2);
-    let (name, value) = hash.params.get(1).ok_or("two parameters")?;
-    assert_eq!(rt; name.as_str(), "t");
-    assert_eq!(rt; value.decimal(), Ok(2));
-    assert_eq!(rt; hash.params.get(2), None);
-    assert_eq!(rt; hash.salt, Some(Salt::new(b"somesalt")?));
-    assert_eq!(rt; hash.hash, None);
-    Ok(())
+fn the_parts_of_a_string_are_its_fields(rt: HostRuntime) {
+    let hash = PasswordHash::new("$argon2i$v=19$m=65536,t=2$c29tZXNhbHQ").expect(&rt, "a hash");
+    assert!(rt; hash.algorithm.as_str() == "argon2i");
+    assert!(rt; hash.version == Some(19));
+    assert!(rt; hash.params.len() == 2);
+    assert!(rt; is_parameter(&hash.params, 1, "t", "2"));
+    assert!(rt; hash.params.get(2).is_none());
+    assert!(rt; is_salt(hash.salt, b"somesalt"));
+    assert!(rt; hash.hash.is_none());
 }
 
 #[test]
-fn a_value_with_a_leading_zero_is_no_number(rt: HostRuntime) -> Result<(), Fail> {
-    let hash = PasswordHash::new("$a$v=1$i=01")?;
-    let (name, value) = hash.params.get(0).ok_or("one parameter")?;
-    assert_eq!(rt; name.as_str(), "i");
-    assert_eq!(rt; value.as_str(), "01");
-    assert_eq!(rt; value.decimal(), Err(Error::EncodingInvalid));
-    assert_eq!(rt; Value::new("4294967295")?.decimal(), Ok(u32::MAX));
-    assert_eq!(rt;
-        Value::new("4294967296")?.decimal(),
-        Err(Error::EncodingInvalid)
-    );
-    Ok(())
+fn a_leading_zero_is_kept(rt: HostRuntime) {
+    let hash = PasswordHash::new("$a$v=1$i=01").expect(&rt, "a hash");
+    assert!(rt; is_parameter(&hash.params, 0, "i", "01"));
+}
+
+/// Whether the text is a value of this number.
+fn is_number(text: &str, number: u32) -> bool {
+    match Value::new(text) {
+        Ok(value) => value.decimal() == Ok(number),
+        Err(_) => false,
+    }
+}
+
+/// Whether the text is a value, and none of a number.
+fn is_no_number(text: &str) -> bool {
+    match Value::new(text) {
+        Ok(value) => value.decimal() == Err(Error::EncodingInvalid),
+        Err(_) => false,
+    }
 }
 
 #[test]
-fn without_a_salt_the_hash_is_left_out(rt: HostRuntime) -> Result<(), Fail> {
+fn values_may_be_numbers(rt: HostRuntime) {
+    assert!(rt; is_number("2", 2));
+    assert!(rt; is_number("4294967295", u32::MAX));
+    assert!(rt; is_no_number("4294967296"));
+    assert!(rt; is_no_number("01"));
+}
+
+#[test]
+fn without_a_salt_the_hash_is_left_out(rt: HostRuntime) {
     let hash = PasswordHash {
-        algorithm: Ident::new("a")?,
+        algorithm: Ident::new("a").expect(&rt, "a name"),
         version: Some(1),
         params: ParamsString::new(),
         salt: None,
-        hash: Some(Output::new(&[7; 10])?),
+        hash: Some(Output::new(&[7; 10]).expect(&rt, "an output")),
     };
-    assert_eq!(rt; hash.to_text(rt.alloc())?.as_str(), "$a$v=1");
-    Ok(())
+    let text = hash.to_text(rt.alloc()).expect(&rt, "memory");
+    assert!(rt; text.as_str() == "$a$v=1");
 }
 
 #[test]
-fn parameters_are_added_at_the_end(rt: HostRuntime) -> Result<(), Fail> {
-    let mut hash = PasswordHash::new("$a")?;
-    assert_eq!(rt; hash.params, ParamsString::new());
-    hash.params.add_decimal("i", 4294967295)?;
-    hash.params.add_decimal("l", 0)?;
-    assert_eq!(rt; hash.to_text(rt.alloc())?.as_str(), "$a$i=4294967295,l=0");
-    for name in ["i", "v", "", "I", "a=1,b"] {
-        assert_eq!(rt;
-            hash.params.add_decimal(name, 1),
-            Err(Error::ParamsInvalid),
-            "{name}"
-        );
-    }
-    assert_eq!(rt; hash.to_text(rt.alloc())?.as_str(), "$a$i=4294967295,l=0");
-    Ok(())
+fn parameters_are_added_at_the_end(rt: HostRuntime) {
+    let mut hash = PasswordHash::new("$a").expect(&rt, "a hash");
+    assert!(rt; hash.params == ParamsString::new());
+    assert!(rt; hash.params.add_decimal("i", 4294967295).is_ok());
+    assert!(rt; hash.params.add_decimal("l", 0).is_ok());
+    assert!(rt; prints(rt.alloc(), &hash, "$a$i=4294967295,l=0"));
+}
+
+/// Whether no parameter of this name is added, and the list stays.
+fn is_not_added(params: ParamsString, name: &str) -> bool {
+    let mut list = params;
+    list.add_decimal(name, 1) == Err(Error::ParamsInvalid) && list == params
 }
 
 #[test]
-fn a_parameter_text_has_at_most_127_characters(rt: HostRuntime) -> Result<(), Fail> {
+fn names_that_stand_there_and_faulty_names_are_not_added(rt: HostRuntime) {
     let mut params = ParamsString::new();
-    params.add_decimal("aaaaaaaaaaaaaaaaaaaaaaaaaaaaaaaa", 4294967295)?;
-    params.add_decimal("bbbbbbbbbbbbbbbbbbbbbbbbbbbbbbbb", 4294967295)?;
-    let mut shorter = params;
-    params.add_decimal("cccccccccccccccccccccccccccc", 4294967295)?;
-    assert_eq!(rt; params.len(), 3);
-    assert_eq!(rt;
-        shorter.add_decimal("ccccccccccccccccccccccccccccc", 4294967295),
-        Err(Error::ParamsInvalid)
-    );
-    assert_eq!(rt; shorter.len(), 2);
-    Ok(())
+    assert!(rt; params.add_decimal("i", 4294967295).is_ok());
+    assert!(rt; params.add_decimal("l", 0).is_ok());
+    assert!(rt; is_not_added(params, "i"));
+    assert!(rt; is_not_added(params, "v"));
+    assert!(rt; is_not_added(params, ""));
+    assert!(rt; is_not_added(params, "I"));
+    assert!(rt; is_not_added(params, "a=1,b"));
 }
 
 #[test]
-fn salts_and_outputs_have_bounds(rt: HostRuntime) -> Result<(), Fail> {
+fn a_parameter_text_has_at_most_127_characters(rt: HostRuntime) {
+    let mut params = ParamsString::new();
+    let first = "aaaaaaaaaaaaaaaaaaaaaaaaaaaaaaaa";
+    assert!(rt; params.add_decimal(first, 4294967295).is_ok());
+    let second = "bbbbbbbbbbbbbbbbbbbbbbbbbbbbbbbb";
+    assert!(rt; params.add_decimal(second, 4294967295).is_ok());
+    let mut shorter = params;
+    let third = "cccccccccccccccccccccccccccc";
+    assert!(rt; params.add_decimal(third, 4294967295).is_ok() && params.len() == 3);
+    let long = "ccccccccccccccccccccccccccccc";
+    assert!(rt; shorter.add_decimal(long, 4294967295) == Err(Error::ParamsInvalid));
+    assert!(rt; shorter.len() == 2);
+}
+
+/// Whether a salt and an output of so many octets are taken where their bounds have it.
+fn are_bounded(octets: &[u8]) -> bool {
+    let len = octets.len();
+    Salt::new(octets).is_ok() == (8 <= len && len <= 48)
+        && Output::new(octets).is_ok() == (10 <= len && len <= 64)
+}
+
+#[test]
+fn salts_and_outputs_have_bounds(rt: HostRuntime) {
     let octets = [3; 65];
     for len in 0..66 {
-        assert_eq!(rt;
-            Salt::new(&octets[..len]).is_ok(),
-            8 <= len && len <= 48,
-            "{len}"
-        );
-        assert_eq!(rt;
-            Output::new(&octets[..len]).is_ok(),
-            10 <= len && len <= 64,
-            "{len}"
-        );
+        assert!(rt; are_bounded(&octets[..len]));
     }
-    assert_eq!(rt; Salt::new(&octets[..7]), Err(Error::SaltInvalid));
-    assert_eq!(rt; Output::new(&octets), Err(Error::OutputSize));
-    assert_eq!(rt; Output::new(&octets[..12])?.len(), 12);
-    assert_eq!(rt; Salt::new(&octets[..9])?.as_ref(), &octets[..9]);
-    Ok(())
+    assert!(rt; Salt::new(&octets[..7]) == Err(Error::SaltInvalid));
+    assert!(rt; Output::new(&octets) == Err(Error::OutputSize));
+    assert!(rt; Output::new(&octets[..12]).expect(&rt, "an output").len() == 12);
+    assert!(rt; Salt::new(&octets[..9]).expect(&rt, "a salt").as_ref() == &octets[..9]);
+}
+
+/// Whether the refusal is printed as this name.
+fn is_printed(alloc: Global, refusal: Error, name: &str) -> bool {
+    prints(alloc, &refusal, name)
 }
 
 #[test]
-fn a_refusal_is_printed_as_its_name(rt: HostRuntime) -> Result<(), Fail> {
-    let name = Ident::new("i")?;
-    for (refusal, text) in [
-        (Error::Algorithm, "Algorithm"),
-        (Error::EncodingInvalid, "EncodingInvalid"),
-        (Error::OutputSize, "OutputSize"),
-        (Error::ParamInvalid { name }, "ParamInvalid"),
-        (Error::ParamsInvalid, "ParamsInvalid"),
-        (Error::PasswordInvalid, "PasswordInvalid"),
-        (Error::SaltInvalid, "SaltInvalid"),
-        (Error::Version, "Version"),
-        (Error::Rng, "Rng"),
-        (Error::Memory, "out of memory"),
-    ] {
-        assert_eq!(rt; refusal.to_string(rt.alloc())?.as_str(), text);
-    }
-    Ok(())
+fn a_refusal_is_printed_as_its_name(rt: HostRuntime) {
+    let alloc = rt.alloc();
+    let name = Ident::new("i").expect(&rt, "a name");
+    assert!(rt; is_printed(alloc, Error::Algorithm, "Algorithm"));
+    assert!(rt; is_printed(alloc, Error::EncodingInvalid, "EncodingInvalid"));
+    assert!(rt; is_printed(alloc, Error::OutputSize, "OutputSize"));
+    assert!(rt; is_printed(alloc, Error::ParamInvalid { name }, "ParamInvalid"));
+    assert!(rt; is_printed(alloc, Error::ParamsInvalid, "ParamsInvalid"));
+    assert!(rt; is_printed(alloc, Error::PasswordInvalid, "PasswordInvalid"));
+    assert!(rt; is_printed(alloc, Error::SaltInvalid, "SaltInvalid"));
+    assert!(rt; is_printed(alloc, Error::Version, "Version"));
+    assert!(rt; is_printed(alloc, Error::Rng, "Rng"));
+    assert!(rt; is_printed(alloc, Error::Memory, "out of memory"));
 }

@@ -1,4 +1,6 @@
 //! Draws, sources and sinks over memory, and over streams and generators that may fail.
+ghost use Rattle.std.specs.Prelude.{◌≤◌, length};
+
 use octet_core::{Items, Octets};
 use outside::{
     Draw, DrawnBytes, Failed, FailingDraw, MemorySink, MemorySource, ReadDraw, ReadSource, Sink,
@@ -8,54 +10,63 @@ use rand_core::TryRng;
 use std::alloc::Global;
 use std::fmt;
 use std::io::{self, Write};
-use std::test::Fail;
 
 /// A draw of the octets 1 to 5.
 fn one_to_five(alloc: Global) -> Result<DrawnBytes, std::alloc::AllocError> {
     Ok(DrawnBytes::new(Octets::from_slice(alloc, &[1, 2, 3, 4, 5])?))
 }
 
-#[test]
-fn drawn_bytes_come_in_order_until_too_few_are_left(rt: HostRuntime) -> Result<(), Fail> {
-    let mut draw = one_to_five(rt.alloc())?;
-    let mut pair = [0u8; 2];
-    assert_eq!(rt; draw.fill(&mut pair), Ok(()));
-    assert_eq!(rt; pair, [1, 2]);
-    let mut four = [9u8; 4];
-    assert_eq!(rt; draw.fill(&mut four), Err(Failed));
-    assert_eq!(rt; four, [9u8; 4]);
-    let mut three = [0u8; 3];
-    assert_eq!(rt; draw.fill(&mut three), Ok(()));
-    assert_eq!(rt; three, [3, 4, 5]);
-    assert_eq!(rt; draw.fill(&mut []), Ok(()));
-    assert_eq!(rt; draw.fill(&mut pair), Err(Failed));
-    Ok(())
+/// The list of one failing call, counted from 0.
+fn only_call(alloc: Global, call: u64) -> Result<Items<u64>, std::alloc::AllocError> {
+    let mut failing = Items::new(alloc);
+    failing.push(call)?;
+    Ok(failing)
+}
+
+/// Whether these octets are drawn next.
+fn draws<D: Draw>(draw: &mut D, octets: &[u8]) -> bool
+    requires { length octets.now ≤ 5 }
+{
+    let mut buffer = [0u8; 5];
+    let out = &mut buffer[..octets.len()];
+    draw.fill(out).is_ok() && buffer.starts_with(octets)
+}
+
+/// Whether a draw of so many octets fails, and takes none.
+fn fails<D: Draw>(draw: &mut D, len: usize) -> bool
+    requires { len ≤ 5 }
+{
+    let mut buffer = [9u8; 5];
+    draw.fill(&mut buffer[..len]) == Err(Failed) && buffer == [9u8; 5]
 }
 
 #[test]
-fn a_draw_fails_at_the_listed_calls_and_where_the_draw_behind_it_fails(
-    rt: HostRuntime,
-) -> Result<(), Fail> {
-    let mut failing = Items::new(rt.alloc());
-    failing.push(1)?;
-    let mut draw = FailingDraw::new(one_to_five(rt.alloc())?, failing);
-    let mut pair = [0u8; 2];
-    assert_eq!(rt; draw.fill(&mut pair), Ok(()));
-    assert_eq!(rt; draw.fill(&mut pair), Err(Failed));
-    assert_eq!(rt; draw.fill(&mut pair), Ok(()));
-    assert_eq!(rt; pair, [3, 4]);
-    assert_eq!(rt; draw.fill(&mut pair), Err(Failed));
-    Ok(())
+fn drawn_bytes_come_in_order_until_too_few_are_left(rt: HostRuntime) {
+    let mut draw = one_to_five(rt.alloc()).expect(&rt, "memory");
+    assert!(rt; draws(&mut draw, &[1, 2]));
+    assert!(rt; fails(&mut draw, 4));
+    assert!(rt; draws(&mut draw, &[3, 4, 5]));
+    assert!(rt; draws(&mut draw, &[]));
+    assert!(rt; fails(&mut draw, 2));
+}
+
+#[test]
+fn a_draw_fails_at_the_listed_calls_and_where_the_draw_behind_it_fails(rt: HostRuntime) {
+    let inner = one_to_five(rt.alloc()).expect(&rt, "memory");
+    let failing = only_call(rt.alloc(), 1).expect(&rt, "memory");
+    let mut draw = FailingDraw::new(inner, failing);
+    assert!(rt; draws(&mut draw, &[1, 2]));
+    assert!(rt; fails(&mut draw, 2));
+    assert!(rt; draws(&mut draw, &[3, 4]));
+    assert!(rt; fails(&mut draw, 2));
 }
 
 #[test]
 fn the_end_of_a_reader_is_a_fault(rt: HostRuntime) {
     let octets = [1u8, 2, 3];
     let mut draw = ReadDraw::new(octets.as_slice());
-    let mut pair = [0u8; 2];
-    assert_eq!(rt; draw.fill(&mut pair), Ok(()));
-    assert_eq!(rt; pair, [1, 2]);
-    assert_eq!(rt; draw.fill(&mut pair), Err(Failed));
+    assert!(rt; draws(&mut draw, &[1, 2]));
+    assert!(rt; draw.fill(&mut [0u8; 2]) == Err(Failed));
 }
 
 /// Why the fake generator fails.
@@ -108,30 +119,47 @@ fn a_failure_of_a_generator_is_a_fault(rt: HostRuntime) {
         octet: 7,
         draws_left: 1,
     });
-    let mut pair = [0u8; 2];
-    assert_eq!(rt; draw.fill(&mut pair), Ok(()));
-    assert_eq!(rt; pair, [7, 7]);
-    assert_eq!(rt; draw.fill(&mut pair), Err(Failed));
+    assert!(rt; draws(&mut draw, &[7, 7]));
+    assert!(rt; draw.fill(&mut [0u8; 2]) == Err(Failed));
+}
+
+/// Whether a read into the first `len` of four zeros takes so many octets, and these stand there then.
+fn reads<S: Source>(source: &mut S, len: usize, count: usize, octets: [u8; 4]) -> bool
+    requires { len ≤ 4 }
+{
+    let mut buffer = [0u8; 4];
+    source.read(&mut buffer[..len]) == Ok(count) && buffer == octets
+}
+
+/// Whether so many octets of the piece are written.
+fn writes<S: Sink>(sink: &mut S, piece: &[u8], count: usize) -> bool {
+    sink.write(piece) == Ok(count)
+}
+
+/// Whether a write fails.
+fn fails_to_write<S: Sink>(sink: &mut S) -> bool {
+    sink.write(&[4]) == Err(Failed)
 }
 
 #[test]
-fn memory_is_read_and_written_in_pieces(rt: HostRuntime) -> Result<(), Fail> {
-    let mut failing = Items::new(rt.alloc());
-    failing.push(1)?;
-    let octets = Octets::from_slice(rt.alloc(), &[1, 2, 3])?;
+fn memory_is_read_in_pieces(rt: HostRuntime) {
+    let failing = only_call(rt.alloc(), 1).expect(&rt, "memory");
+    let octets = Octets::from_slice(rt.alloc(), &[1, 2, 3]).expect(&rt, "memory");
     let mut source = MemorySource::new(octets, 2, failing);
-    let mut buf = [0u8; 4];
-    assert_eq!(rt; source.read(&mut buf), Ok(2));
-    assert_eq!(rt; source.read(&mut buf), Err(Failed));
-    assert_eq!(rt; source.read(&mut buf), Ok(1));
-    assert_eq!(rt; buf, [3, 2, 0, 0]);
-    assert_eq!(rt; source.read(&mut buf), Ok(0));
-    let mut sink = MemorySink::new(rt.alloc(), 3, Items::new(rt.alloc()))?;
-    assert_eq!(rt; sink.write(&[1, 2]), Ok(2));
-    assert_eq!(rt; sink.write(&[3, 4]), Ok(1));
-    assert_eq!(rt; sink.write(&[4]), Err(Failed));
+    assert!(rt; reads(&mut source, 4, 2, [1, 2, 0, 0]));
+    assert!(rt; source.read(&mut [0u8; 4]) == Err(Failed));
+    assert!(rt; reads(&mut source, 4, 1, [3, 0, 0, 0]));
+    assert!(rt; reads(&mut source, 4, 0, [0; 4]));
+}
+
+#[test]
+fn memory_is_written_in_pieces(rt: HostRuntime) {
+    let never = Items::new(rt.alloc());
+    let mut sink = MemorySink::new(rt.alloc(), 3, never).expect(&rt, "memory");
+    assert!(rt; writes(&mut sink, &[1, 2], 2));
+    assert!(rt; writes(&mut sink, &[3, 4], 1));
+    assert!(rt; fails_to_write(&mut sink));
     assert!(rt; sink.octets() == &[1, 2, 3][..]);
-    Ok(())
 }
 
 /// A writer that takes at most two octets at a call, and fails at its third.
@@ -155,16 +183,18 @@ impl Write for TiredWriter {
 }
 
 #[test]
-fn streams_are_read_and_written(rt: HostRuntime) {
+fn a_stream_is_read(rt: HostRuntime) {
     let octets = [1u8, 2, 3];
     let mut source = ReadSource::new(octets.as_slice());
-    let mut buf = [0u8; 2];
-    assert_eq!(rt; source.read(&mut buf), Ok(2));
-    assert_eq!(rt; buf, [1, 2]);
-    assert_eq!(rt; source.read(&mut buf), Ok(1));
-    assert_eq!(rt; source.read(&mut buf), Ok(0));
+    assert!(rt; reads(&mut source, 2, 2, [1, 2, 0, 0]));
+    assert!(rt; reads(&mut source, 2, 1, [3, 0, 0, 0]));
+    assert!(rt; reads(&mut source, 2, 0, [0; 4]));
+}
+
+#[test]
+fn a_stream_is_written(rt: HostRuntime) {
     let mut sink = WriteSink::new(TiredWriter { calls: 0 });
-    assert_eq!(rt; sink.write(&[1, 2, 3]), Ok(2));
-    assert_eq!(rt; sink.write(&[3]), Ok(1));
-    assert_eq!(rt; sink.write(&[4]), Err(Failed));
+    assert!(rt; writes(&mut sink, &[1, 2, 3], 2));
+    assert!(rt; writes(&mut sink, &[3], 1));
+    assert!(rt; fails_to_write(&mut sink));
 }

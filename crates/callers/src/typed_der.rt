@@ -1,5 +1,6 @@
 //! Octets of OpenSSL (`openssl asn1parse -genstr`), and calls of each generic impl at a concrete type.
-use asn1_core::{Error, ObjectIdentifier, Reader, SliceReader, SliceWriter, Tag};
+use crate::answers::{gives, refuses};
+use asn1_core::{Error, Length, ObjectIdentifier, Reader, SliceReader, SliceWriter, Tag};
 use der_core::{
     Any, AnyRef, BitString, BitStringRef, ContextSpecific, Decode, DerOrd, Document, Encode, Null,
     OctetString, OctetStringRef, Pair, SecretDocument, TagMode, Tagged, ValueOrd, canon_is_read,
@@ -19,149 +20,215 @@ const KEY: [u8; 44] = [
 
 const ED25519: [u8; 3] = [0x2b, 0x65, 0x70];
 
-fn written<T: Encode>(rt: &impl Abort, alloc: Global, v: &T, octets: &[u8]) -> bool {
-    let text = v.to_der(alloc).expect(rt, "a text");
-    let len = v.encoded_len().expect(rt, "a length");
+/// Whether the octets are the text that is written of the value, and as long as it says.
+fn is_written<T: Encode>(rt: &impl Abort, alloc: Global, value: &T, octets: &[u8]) -> bool {
+    let text = value.to_der(alloc).expect(rt, "a text");
+    let len = value.encoded_len().expect(rt, "a length");
     text.as_slice() == octets && len.value as usize == octets.len()
 }
 
+/// Whether the octets are read as this value.
+fn is_read<'a, T: Decode<&'a [u8]> + PartialEq>(octets: &'a [u8], value: T) -> bool {
+    gives(T::from_der(octets), &value)
+}
+
+/// Whether the octets are no text of the type.
+fn is_refused<'a, T: Decode<&'a [u8]>>(octets: &'a [u8]) -> bool {
+    refuses(T::from_der(octets), Error::Malformed)
+}
+
 #[test]
-fn numbers_and_bit_strings_are_read(rt: HostRuntime) {
-    assert!(rt; u64::from_der(&[2, 2, 0, 0xff]) == Ok(255));
-    assert!(rt; u64::from_der(&[2, 0]) == Err(Error::Malformed));
-    assert!(rt; u64::from_der(&[2, 2, 0, 1]) == Err(Error::Malformed));
-    assert!(rt; u64::from_der(&[2, 1, 0xff]) == Err(Error::Malformed));
-    assert!(rt; u8::from_der(&[2, 2, 1, 0]) == Err(Error::Malformed));
-    assert!(rt; u16::from_der(&[2, 2, 1, 0]) == Ok(256));
-    assert!(rt; u32::from_der(&[2, 1, 0, 0]) == Err(Error::Malformed));
-    let empty = BitStringRef::from_der(&[3, 1, 0]).expect(&rt, "a bit string");
-    assert!(rt; empty.unused_bits() == 0 && empty.raw_bytes().is_empty());
-    assert!(rt; BitStringRef::from_der(&[3, 0]).is_err());
-    assert!(rt; BitStringRef::from_der(&[3, 1, 1]).is_err());
-    assert!(rt; BitStringRef::from_der(&[3, 2, 8, 0]).is_err());
-    let kept = BitStringRef::from_der(&[3, 2, 7, 0xff]).expect(&rt, "a bit string");
-    assert!(rt; kept.unused_bits() == 7 && kept.raw_bytes() == &[0xff][..]);
-    assert!(rt; Null::from_der(&[5, 0]) == Ok(Null));
-    assert!(rt; Null::from_der(&[5, 1, 0]) == Err(Error::Malformed));
+fn numbers_are_read_in_the_fewest_octets(rt: HostRuntime) {
+    assert!(rt; is_read(&[2, 2, 0, 0xff], 255u64));
+    assert!(rt; is_read(&[2, 2, 1, 0], 256u16));
+    assert!(rt; is_refused::<u64>(&[2, 0]));
+    assert!(rt; is_refused::<u64>(&[2, 2, 0, 1]));
+    assert!(rt; is_refused::<u64>(&[2, 1, 0xff]));
+    assert!(rt; is_refused::<u8>(&[2, 2, 1, 0]));
+    assert!(rt; is_refused::<u32>(&[2, 1, 0, 0]));
+}
+
+#[test]
+fn bit_strings_and_null_are_read(rt: HostRuntime) {
+    let empty = BitStringRef::new(0, &[]).expect(&rt, "a bit string");
+    assert!(rt; is_read(&[3, 1, 0], empty));
+    let one = BitStringRef::new(7, &[0xff]).expect(&rt, "a bit string");
+    assert!(rt; is_read(&[3, 2, 7, 0xff], one));
+    assert!(rt; one.unused_bits() == 7 && one.raw_bytes() == &[0xff][..]);
+    assert!(rt; is_refused::<BitStringRef<'_>>(&[3, 0]));
+    assert!(rt; is_refused::<BitStringRef<'_>>(&[3, 1, 1]));
+    assert!(rt; is_refused::<BitStringRef<'_>>(&[3, 2, 8, 0]));
+    assert!(rt; is_read(&[5, 0], Null));
+    assert!(rt; is_refused::<Null>(&[5, 1, 0]));
+}
+
+/// Whether the value is read next.
+fn is_next<'a, T: Decode<&'a [u8]> + PartialEq>(r: &mut SliceReader<'a>, value: T) -> bool {
+    gives(T::decode(r), &value)
 }
 
 #[test]
 fn a_public_key_is_read_part_by_part(rt: HostRuntime) {
     let whole = AnyRef::from_der(&KEY).expect(&rt, "an element");
     assert!(rt; whole.tag() == Tag::SEQUENCE && !whole.is_null());
+    let algorithm = AnyRef::new(Tag::SEQUENCE, &KEY[4..9]).expect(&rt, "an element");
+    let key = BitStringRef::new(0, &KEY[12..]).expect(&rt, "a bit string");
     let mut r = SliceReader::new(whole.value());
-    let algorithm = AnyRef::decode(&mut r).expect(&rt, "an element");
-    let key = BitStringRef::decode(&mut r).expect(&rt, "a bit string");
-    assert!(rt; key.unused_bits() == 0 && key.raw_bytes() == &KEY[12..]);
-    assert!(rt; Option::<AnyRef<'_>>::decode(&mut r) == Ok(None));
-    let mut inner = SliceReader::new(algorithm.value());
-    let none = Option::<ContextSpecific<Null>>::decode(&mut inner).expect(&rt, "nothing");
-    assert!(rt; none.is_none() && inner.position() == 0);
-    let oid = Option::<AnyRef<'_>>::decode(&mut inner)
-        .expect(&rt, "an element")
-        .expect(&rt, "an element");
-    assert!(rt; oid.decode_as() == Ok(ObjectIdentifier::constant(&ED25519)));
+    assert!(rt; is_next(&mut r, algorithm));
+    assert!(rt; is_next(&mut r, key));
+    assert!(rt; is_next::<Option<AnyRef<'_>>>(&mut r, None));
     assert!(rt; ObjectIdentifier::try_from(algorithm) == Err(Error::Malformed));
-    assert!(rt; oid == AnyRef::from(&ObjectIdentifier::constant(&ED25519)));
+}
+
+#[test]
+fn an_element_that_may_be_missing_is_left_for_another_type(rt: HostRuntime) {
+    let mut r = SliceReader::new(&KEY[4..9]);
+    assert!(rt; is_next::<Option<ContextSpecific<Null>>>(&mut r, None));
+    assert!(rt; r.position() == 0);
+    let identifier = ObjectIdentifier::constant(&ED25519);
+    let element = AnyRef::from(&identifier);
+    assert!(rt; is_next(&mut r, Some(element)));
+}
+
+#[test]
+fn an_element_is_decoded_as_what_it_is(rt: HostRuntime) {
+    let identifier = ObjectIdentifier::constant(&ED25519);
+    assert!(rt; gives(AnyRef::from(&identifier).decode_as(), &identifier));
+    let number = AnyRef::new(Tag::INTEGER, &[5]).expect(&rt, "an element");
+    assert!(rt; gives(number.decode_as(), &5u8));
+    assert!(rt; refuses(number.decode_as::<Null>(), Error::Malformed));
+    assert!(rt; Tagged::tag(&5u8) == Tag::INTEGER);
+    assert!(rt; AnyRef::from(Null).is_null());
 }
 
 #[test]
 fn values_are_written_as_openssl_writes_them(rt: HostRuntime) {
     let alloc = rt.alloc();
-    assert!(rt; written(&rt, alloc, &128u8, &[2, 2, 0, 0x80]));
-    assert!(rt; written(&rt, alloc, &127u16, &[2, 1, 0x7f]));
-    assert!(rt; written(&rt, alloc, &5u32, &[2, 1, 5]));
-    assert!(rt;
-        written(
-            &rt,
-            alloc,
-            &u64::MAX,
-            &[2, 9, 0, 0xff, 0xff, 0xff, 0xff, 0xff, 0xff, 0xff, 0xff]
-        )
-    );
-    assert!(rt; written(&rt, alloc, &Null, &[5, 0]));
-    assert!(rt; written(&rt, alloc, &Some(Null), &[5, 0]));
-    let explicit = ContextSpecific {
-        tag_number: 1,
-        tag_mode: TagMode::Explicit,
-        value: 5u8,
-    };
-    assert!(rt; written(&rt, alloc, &explicit, &[0xa1, 3, 2, 1, 5]));
-    assert!(rt; ContextSpecific::<u8>::from_der(&[0xa1, 3, 2, 1, 5]) == Ok(explicit));
-    let implicit = ContextSpecific {
-        tag_number: 1,
-        tag_mode: TagMode::Implicit,
-        value: 5u8,
-    };
-    assert!(rt; written(&rt, alloc, &implicit, &[0x81, 1, 5]));
-    assert!(rt; ContextSpecific::<u8>::from_der(&[0x81, 1, 5]).is_err());
-    let sequence = Any::new(alloc, Tag::SEQUENCE, &[2, 1, 1, 1, 1, 0xff]).expect(&rt, "memory");
-    let constructed = ContextSpecific {
-        tag_number: 2,
-        tag_mode: TagMode::Implicit,
-        value: sequence,
-    };
-    assert!(rt; written(&rt, alloc, &constructed, &[0xa2, 6, 2, 1, 1, 1, 1, 0xff]));
-    let high = ContextSpecific {
-        tag_number: 31,
-        tag_mode: TagMode::Explicit,
-        value: 5u8,
-    };
-    assert!(rt; high.to_der(alloc) == Err(Error::Malformed));
+    assert!(rt; is_written(&rt, alloc, &128u8, &[2, 2, 0, 0x80]));
+    assert!(rt; is_written(&rt, alloc, &127u16, &[2, 1, 0x7f]));
+    assert!(rt; is_written(&rt, alloc, &5u32, &[2, 1, 5]));
+    let most = [2, 9, 0, 0xff, 0xff, 0xff, 0xff, 0xff, 0xff, 0xff, 0xff];
+    assert!(rt; is_written(&rt, alloc, &u64::MAX, &most));
+    assert!(rt; is_written(&rt, alloc, &Null, &[5, 0]));
+    assert!(rt; is_written(&rt, alloc, &Some(Null), &[5, 0]));
+}
+
+/// The value under a tag of its context.
+fn tagged<T>(tag_number: u8, tag_mode: TagMode, value: T) -> ContextSpecific<T> {
+    ContextSpecific {
+        tag_number,
+        tag_mode,
+        value,
+    }
 }
 
 #[test]
-fn owned_values_are_what_was_borrowed(rt: HostRuntime) {
+fn values_under_a_tag_of_their_context_are_written(rt: HostRuntime) {
+    let alloc = rt.alloc();
+    let explicit = tagged(1, TagMode::Explicit, 5u8);
+    assert!(rt; is_written(&rt, alloc, &explicit, &[0xa1, 3, 2, 1, 5]));
+    assert!(rt; is_read(&[0xa1, 3, 2, 1, 5], explicit));
+    let implicit = tagged(1, TagMode::Implicit, 5u8);
+    assert!(rt; is_written(&rt, alloc, &implicit, &[0x81, 1, 5]));
+    assert!(rt; is_refused::<ContextSpecific<u8>>(&[0x81, 1, 5]));
+    let high = tagged(31, TagMode::Explicit, 5u8);
+    assert!(rt; refuses(high.to_der(alloc), Error::Malformed));
+    let sequence = Any::new(alloc, Tag::SEQUENCE, &[2, 1, 1, 1, 1, 0xff]).expect(&rt, "memory");
+    let constructed = tagged(2, TagMode::Implicit, sequence);
+    assert!(rt; is_written(&rt, alloc, &constructed, &[0xa2, 6, 2, 1, 1, 1, 1, 0xff]));
+}
+
+#[test]
+fn octet_strings_are_owned_or_borrowed(rt: HostRuntime) {
     let alloc = rt.alloc();
     let string = OctetString::new(alloc, b"ab").expect(&rt, "memory");
-    assert!(rt; written(&rt, alloc, &string, &[4, 2, 0x61, 0x62]));
-    let read = OctetString::from_der(alloc, &[4, 2, 0x61, 0x62]).expect(&rt, "a string");
-    assert!(rt; read == string && string.owned_to_ref().as_bytes() == b"ab".as_slice());
+    assert!(rt; is_written(&rt, alloc, &string, &[4, 2, 0x61, 0x62]));
+    assert!(rt; gives(OctetString::from_der(alloc, &[4, 2, 0x61, 0x62]), &string));
+    assert!(rt; gives(string.try_clone(alloc), &string));
+    assert!(rt; string.owned_to_ref().as_bytes() == b"ab".as_slice());
     let borrowed = OctetStringRef::new(b"ab").expect(&rt, "a string");
-    assert!(rt; borrowed.ref_to_owned(alloc).expect(&rt, "memory") == string);
-    assert!(rt; string.try_clone(alloc).expect(&rt, "memory") == string);
+    assert!(rt; gives(borrowed.ref_to_owned(alloc), &string));
+}
+
+#[test]
+fn bit_strings_are_owned_or_borrowed(rt: HostRuntime) {
+    let alloc = rt.alloc();
     let bits = BitString::new(alloc, 0, b"abc").expect(&rt, "memory");
-    assert!(rt; written(&rt, alloc, &bits, &[3, 4, 0, 0x61, 0x62, 0x63]));
-    assert!(rt; BitString::new(alloc, 8, b"abc") == Err(Error::Malformed));
-    assert!(rt; BitString::new(alloc, 1, &[]) == Err(Error::Malformed));
-    let read = BitString::from_der(alloc, &[3, 4, 0, 0x61, 0x62, 0x63]).expect(&rt, "bits");
-    assert!(rt; read.try_clone(alloc).expect(&rt, "memory") == bits);
-    assert!(rt; bits.owned_to_ref().raw_bytes() == bits.raw_bytes() && bits.unused_bits() == 0);
+    assert!(rt; is_written(&rt, alloc, &bits, &[3, 4, 0, 0x61, 0x62, 0x63]));
+    assert!(rt;
+        gives(
+            BitString::from_der(alloc, &[3, 4, 0, 0x61, 0x62, 0x63]),
+            &bits
+        )
+    );
+    assert!(rt; gives(bits.try_clone(alloc), &bits));
+    assert!(rt; bits.unused_bits() == 0 && bits.raw_bytes() == b"abc".as_slice());
+    let borrowed = bits.owned_to_ref();
+    assert!(rt; borrowed.raw_bytes() == b"abc".as_slice());
+    assert!(rt; gives(borrowed.ref_to_owned(alloc), &bits));
+}
+
+#[test]
+fn at_most_seven_bits_of_a_last_octet_are_unused(rt: HostRuntime) {
+    let alloc = rt.alloc();
+    assert!(rt; refuses(BitString::new(alloc, 8, b"abc"), Error::Malformed));
+    assert!(rt; refuses(BitString::new(alloc, 1, &[]), Error::Malformed));
+}
+
+#[test]
+fn elements_are_owned_or_borrowed(rt: HostRuntime) {
+    let alloc = rt.alloc();
+    let string = OctetStringRef::new(b"ab").expect(&rt, "a string");
     let any = Any::encode_from(alloc, &string).expect(&rt, "memory");
     assert!(rt; any.tag() == Tag::OCTET_STRING && any.value() == b"ab".as_slice());
-    assert!(rt; any.owned_to_ref() == AnyRef::from(borrowed));
-    assert!(rt; Any::from_der(alloc, &[4, 2, 0x61, 0x62]).expect(&rt, "an element") == any);
-    assert!(rt; any.try_clone(alloc).expect(&rt, "memory") == any);
-    assert!(rt; any.owned_to_ref().ref_to_owned(alloc).expect(&rt, "memory") == any);
-    assert!(rt;
-        bits.owned_to_ref()
-            .ref_to_owned(alloc)
-            .expect(&rt, "memory")
-            == bits
-    );
-    assert!(rt; AnyRef::from(Null).is_null());
+    assert!(rt; gives(Any::from_der(alloc, &[4, 2, 0x61, 0x62]), &any));
+    assert!(rt; gives(any.try_clone(alloc), &any));
+    let borrowed = any.owned_to_ref();
+    assert!(rt; borrowed == AnyRef::from(string));
+    assert!(rt; gives(borrowed.ref_to_owned(alloc), &any));
+}
+
+/// Whether the text of the one value stands in this order to the text of the other.
+fn texts_stand<T: DerOrd + Drop>(one: T, order: Ordering, other: T) -> bool {
+    gives(one.der_cmp(&other), &order)
+}
+
+/// Whether the value octets of the one value stand in this order to those of the other.
+fn values_stand<T: ValueOrd + Drop>(one: T, order: Ordering, other: T) -> bool {
+    gives(one.value_cmp(&other), &order)
 }
 
 #[test]
 fn texts_are_ordered_as_octets(rt: HostRuntime) {
-    let alloc = rt.alloc();
     // 02 01 7f and 02 02 00 80
-    assert!(rt; 127u8.der_cmp(&128) == Ok(Ordering::Less));
-    assert!(rt; 127u8.value_cmp(&128) == Ok(Ordering::Greater));
-    assert!(rt; Some(1u64).der_cmp(&None) == Ok(Ordering::Greater));
-    assert!(rt; Null.der_cmp(&Null) == Ok(Ordering::Equal));
+    assert!(rt; texts_stand(127u8, Ordering::Less, 128));
+    assert!(rt; values_stand(127u8, Ordering::Greater, 128));
+    assert!(rt; texts_stand(Some(1u64), Ordering::Greater, None));
+    assert!(rt; texts_stand(Null, Ordering::Equal, Null));
+    let identifier = ObjectIdentifier::constant(&ED25519);
+    let order = pair_cmp(&identifier, &Some(Null), &identifier, &None);
+    assert!(rt; gives(order, &Ordering::Greater));
+}
+
+#[test]
+fn texts_of_strings_are_ordered_as_octets(rt: HostRuntime) {
     let short = OctetStringRef::new(b"b").expect(&rt, "a string");
     let long = OctetStringRef::new(b"ab").expect(&rt, "a string");
-    assert!(rt; short.der_cmp(&long) == Ok(Ordering::Less));
-    assert!(rt; short.value_cmp(&long) == Ok(Ordering::Greater) && short > long);
-    let first = ObjectIdentifier::constant(&ED25519);
-    assert!(rt; pair_cmp(&first, &Some(Null), &first, &None) == Ok(Ordering::Greater));
-    let one = Any::new(alloc, Tag::NULL, &[]).expect(&rt, "memory");
-    let other = Any::new(alloc, Tag::SEQUENCE, &[]).expect(&rt, "memory");
-    assert!(rt; one.der_cmp(&other) == Ok(Ordering::Less));
+    assert!(rt; texts_stand(short, Ordering::Less, long));
+    assert!(rt; values_stand(short, Ordering::Greater, long));
+    assert!(rt; short > long);
     let bits = BitStringRef::new(7, &[0x80]).expect(&rt, "bits");
     let more = BitStringRef::new(0, &[0x80]).expect(&rt, "bits");
-    assert!(rt; bits.der_cmp(&more) == Ok(Ordering::Greater) && bits > more);
+    assert!(rt; texts_stand(bits, Ordering::Greater, more));
+    assert!(rt; bits > more);
+}
+
+#[test]
+fn elements_are_ordered_by_their_tags(rt: HostRuntime) {
+    let alloc = rt.alloc();
+    let one = Any::new(alloc, Tag::NULL, &[]).expect(&rt, "memory");
+    let other = Any::new(alloc, Tag::SEQUENCE, &[]).expect(&rt, "memory");
+    assert!(rt; texts_stand(one, Ordering::Less, other));
 }
 
 #[test]
@@ -169,20 +236,20 @@ fn texts_stand_one_behind_the_other(rt: HostRuntime) {
     let oid = ObjectIdentifier::constant(&ED25519);
     let mut buffer = [0; 7];
     let mut w = SliceWriter::new(&mut buffer);
-    assert!(rt; pair_len(&oid, &Some(Null)).expect(&rt, "a length").value == 7);
+    assert!(rt; gives(pair_len(&oid, &Some(Null)), &Length::new(7)));
     assert!(rt; write_pair(&mut w, &oid, &Some(Null)).is_ok());
     assert!(rt; w.finish() == &[6, 3, 0x2b, 0x65, 0x70, 5, 0][..]);
-    let written = Pair(&Pair(&oid, &Null), &5u8)
-        .to_der(rt.alloc())
-        .expect(&rt, "memory");
-    assert!(rt; written.as_slice() == &[6, 3, 0x2b, 0x65, 0x70, 5, 0, 2, 1, 5][..]);
-    let mut small = [0; 6];
-    let mut w = SliceWriter::new(&mut small);
-    assert!(rt; write_pair(&mut w, &oid, &Some(Null)) == Err(Error::NoRoom));
-    let any = AnyRef::new(Tag::INTEGER, &[5]).expect(&rt, "an element");
-    assert!(rt; any.decode_as() == Ok(5u8));
-    assert!(rt; any.decode_as::<Null>() == Err(Error::Malformed));
-    assert!(rt; Tagged::tag(&5u8) == Tag::INTEGER);
+    let mut w = SliceWriter::new(&mut buffer[..6]);
+    assert!(rt; refuses(write_pair(&mut w, &oid, &Some(Null)), Error::NoRoom));
+    let three = Pair(&Pair(&oid, &Null), &5u8);
+    assert!(rt;
+        is_written(
+            &rt,
+            rt.alloc(),
+            &three,
+            &[6, 3, 0x2b, 0x65, 0x70, 5, 0, 2, 1, 5]
+        )
+    );
 }
 
 #[test]
@@ -199,26 +266,57 @@ fn documents_are_whole_sequences(rt: HostRuntime) {
     let alloc = rt.alloc();
     let document = Document::from_der(alloc, &KEY).expect(&rt, "a document");
     assert!(rt; document.as_bytes() == &KEY[..]);
+    assert!(rt; gives(document.try_clone(alloc), &document));
+    let any = AnyRef::from_der(&KEY).expect(&rt, "an element");
+    assert!(rt; gives(document.decode_msg(), &any));
+    assert!(rt; gives(Document::encode_msg(alloc, &any), &document));
+    assert!(rt; refuses(Document::encode_msg(alloc, &Null), Error::Malformed));
+}
+
+#[test]
+fn other_elements_and_broken_ones_are_no_documents(rt: HostRuntime) {
+    let alloc = rt.alloc();
     assert!(rt; Document::from_der(alloc, &[0x30, 0]).is_ok());
-    assert!(rt; Document::from_der(alloc, &[4, 0]) == Err(Error::Malformed));
-    assert!(rt; Document::from_der(alloc, &[0x30, 0, 0]) == Err(Error::Malformed));
-    let any: AnyRef<'_> = document.decode_msg().expect(&rt, "an element");
-    assert!(rt; Document::encode_msg(alloc, &any).expect(&rt, "memory") == document);
-    assert!(rt; document.try_clone(alloc).expect(&rt, "memory") == document);
-    assert!(rt; Document::encode_msg(alloc, &Null) == Err(Error::Malformed));
-    let path = "der_core_document.der";
-    assert!(rt; document.write_der_file(&rt, path).is_ok());
-    assert!(rt; Document::read_der_file(&rt, alloc, path).expect(&rt, "a document") == document);
-    let secret = SecretDocument::read_der_file(&rt, alloc, path).expect(&rt, "a document");
-    assert!(rt; secret == SecretDocument::from_der(alloc, &KEY).expect(&rt, "memory"));
-    assert!(rt; SecretDocument::encode_msg(alloc, &any).expect(&rt, "memory") == secret);
-    assert!(rt; secret.try_clone(alloc).expect(&rt, "memory") == secret);
-    assert!(rt; secret.decode_msg() == Ok(any));
-    assert!(rt; fs::write(&rt, path, &[4, 0][..]).is_ok());
-    assert!(rt; Document::read_der_file(&rt, alloc, path) == Err(Error::Malformed));
-    assert!(rt; fs::remove_file(&rt, path).is_ok());
-    assert!(rt; Document::read_der_file(&rt, alloc, path) == Err(Error::File));
-    assert!(rt; secret.write_der_file(&rt, "no_such_folder/x.der") == Err(Error::File));
+    assert!(rt; refuses(Document::from_der(alloc, &[4, 0]), Error::Malformed));
+    assert!(rt; refuses(Document::from_der(alloc, &[0x30, 0, 0]), Error::Malformed));
+}
+
+#[test]
+fn secret_documents_are_printed_without_their_octets(rt: HostRuntime) {
+    let alloc = rt.alloc();
+    let secret = SecretDocument::from_der(alloc, &KEY).expect(&rt, "a document");
+    let any = AnyRef::from_der(&KEY).expect(&rt, "an element");
+    assert!(rt; gives(secret.decode_msg(), &any));
+    assert!(rt; gives(SecretDocument::encode_msg(alloc, &any), &secret));
+    assert!(rt; gives(secret.try_clone(alloc), &secret));
+    assert!(rt;
+        refuses(
+            secret.write_der_file(&rt, "no_such_folder/x.der"),
+            Error::File
+        )
+    );
     let shown = format!(in alloc; "{secret:?}").expect(&rt, "memory");
     assert!(rt; shown.as_str() == "SecretDocument");
+}
+
+#[test]
+fn documents_are_read_from_the_file_that_they_were_written_to(rt: HostRuntime) {
+    let alloc = rt.alloc();
+    let path = "der_core_document.der";
+    let document = Document::from_der(alloc, &KEY).expect(&rt, "a document");
+    assert!(rt; document.write_der_file(&rt, path).is_ok());
+    assert!(rt; gives(Document::read_der_file(&rt, alloc, path), &document));
+    let secret = SecretDocument::from_der(alloc, &KEY).expect(&rt, "a document");
+    assert!(rt; gives(SecretDocument::read_der_file(&rt, alloc, path), &secret));
+    assert!(rt; fs::remove_file(&rt, path).is_ok());
+}
+
+#[test]
+fn files_of_other_elements_and_missing_files_are_refused(rt: HostRuntime) {
+    let alloc = rt.alloc();
+    let path = "der_core_no_document.der";
+    assert!(rt; fs::write(&rt, path, &[4, 0][..]).is_ok());
+    assert!(rt; refuses(Document::read_der_file(&rt, alloc, path), Error::Malformed));
+    assert!(rt; fs::remove_file(&rt, path).is_ok());
+    assert!(rt; refuses(Document::read_der_file(&rt, alloc, path), Error::File));
 }
