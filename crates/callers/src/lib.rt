@@ -6,6 +6,8 @@
 #[cfg(test)]
 mod cbc_texts;
 #[cfg(test)]
+mod cipher_chains;
+#[cfg(test)]
 mod der_texts;
 #[cfg(test)]
 mod der_writing;
