@@ -18,8 +18,6 @@ mod des_words;
 mod field;
 mod sbox;
 mod tdes;
-#[cfg(test)]
-mod tests;
 mod xor;
 
 pub use aes::{Aes128, Aes192, Aes256};

@@ -1,34 +1,48 @@
 //! DES as FIPS 46-3 writes it: permutations bit by bit, S-boxes and permutation apart.
 
-use crate::des_tables::{LEFT_SHIFTS, PERMUTED_CHOICE_1, PERMUTED_CHOICE_2};
+/// PC-1, the first permuted choice.
+const PERMUTED_CHOICE_1: [u8; 56] = [
+    57, 49, 41, 33, 25, 17, 9, 1, 58, 50, 42, 34, 26, 18, 10, 2, 59, 51, 43, 35, 27, 19, 11, 3, 60,
+    52, 44, 36, 63, 55, 47, 39, 31, 23, 15, 7, 62, 54, 46, 38, 30, 22, 14, 6, 61, 53, 45, 37, 29,
+    21, 13, 5, 28, 20, 12, 4,
+];
 
-// IP, the initial permutation.
+/// PC-2, the second permuted choice.
+const PERMUTED_CHOICE_2: [u8; 48] = [
+    14, 17, 11, 24, 1, 5, 3, 28, 15, 6, 21, 10, 23, 19, 12, 4, 26, 8, 16, 7, 27, 20, 13, 2, 41, 52,
+    31, 37, 47, 55, 30, 40, 51, 45, 33, 48, 44, 49, 39, 56, 34, 53, 46, 42, 50, 36, 29, 32,
+];
+
+/// The left shifts of the sixteen rounds.
+const LEFT_SHIFTS: [usize; 16] = [1, 1, 2, 2, 2, 2, 2, 2, 1, 2, 2, 2, 2, 2, 2, 1];
+
+/// IP, the initial permutation.
 const INITIAL_PERMUTATION: [u8; 64] = [
     58, 50, 42, 34, 26, 18, 10, 2, 60, 52, 44, 36, 28, 20, 12, 4, 62, 54, 46, 38, 30, 22, 14, 6,
     64, 56, 48, 40, 32, 24, 16, 8, 57, 49, 41, 33, 25, 17, 9, 1, 59, 51, 43, 35, 27, 19, 11, 3, 61,
     53, 45, 37, 29, 21, 13, 5, 63, 55, 47, 39, 31, 23, 15, 7,
 ];
 
-// The inverse of the initial permutation.
+/// The inverse of the initial permutation.
 const FINAL_PERMUTATION: [u8; 64] = [
     40, 8, 48, 16, 56, 24, 64, 32, 39, 7, 47, 15, 55, 23, 63, 31, 38, 6, 46, 14, 54, 22, 62, 30,
     37, 5, 45, 13, 53, 21, 61, 29, 36, 4, 44, 12, 52, 20, 60, 28, 35, 3, 43, 11, 51, 19, 59, 27,
     34, 2, 42, 10, 50, 18, 58, 26, 33, 1, 41, 9, 49, 17, 57, 25,
 ];
 
-// E, the bit-selection table.
+/// E, the bit-selection table.
 const EXPANSION: [u8; 48] = [
     32, 1, 2, 3, 4, 5, 4, 5, 6, 7, 8, 9, 8, 9, 10, 11, 12, 13, 12, 13, 14, 15, 16, 17, 16, 17, 18,
     19, 20, 21, 20, 21, 22, 23, 24, 25, 24, 25, 26, 27, 28, 29, 28, 29, 30, 31, 32, 1,
 ];
 
-// P, the permutation of the cipher function.
+/// P, the permutation of the cipher function.
 const PERMUTATION: [u8; 32] = [
     16, 7, 20, 21, 29, 12, 28, 17, 1, 15, 23, 26, 5, 18, 31, 10, 2, 8, 24, 14, 32, 27, 3, 9, 19,
     13, 30, 6, 22, 11, 4, 25,
 ];
 
-// The S-boxes, the four rows of each one after the other.
+/// The S-boxes, the four rows of each one after the other.
 const S_BOXES: [[u8; 64]; 8] = [
     [
         14, 4, 13, 1, 2, 15, 11, 8, 3, 10, 6, 12, 5, 9, 0, 7, 0, 15, 7, 4, 14, 2, 13, 1, 10, 6, 12,
@@ -72,7 +86,7 @@ const S_BOXES: [[u8; 64]; 8] = [
     ],
 ];
 
-// The bits at the places of a table, counted from 1 at the highest of `width` bits.
+/// The bits at the places of a table, counted from 1 at the highest of `width` bits.
 fn permuted(table: &[u8], width: u32, bits: u64) -> u64 {
     let mut out = 0u64;
     for i in 0..table.len() {
@@ -82,7 +96,7 @@ fn permuted(table: &[u8], width: u32, bits: u64) -> u64 {
     out
 }
 
-// The function f of the right half and a round key: E, the key, the S-boxes, P.
+/// The function f of the right half and a round key: E, the key, the S-boxes, P.
 fn cipher_function(half: u64, key: u64) -> u64 {
     let wide = permuted(&EXPANSION, 32, half) ^ key;
     let mut narrow = 0u64;
@@ -96,13 +110,13 @@ fn cipher_function(half: u64, key: u64) -> u64 {
     permuted(&PERMUTATION, 32, narrow)
 }
 
-// A half of the key, of 28 bits, rotated left by one.
+/// A half of the key, of 28 bits, rotated left by one.
 fn rotated(half: u64) -> u64 {
     (half << 1 | half >> 27) & 0x0fff_ffff
 }
 
-pub(crate) fn round_keys(key: [u8; 8]) -> [u64; 16] {
-    let chosen = permuted(&PERMUTED_CHOICE_1, 64, u64::from_be_bytes(key));
+pub fn round_keys(key: u64) -> [u64; 16] {
+    let chosen = permuted(&PERMUTED_CHOICE_1, 64, key);
     let mut c = chosen >> 28;
     let mut d = chosen & 0x0fff_ffff;
     let mut keys = [0u64; 16];
@@ -116,7 +130,7 @@ pub(crate) fn round_keys(key: [u8; 8]) -> [u64; 16] {
     keys
 }
 
-pub(crate) fn crypt(keys: &[u64; 16], backwards: bool, block: u64) -> u64 {
+pub fn crypt(keys: &[u64; 16], backwards: bool, block: u64) -> u64 {
     let start = permuted(&INITIAL_PERMUTATION, 64, block);
     let mut left = start >> 32;
     let mut right = start & 0xffff_ffff;
