@@ -105,56 +105,56 @@ fn empty_password<'a>(alloc: Global) -> Arg<'a> {
         .help("Let the new password be empty: the keys are then not protected")
 }
 
-/// The three options for the store's password, of which at most one is given.
+/// The command with one more argument.
+fn with<'a>(command: Command<'a>, argument: Arg<'a>) -> Result<Command<'a>, AllocError> {
+    command.arg(argument)
+}
+
+/// The command with one more option of a group, of which at most one is given.
+fn with_one_of<'a>(
+    command: Command<'a>,
+    group: &'a str,
+    option: Arg<'a>,
+) -> Result<Command<'a>, AllocError> {
+    command.arg(option.group(group)?)
+}
+
+/// The three options for the store's password.
 fn with_password<'a>(alloc: Global, command: Command<'a>) -> Result<Command<'a>, AllocError> {
-    command
-        .arg(
-            Arg::new(alloc, "password-file")
-                .long("password-file")
-                .value_name("FILE")
-                .group("password")?
-                .help("The store's password is the first line of FILE"),
-        )?
-        .arg(
-            Arg::new(alloc, "password-env")
-                .long("password-env")
-                .value_name("NAME")
-                .group("password")?
-                .help("The store's password is the environment variable NAME"),
-        )?
-        .arg(
-            Arg::new(alloc, "password-stdin")
-                .long("password-stdin")
-                .action(ArgAction::SetTrue)
-                .group("password")?
-                .help("The store's password is the first line of the standard input"),
-        )
+    let file = Arg::new(alloc, "password-file")
+        .long("password-file")
+        .value_name("FILE")
+        .help("The store's password is the first line of FILE");
+    let command = with_one_of(command, "password", file)?;
+    let variable = Arg::new(alloc, "password-env")
+        .long("password-env")
+        .value_name("NAME")
+        .help("The store's password is the environment variable NAME");
+    let command = with_one_of(command, "password", variable)?;
+    let standard = Arg::new(alloc, "password-stdin")
+        .long("password-stdin")
+        .action(ArgAction::SetTrue)
+        .help("The store's password is the first line of the standard input");
+    with_one_of(command, "password", standard)
 }
 
 /// The same for the new password.
 fn with_new_password<'a>(alloc: Global, command: Command<'a>) -> Result<Command<'a>, AllocError> {
-    command
-        .arg(
-            Arg::new(alloc, "new-password-file")
-                .long("new-password-file")
-                .value_name("FILE")
-                .group("new-password")?
-                .help("The new password is the first line of FILE"),
-        )?
-        .arg(
-            Arg::new(alloc, "new-password-env")
-                .long("new-password-env")
-                .value_name("NAME")
-                .group("new-password")?
-                .help("The new password is the environment variable NAME"),
-        )?
-        .arg(
-            Arg::new(alloc, "new-password-stdin")
-                .long("new-password-stdin")
-                .action(ArgAction::SetTrue)
-                .group("new-password")?
-                .help("The new password is the first line of the standard input"),
-        )
+    let file = Arg::new(alloc, "new-password-file")
+        .long("new-password-file")
+        .value_name("FILE")
+        .help("The new password is the first line of FILE");
+    let command = with_one_of(command, "new-password", file)?;
+    let variable = Arg::new(alloc, "new-password-env")
+        .long("new-password-env")
+        .value_name("NAME")
+        .help("The new password is the environment variable NAME");
+    let command = with_one_of(command, "new-password", variable)?;
+    let standard = Arg::new(alloc, "new-password-stdin")
+        .long("new-password-stdin")
+        .action(ArgAction::SetTrue)
+        .help("The new password is the first line of the standard input");
+    with_one_of(command, "new-password", standard)
 }
 
 fn export<'a>(alloc: Global) -> Result<Command<'a>, AllocError> {
@@ -162,24 +162,25 @@ fn export<'a>(alloc: Global) -> Result<Command<'a>, AllocError> {
         .about(
             "Write the certificates, and the private keys sealed under a new password, into a new folder",
         )
-        .after_help(NOTES)
-        .arg(store(alloc))?
-        .arg(out(alloc))?
-        .arg(format(alloc))?
-        .arg(force(alloc))?;
+        .after_help(NOTES);
+    let command = with(command, store(alloc))?;
+    let command = with(command, out(alloc))?;
+    let command = with(command, format(alloc))?;
+    let command = with(command, force(alloc))?;
     let command = with_password(alloc, command)?;
-    with_new_password(alloc, command)?
-        .arg(empty_password(alloc))?
-        .arg(rounds(alloc))?
-        .arg(limit(alloc))
+    let command = with_new_password(alloc, command)?;
+    let command = with(command, empty_password(alloc))?;
+    let command = with(command, rounds(alloc))?;
+    with(command, limit(alloc))
 }
 
 fn check<'a>(alloc: Global) -> Result<Command<'a>, AllocError> {
     let command = Command::new(alloc, "check")
         .about("Open the store, write nothing, and say what is in it")
-        .after_help(NOTES)
-        .arg(store(alloc))?;
-    with_password(alloc, command)?.arg(limit(alloc))
+        .after_help(NOTES);
+    let command = with(command, store(alloc))?;
+    let command = with_password(alloc, command)?;
+    with(command, limit(alloc))
 }
 
 fn self_test<'a>(alloc: Global) -> Command<'a> {

@@ -3,7 +3,7 @@ ghost use Rattle.std.specs.Prelude.{◌≡◌, ◌<◌, ◌≤◌, ◌^◌, IsTr
 ghost use Rattle.p12.specs.AlgorithmIdentifier.{salt_of};
 ghost use Rattle.p12.specs.AlgorithmView.{seen_algorithm};
 
-use crate::algorithm_name::{algorithm_name, named};
+use crate::algorithm_name::{AlgorithmName, Named};
 use crate::ending::Failure;
 use crate::listing::{Label, Listing};
 use crate::passed_over::PassedOver;
@@ -178,24 +178,17 @@ pub fn visible_work(store: &[u8]) -> u128 {
     }
 }
 
-/// An algorithm under which nothing is opened; None for one under which texts are opened.
-fn not_opened(alloc: Global, algorithm: &AlgorithmView<'_>) -> Result<Option<String>, AllocError> {
-    if algorithm.is_openable() {
-        return Ok(None);
-    }
-    Ok(Some(algorithm_name(alloc, algorithm)?))
-}
-
 /// The first private key among the bags in these octets that is under an algorithm that is not opened.
 fn key_not_opened(alloc: Global, text: &[u8]) -> Result<Option<String>, AllocError> {
     let Ok(mut bags) = BagsView::parse(text) else {
         return Ok(None);
     };
     while let Some(bag) = bags.next() {
-        if let BagView::Shrouded { algorithm, .. } = bag {
-            if let Some(name) = not_opened(alloc, &algorithm)? {
-                return Ok(Some(format!(in alloc; "a private key is encrypted by {name}")?));
-            }
+        if let BagView::Shrouded { algorithm, .. } = bag
+            && !algorithm.is_openable()
+        {
+            let name = AlgorithmName(&algorithm);
+            return Ok(Some(format!(in alloc; "a private key is encrypted by {name}")?));
         }
     }
     Ok(None)
@@ -208,12 +201,13 @@ fn content_not_opened(
 ) -> Result<Option<String>, AllocError> {
     match content {
         ContentView::Plain { .. } => Ok(None),
-        ContentView::Encrypted { algorithm, .. } => match not_opened(alloc, algorithm)? {
-            Some(name) => Ok(Some(format!(in alloc; "a content is encrypted by {name}")?)),
-            None => Ok(None),
-        },
+        ContentView::Encrypted { algorithm, .. } if algorithm.is_openable() => Ok(None),
+        ContentView::Encrypted { algorithm, .. } => {
+            let name = AlgorithmName(algorithm);
+            Ok(Some(format!(in alloc; "a content is encrypted by {name}")?))
+        }
         ContentView::Other { content_type, .. } => {
-            let name = named(alloc, *content_type)?;
+            let name = Named(*content_type);
             Ok(Some(format!(in alloc; "a content is of the kind {name}")?))
         }
     }
@@ -256,7 +250,7 @@ fn outer_not_opened(alloc: Global, outer: &ContentView<'_>) -> Result<Option<Str
             "the outer content is of the kind encryptedData (1.2.840.113549.1.7.6)"
         )?)),
         ContentView::Other { content_type, .. } => {
-            let name = named(alloc, *content_type)?;
+            let name = Named(*content_type);
             Ok(Some(format!(in alloc; "the outer content is of the kind {name}")?))
         }
     }
@@ -287,13 +281,15 @@ pub fn unsupported(
 }
 
 /// What the MAC is made with, where there is a MAC.
-pub fn mac_digest(alloc: Global, store: &[u8]) -> Result<Option<String>, AllocError> {
-    let Ok(store) = StoreView::parse(store) else {
-        return Ok(None);
-    };
-    match &store.mac_data {
-        Some(mac) => Ok(Some(algorithm_name(alloc, &mac.algorithm)?)),
-        None => Ok(None),
+pub fn mac_digest(store: &[u8]) -> Option<AlgorithmView<'_>> {
+    match StoreView::parse(store) {
+        Ok(
+            StoreView {
+                mac_data: Some(mac),
+                ..
+            },
+        ) => Some(mac.algorithm),
+        _ => None,
     }
 }
 

@@ -1,11 +1,12 @@
 //! What exactly was wrong with a store that is refused.
 ghost use Rattle.std.specs.Prelude.{◌≡◌};
 
+use crate::algorithm_name::AlgorithmName;
 use crate::ending::{Ending, Failure, Message};
 use crate::inspection::{mac_digest, outer_text, unsupported};
 use crate::not_der::not_der;
 use crate::password::Password;
-use std::alloc::Global;
+use std::alloc::{AllocError, Global};
 use transfer::TransferError;
 
 /// How PEM text begins (RFC 7468).
@@ -42,6 +43,17 @@ fn malformed(alloc: Global, octets: &[u8]) -> Result<Option<String>, Failure> {
     }
 }
 
+/// What the MAC is made with that is not supported.
+fn mac_unsupported(alloc: Global, store: &[u8]) -> Result<Option<String>, AllocError> {
+    let Some(digest) = mac_digest(store) else {
+        return Ok(None);
+    };
+    let name = AlgorithmName(&digest);
+    Ok(Some(format!(in alloc;
+        "the MAC of the store is made with {name}, and only SHA-1 and SHA-256 are supported"
+    )?))
+}
+
 /// What more there is to say of a refusal; None where its meaning says all.
 fn detail(
     alloc: Global,
@@ -53,12 +65,7 @@ fn detail(
         TransferError::Malformed => malformed(alloc, store),
         TransferError::ContentMalformed => malformed(alloc, outer_text(store)),
         TransferError::Unsupported => unsupported(alloc, store, password),
-        TransferError::MacUnsupported => match mac_digest(alloc, store)? {
-            Some(digest) => Ok(Some(format!(in alloc;
-                "the MAC of the store is made with {digest}, and only SHA-1 and SHA-256 are supported"
-            )?)),
-            None => Ok(None),
-        },
+        TransferError::MacUnsupported => Ok(mac_unsupported(alloc, store)?),
         _ => Ok(None),
     }
 }
