@@ -1,6 +1,7 @@
 //! Callers of `spki`, `pkcs5` and `pkcs8`: tests of their public calls, and those that their pages CALLING show.
 //!
-//! They stand here and not in those crates since a test is proved with the whole crate that it stands in.
+//! They stand here and not in those crates since a test is proved with the whole crate that it stands in. The prover keeps what a
+//! call promises until the end of the function that makes it, so most calls are made by small functions that promise nothing.
 #![tactic(auto)]
 
 #[cfg(test)]

@@ -6,13 +6,13 @@ mod key_types;
 mod openssl_keys;
 mod refusals;
 
-use crate::values::{octets, oid};
+use crate::values::{are_digits, is_text, laws_hold, octets, oid};
 use asn1_core::{ObjectIdentifier, Octets};
 use der_core::{
     Any, BitString, BitStringRef, Choice, Decode, DecodeValue, Encode, EncodeValue, FixedTag,
-    OctetString, OctetStringRef, canon_is_read, exact_spellings, texts_are_read,
+    OctetString, OctetStringRef,
 };
-use openssl_keys::KEYS;
+use openssl_keys::{KEYS, OpensslKey};
 use pkcs8::{
     BitStringLike, PrivateKeyInfo, PrivateKeyInfoRef, Version, private_keys_are_spelled,
     private_keys_are_written, private_keys_have_a_text, texts_have_one_private_key,
@@ -40,12 +40,32 @@ const RFC_8410_WITH_ATTRIBUTES: &str =
 const RFC_8410_WITHOUT_ATTRIBUTES: &str =
     "3051020101300506032b657004220420d4ee72dbf913584ad5b6d8f1f769f8ad3afe7c28cbf1d4fbe097a88f4475584281210019bf44096984cdfe8541bac167dc3b96c85086aa30b6b6cb0c5c38ad703166e1";
 
+/// The private key of a text.
+fn read<'a>(rt: &impl Abort, text: &'a [u8]) -> PrivateKeyInfoRef<'a> {
+    PrivateKeyInfoRef::try_from(text).expect(rt, "a private key")
+}
+
 /// Whether the text is read, and what is written of it is the other.
-fn is_written(rt: &impl Abort, alloc: Global, text: &str, written: &str) -> bool {
+fn is_written(rt: &impl Abort, alloc: Global, text: &str, other: &str) -> bool {
     let text = octets(rt, alloc, text);
-    let key = PrivateKeyInfoRef::try_from(text.as_slice()).expect(rt, "a private key");
-    let found = key.to_der(alloc).expect(rt, "memory");
-    found.as_slice() == octets(rt, alloc, written).as_slice()
+    is_text(rt, alloc, &read(rt, text.as_slice()), other)
+}
+
+/// Whether a key of OpenSSL has its algorithm.
+fn has_algorithm(rt: &impl Abort, alloc: Global, key: &OpensslKey) -> bool {
+    let text = octets(rt, alloc, key.text);
+    let found = read(rt, text.as_slice()).algorithm;
+    found.oid == oid(rt, key.algorithm) && is_text(rt, alloc, &found.parameters, key.parameters)
+}
+
+/// Whether its text ends with as many octets as the key has, and it has no public key.
+fn ends_with_octets(rt: &impl Abort, alloc: Global, key: &OpensslKey) -> bool {
+    let text = octets(rt, alloc, key.text);
+    let found = read(rt, text.as_slice());
+    found.private_key.as_bytes().len() == key.key_octets
+        && text.as_slice().ends_with(found.private_key.as_bytes())
+        && found.public_key.is_none()
+        && found.version() == Version::V1
 }
 
 #[test]
@@ -53,30 +73,8 @@ fn keys_of_openssl_are_read_and_written_back(rt: HostRuntime) {
     let alloc = rt.alloc();
     for key in &KEYS {
         assert!(rt; is_written(&rt, alloc, key.text, key.text), "{}", key.name);
-        let text = octets(&rt, alloc, key.text);
-        let read = PrivateKeyInfoRef::try_from(text.as_slice()).expect(&rt, "a private key");
-        let parameters = read
-            .algorithm
-            .parameters
-            .to_der(alloc)
-            .expect(&rt, "memory");
-        assert!(rt;
-            read.algorithm.oid == oid(&rt, key.algorithm),
-            "{}",
-            key.name
-        );
-        assert!(rt; parameters.as_slice() == octets(&rt, alloc, key.parameters).as_slice());
-        assert!(rt;
-            read.private_key.as_bytes().len() == key.key_octets,
-            "{}",
-            key.name
-        );
-        assert!(rt;
-            text.as_slice().ends_with(read.private_key.as_bytes()),
-            "{}",
-            key.name
-        );
-        assert!(rt; read.public_key.is_none() && read.version() == Version::V1);
+        assert!(rt; has_algorithm(&rt, alloc, key), "{}", key.name);
+        assert!(rt; ends_with_octets(&rt, alloc, key), "{}", key.name);
     }
 }
 
@@ -111,61 +109,72 @@ fn other_spellings_are_written_as_one(rt: HostRuntime) {
     );
 }
 
+/// Whether a key has the public key of these digits.
+fn has_public_key(
+    rt: &impl Abort,
+    alloc: Global,
+    key: &PrivateKeyInfoRef<'_>,
+    digits: &str,
+) -> bool {
+    let public = octets(rt, alloc, digits);
+    key.public_key == Some(BitStringRef::new(0, public.as_slice()).expect(rt, "a public key"))
+}
+
+/// Whether a version is the one of this number, with a public key.
+fn is_second(version: Version) -> bool {
+    version == Version::V2 && version.has_public_key() && u8::from(version) == 1
+}
+
+/// Whether the key without its public key is the other.
+fn is_without_public_key(key: &PrivateKeyInfoRef<'_>, other: &PrivateKeyInfoRef<'_>) -> bool {
+    let without = PrivateKeyInfo::new(key.algorithm, key.private_key);
+    without != *key && without == *other
+}
+
 #[test]
 fn a_public_key_is_kept(rt: HostRuntime) {
     let alloc = rt.alloc();
     assert!(rt; is_written(&rt, alloc, WITH_PUBLIC_KEY, WITH_PUBLIC_KEY));
     let text = octets(&rt, alloc, WITH_PUBLIC_KEY);
-    let key = PrivateKeyInfoRef::try_from(text.as_slice()).expect(&rt, "a private key");
-    let public = octets(
-        &rt,
-        alloc,
-        "4d29167f3f1912a6f7adfa293a051a15c05ec67b8f17267b1c5550dce853bd0d",
-    );
-    let expected = BitStringRef::new(0, public.as_slice()).expect(&rt, "a public key");
-    assert!(rt; key.public_key == Some(expected) && key.version() == Version::V2);
-    assert!(rt; key.version().has_public_key() && u8::from(key.version()) == 1);
-    let without = PrivateKeyInfo::new(key.algorithm, key.private_key);
-    assert!(rt; without != key && without.version() == Version::V1);
+    let key = read(&rt, text.as_slice());
+    let public = "4d29167f3f1912a6f7adfa293a051a15c05ec67b8f17267b1c5550dce853bd0d";
+    assert!(rt; has_public_key(&rt, alloc, &key, public));
+    assert!(rt; is_second(key.version()));
     let plain = octets(&rt, alloc, KEY);
-    assert!(rt; PrivateKeyInfoRef::try_from(plain.as_slice()) == Ok(without));
+    let plain = read(&rt, plain.as_slice());
+    assert!(rt; is_without_public_key(&key, &plain));
+    assert!(rt; plain.version() == Version::V1);
 }
 
 #[test]
 fn equal_keys_have_equal_parts(rt: HostRuntime) {
-    let alloc = rt.alloc();
-    let text = octets(&rt, alloc, WITH_PUBLIC_KEY);
-    let key = PrivateKeyInfoRef::try_from(text.as_slice()).expect(&rt, "a private key");
-    let copy = key.clone().expect(&rt, "memory");
-    assert!(rt; copy == key);
+    let text = octets(&rt, rt.alloc(), WITH_PUBLIC_KEY);
+    let key = read(&rt, text.as_slice());
     let ed448 = AlgorithmIdentifier {
         oid: oid(&rt, "1.3.101.113"),
         parameters: None,
     };
-    let of_another_algorithm = PrivateKeyInfo {
-        algorithm: ed448,
-        private_key: key.private_key,
-        public_key: key.public_key,
-    };
-    assert!(rt; of_another_algorithm != key);
-    let another_key = PrivateKeyInfo {
-        algorithm: key.algorithm,
-        private_key: OctetStringRef::new(b"4").expect(&rt, "a key"),
-        public_key: key.public_key,
-    };
-    assert!(rt; another_key != key);
-    let another_public_key = PrivateKeyInfo {
-        algorithm: key.algorithm,
-        private_key: key.private_key,
-        public_key: Some(BitStringRef::new(0, b"4").expect(&rt, "a public key")),
-    };
-    assert!(rt; another_public_key != key);
+    let another_key = OctetStringRef::new(b"4").expect(&rt, "a key");
+    let another_public_key = Some(BitStringRef::new(0, b"4").expect(&rt, "a public key"));
+    assert!(rt; key.clone().expect(&rt, "memory") == key);
+    for (algorithm, private_key, public_key) in [
+        (ed448, key.private_key, key.public_key),
+        (key.algorithm, another_key, key.public_key),
+        (key.algorithm, key.private_key, another_public_key),
+    ] {
+        let other = PrivateKeyInfo {
+            algorithm,
+            private_key,
+            public_key,
+        };
+        assert!(rt; other != key);
+    }
 }
 
 /// What Debug prints of a private key.
 fn shown(rt: &impl Abort, alloc: Global, text: &str) -> String {
     let text = octets(rt, alloc, text);
-    let key = PrivateKeyInfoRef::try_from(text.as_slice()).expect(rt, "a private key");
+    let key = read(rt, text.as_slice());
     format!(in alloc; "{key:?}").expect(rt, "memory")
 }
 
@@ -183,7 +192,7 @@ fn debug_shows_no_private_key(rt: HostRuntime) {
 }
 
 /// A private key of parts of any lawful types.
-fn read<
+fn read_as<
     'a,
     Params: Choice<&'a [u8]>,
     Key: DecodeValue<&'a [u8]> + FixedTag,
@@ -201,40 +210,47 @@ fn write<Params: Encode, Key: EncodeValue + FixedTag, PubKey: BitStringLike>(
 }
 
 #[test]
-fn parts_of_other_types(rt: HostRuntime) {
-    let alloc = rt.alloc();
-    let text = octets(&rt, alloc, KEYS[1].text);
-    let key = read::<ObjectIdentifier, OctetStringRef<'_>, BitStringRef<'_>>(
+fn a_key_is_read_as_parts_of_other_types(rt: HostRuntime) {
+    let text = octets(&rt, rt.alloc(), KEYS[1].text);
+    let key = read_as::<ObjectIdentifier, OctetStringRef<'_>, BitStringRef<'_>>(
         text.as_slice(),
     ).expect(&rt, "a private key");
     assert!(rt; key.algorithm.parameters == Some(oid(&rt, "1.2.840.10045.3.1.7")));
-    let public = BitString::new(alloc, 0, b"public").expect(&rt, "a public key");
-    assert!(rt; public.as_bit_string() == BitStringRef::new(0, b"public").expect(&rt, "bits"));
-    let owned = PrivateKeyInfo {
-        algorithm: AlgorithmIdentifier::<Any> {
-            oid: oid(&rt, "1.3.101.112"),
-            parameters: None,
-        },
-        private_key: OctetString::new(alloc, b"key").expect(&rt, "a key"),
-        public_key: Some(public),
+}
+
+/// A private key of parts in memory of their own.
+fn owned_parts(rt: &impl Abort, alloc: Global) -> PrivateKeyInfo<Any, OctetString, BitString> {
+    let algorithm = AlgorithmIdentifier::<Any> {
+        oid: oid(rt, "1.3.101.112"),
+        parameters: None,
     };
-    let written = write(alloc, &owned).expect(&rt, "memory");
-    let expected = octets(
-        &rt,
-        alloc,
-        "3018020101300506032b657004036b65798107007075626c6963",
-    );
-    assert!(rt; written.as_slice() == expected.as_slice());
+    PrivateKeyInfo {
+        algorithm,
+        private_key: OctetString::new(alloc, b"key").expect(rt, "a key"),
+        public_key: Some(BitString::new(alloc, 0, b"public").expect(rt, "a public key")),
+    }
+}
+
+#[test]
+fn an_owned_string_is_a_string_of_bits(rt: HostRuntime) {
+    let public = BitString::new(rt.alloc(), 0, b"public").expect(&rt, "a public key");
+    assert!(rt; public.as_bit_string() == BitStringRef::new(0, b"public").expect(&rt, "bits"));
+}
+
+#[test]
+fn a_key_is_written_of_parts_of_other_types(rt: HostRuntime) {
+    let alloc = rt.alloc();
+    let owned = owned_parts(&rt, alloc);
+    let text = write(alloc, &owned).expect(&rt, "memory");
+    let expected = "3018020101300506032b657004036b65798107007075626c6963";
+    assert!(rt; are_digits(&rt, alloc, text.as_slice(), expected));
 }
 
 #[test]
 fn the_laws_hold_at_keys_of_any_algorithm(rt: HostRuntime) {
-    let alloc = rt.alloc();
-    let text = octets(&rt, alloc, RFC_8410_WITH_ATTRIBUTES);
-    let key = PrivateKeyInfoRef::try_from(text.as_slice()).expect(&rt, "a private key");
-    texts_are_read::<&[u8], PrivateKeyInfoRef<'_>>(text.as_slice());
-    exact_spellings::<&[u8], PrivateKeyInfoRef<'_>>(text.as_slice(), &key);
-    canon_is_read::<&[u8], PrivateKeyInfoRef<'_>>(&key);
+    let text = octets(&rt, rt.alloc(), RFC_8410_WITH_ATTRIBUTES);
+    let key = read(&rt, text.as_slice());
+    laws_hold(text.as_slice(), &key);
     private_keys_are_written(&key);
     private_keys_are_spelled();
     private_keys_have_a_text();

@@ -1,5 +1,6 @@
-//! Values of their texts.
-use asn1_core::ObjectIdentifier;
+//! Values of their texts, and texts of their values.
+use asn1_core::{ObjectIdentifier, Octets};
+use der_core::{Compared, Encode, Spelled, canon_is_read, exact_spellings, texts_are_read};
 use std::alloc::Global;
 use std::process::Abort;
 
@@ -11,4 +12,26 @@ pub fn octets(rt: &impl Abort, alloc: Global, digits: &str) -> Vec<u8> {
 /// The identifier of a text of numbers.
 pub fn oid(rt: &impl Abort, text: &str) -> ObjectIdentifier {
     ObjectIdentifier::new(text).expect(rt, "an identifier")
+}
+
+/// The text of a value.
+pub fn written<T: Encode>(rt: &impl Abort, alloc: Global, value: &T) -> Octets {
+    value.to_der(alloc).expect(rt, "a text")
+}
+
+/// Whether these are the octets of the digits.
+pub fn are_digits(rt: &impl Abort, alloc: Global, found: &[u8], digits: &str) -> bool {
+    found == octets(rt, alloc, digits).as_slice()
+}
+
+/// Whether the text of a value has these digits.
+pub fn is_text<T: Encode>(rt: &impl Abort, alloc: Global, value: &T, digits: &str) -> bool {
+    are_digits(rt, alloc, written(rt, alloc, value).as_slice(), digits)
+}
+
+/// The laws of a lawful type, at a value and a text.
+pub fn laws_hold<'a, T: Spelled<&'a [u8]> + Compared<&'a [u8]>>(text: &'a [u8], value: &T) {
+    texts_are_read::<&'a [u8], T>(text);
+    exact_spellings::<&'a [u8], T>(text, value);
+    canon_is_read::<&'a [u8], T>(value);
 }

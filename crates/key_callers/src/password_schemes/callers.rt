@@ -64,12 +64,18 @@ fn there_and_back(
 }
 
 #[test]
-fn a_key_of_openssl_is_opened_and_a_text_comes_back(rt: HostRuntime) {
+fn a_key_of_openssl_is_opened(rt: HostRuntime) {
     let alloc = rt.alloc();
     let scheme = octets(&rt, alloc, AES_256);
     let key = opened(alloc, scheme.as_slice(), &SEALED_KEY, &PASSWORD).expect(&rt, "a key");
     assert!(rt; key.as_slice() == KEY.as_slice());
+}
+
+#[test]
+fn a_text_comes_back(rt: HostRuntime) {
     let parameters = key_parameters(&rt);
-    let text = there_and_back(alloc, &parameters, b"hunter43", b"a text").expect(&rt, "a text");
+    let text = there_and_back(rt.alloc(), &parameters, b"hunter43", b"a text").expect(
+        &rt, "a text",
+    );
     assert!(rt; text.as_slice() == b"a text".as_slice());
 }

@@ -1,9 +1,9 @@
 //! Encryption and decryption: a vector of RFC 8018's scheme as OpenSSL writes it, and refusals. Each pseudorandom function and each
 //! cipher is tried by the lines of `tests/vectors/schemes.txt`.
-use pkcs5::Error;
 use pkcs5::pbes2::{
     EncryptionKey, EncryptionScheme, Kdf, PBKDF2_OID, Parameters, Pbkdf2Params, Pbkdf2Prf, Salt,
 };
+use pkcs5::{Error, Result};
 use std::alloc::Global;
 use std::process::Abort;
 
@@ -17,6 +17,10 @@ pub const PASSWORD: [u8; 8] = *b"hunter42";
 /// What this key is encrypted to under that password.
 pub const SEALED_KEY: [u8; 64] =
     *b"\xd0\xcd\x6c\x77\x0f\x4b\xb8\x71\x76\x42\x23\x05\xc1\x74\x01\x80\x9e\x22\x66\x74\xce\x74\x18\x5d\x22\x1b\xfd\xaa\x95\x06\x98\x90\xc8\x88\x2f\xce\x02\xb0\x5d\x41\xbc\xbf\x54\xb0\x35\x59\x5b\xcd\x41\x54\xb3\x25\x93\x70\x84\x69\xb8\x6a\xac\xf8\x81\x5a\x7b\x2b";
+
+/// What that decrypts to under the password `hunter43`: blocks with no padding.
+pub const UNPADDED: [u8; 64] =
+    *b"\x02\x5f\xa0\x4c\x90\x93\x29\x4a\x15\x3b\x5e\xd6\x3f\x95\x4d\x39\xa6\x37\x83\x49\x47\x77\x0d\x00\xcc\x60\x25\x62\xd0\xc5\x73\xa8\x81\xcc\x70\x17\x39\x42\x79\xe4\xda\x14\x68\x34\xe5\x6b\x36\x18\x77\x5d\x76\xd2\x4b\xed\x39\x18\x15\xd6\x2f\x09\xa5\x3a\xca\x45";
 
 /// The vector's initialization vector.
 const KEY_IV: [u8; 16] = *b"\xb2\xd0\x2d\x78\xb2\xef\xd9\xdf\xf6\x94\xcf\x8e\x0a\xf4\x09\x25";
@@ -90,20 +94,31 @@ fn a_key_of_openssl_is_opened_and_sealed(rt: HostRuntime) {
 
 #[test]
 fn a_key_is_derived_in_the_stated_rounds(rt: HostRuntime) {
-    let alloc = rt.alloc();
     let kdf = Kdf::Pbkdf2(Pbkdf2Params {
         salt: Salt::new(b"salt").expect(&rt, "a salt"),
         iteration_count: 2,
         key_length: None,
         prf: Pbkdf2Prf::HmacWithSha1,
     });
-    let key = EncryptionKey::derive_from_password(alloc, b"password", &kdf, 20).expect(
+    let key = EncryptionKey::derive_from_password(rt.alloc(), b"password", &kdf, 20).expect(
         &rt, "a key",
     );
-    assert_eq!(rt;
-        key.as_slice(),
-        b"\xea\x6c\x01\x4d\xc7\x2d\x6f\x8c\xcd\x1e\xd9\x2a\xce\x1d\x41\xf0\xd8\xde\x89\x57".as_slice()
+    assert!(rt;
+        key.as_slice()
+            == b"\xea\x6c\x01\x4d\xc7\x2d\x6f\x8c\xcd\x1e\xd9\x2a\xce\x1d\x41\xf0\xd8\xde\x89\x57".as_slice()
     );
+}
+
+/// What the parameters answer to the first octets of the key's ciphertext, and what stands there then.
+fn decrypted(
+    alloc: Global,
+    parameters: &Parameters,
+    password: &[u8],
+    len: usize,
+) -> (Result<usize>, [u8; 64]) {
+    let mut buffer = SEALED_KEY;
+    let answer = parameters.decrypt_in_place_len(alloc, password, &mut buffer[..len.min(64)]);
+    (answer, buffer)
 }
 
 #[test]
@@ -112,21 +127,9 @@ fn a_ciphertext_that_opens_to_nothing_is_refused(rt: HostRuntime) {
     let parameters = key_parameters(&rt);
     let refused = Err(Error::DecryptFailed);
     assert!(rt; parameters.decrypt(alloc, b"hunter43", &SEALED_KEY).is_err());
-    // What it decrypts to stands there, with no padding.
-    let mut buffer = SEALED_KEY;
-    assert_eq!(rt;
-        parameters.decrypt_in_place_len(alloc, b"hunter43", &mut buffer),
-        refused
-    );
-    assert_eq!(rt;
-        buffer,
-        *b"\x02\x5f\xa0\x4c\x90\x93\x29\x4a\x15\x3b\x5e\xd6\x3f\x95\x4d\x39\xa6\x37\x83\x49\x47\x77\x0d\x00\xcc\x60\x25\x62\xd0\xc5\x73\xa8\x81\xcc\x70\x17\x39\x42\x79\xe4\xda\x14\x68\x34\xe5\x6b\x36\x18\x77\x5d\x76\xd2\x4b\xed\x39\x18\x15\xd6\x2f\x09\xa5\x3a\xca\x45"
-    );
-    let mut buffer = SEALED_KEY;
+    assert!(rt; decrypted(alloc, &parameters, b"hunter43", 64) == (refused, UNPADDED));
     for len in [0, 15, 17] {
-        let answer = parameters.decrypt_in_place_len(alloc, &PASSWORD, &mut buffer[..len]);
-        assert_eq!(rt; answer, refused);
-        assert_eq!(rt; buffer, SEALED_KEY);
+        assert!(rt; decrypted(alloc, &parameters, &PASSWORD, len) == (refused, SEALED_KEY));
     }
 }
 
@@ -135,26 +138,20 @@ fn another_length_of_the_key_is_refused(rt: HostRuntime) {
     let alloc = rt.alloc();
     let refused = Error::AlgorithmParametersInvalid { oid: PBKDF2_OID };
     let parameters = with_key_length(&rt, 16);
-    let scheme = pkcs5::EncryptionScheme::Pbes2(parameters);
+    assert!(rt; parameters.decrypt(alloc, &PASSWORD, &SEALED_KEY) == Err(refused));
+    assert!(rt; parameters.encrypt(alloc, &PASSWORD, &KEY) == Err(refused));
+}
+
+#[test]
+fn another_length_of_the_key_is_refused_in_place(rt: HostRuntime) {
+    let alloc = rt.alloc();
+    let refused = Err(Error::AlgorithmParametersInvalid { oid: PBKDF2_OID });
+    let scheme = pkcs5::EncryptionScheme::Pbes2(with_key_length(&rt, 16));
     let mut buffer = SEALED_KEY;
-    assert_eq!(rt;
-        parameters.decrypt(alloc, &PASSWORD, &SEALED_KEY),
-        Err(refused)
-    );
-    assert_eq!(rt; parameters.encrypt(alloc, &PASSWORD, &KEY), Err(refused));
-    assert_eq!(rt;
-        scheme.decrypt_in_place_len(alloc, &PASSWORD, &mut buffer),
-        Err(refused)
-    );
-    assert_eq!(rt;
-        scheme.decrypt_in_place_len(alloc, &PASSWORD, &mut buffer[..15]),
-        Err(refused)
-    );
-    assert_eq!(rt;
-        scheme.encrypt_in_place_len(alloc, &PASSWORD, &mut buffer, 64),
-        Err(refused)
-    );
-    assert_eq!(rt; buffer, SEALED_KEY);
+    assert!(rt; scheme.decrypt_in_place_len(alloc, &PASSWORD, &mut buffer) == refused);
+    assert!(rt; scheme.decrypt_in_place_len(alloc, &PASSWORD, &mut buffer[..15]) == refused);
+    assert!(rt; scheme.encrypt_in_place_len(alloc, &PASSWORD, &mut buffer, 64) == refused);
+    assert!(rt; buffer == SEALED_KEY);
 }
 
 /// A key with room for its padding, and two octets behind.
@@ -164,83 +161,96 @@ fn key_with_room() -> [u8; 66] {
     buffer
 }
 
+/// Whether the parameters encrypt the key where it stands, and leave the octets behind.
+fn encrypts_in_place(alloc: Global, parameters: &Parameters) -> bool {
+    let mut buffer = key_with_room();
+    let sealed = parameters.encrypt_in_place(alloc, &PASSWORD, &mut buffer, 48);
+    sealed == Ok(&SEALED_KEY) && buffer.starts_with(&SEALED_KEY) && buffer.ends_with(&[0x55, 0x55])
+}
+
+/// Whether their scheme does.
+fn scheme_encrypts_in_place(alloc: Global, parameters: Parameters) -> bool {
+    let scheme = pkcs5::EncryptionScheme::Pbes2(parameters);
+    let mut buffer = key_with_room();
+    let sealed = scheme.encrypt_in_place(alloc, &PASSWORD, &mut buffer, 48);
+    sealed == Ok(&SEALED_KEY) && buffer.ends_with(&[0x55, 0x55])
+}
+
 #[test]
 fn a_text_is_encrypted_where_it_stands(rt: HostRuntime) {
     let alloc = rt.alloc();
     let parameters = key_parameters(&rt);
-    let mut buffer = key_with_room();
-    let sealed = parameters.encrypt_in_place(alloc, &PASSWORD, &mut buffer, 48);
-    assert!(rt; sealed == Ok(&SEALED_KEY));
-    assert!(rt; buffer.starts_with(&SEALED_KEY));
-    assert!(rt; buffer.ends_with(&[0x55, 0x55]));
+    assert!(rt; encrypts_in_place(alloc, &parameters));
+    assert!(rt; scheme_encrypts_in_place(alloc, parameters));
+}
+
+/// Whether the parameters decrypt the key where it stands, with its padding behind.
+fn decrypts_in_place(alloc: Global, parameters: &Parameters) -> bool {
+    let mut buffer = SEALED_KEY;
+    let opened = parameters.decrypt_in_place(alloc, &PASSWORD, &mut buffer);
+    opened == Ok(&KEY) && buffer.starts_with(&KEY) && buffer.ends_with(&[16; 16])
+}
+
+/// Whether their scheme answers the key.
+fn scheme_decrypts_in_place(alloc: Global, parameters: Parameters) -> bool {
     let scheme = pkcs5::EncryptionScheme::Pbes2(parameters);
-    let mut buffer = key_with_room();
-    let sealed = scheme.encrypt_in_place(alloc, &PASSWORD, &mut buffer, 48);
-    assert!(rt; sealed == Ok(&SEALED_KEY));
-    assert!(rt; buffer.ends_with(&[0x55, 0x55]));
+    let mut buffer = SEALED_KEY;
+    scheme.decrypt_in_place(alloc, &PASSWORD, &mut buffer) == Ok(&KEY)
 }
 
 #[test]
 fn a_text_is_decrypted_where_it_stands(rt: HostRuntime) {
     let alloc = rt.alloc();
     let parameters = key_parameters(&rt);
+    assert!(rt; decrypts_in_place(alloc, &parameters));
+    assert!(rt; scheme_decrypts_in_place(alloc, parameters));
+}
+
+/// What the parameters answer to `pos` octets in a buffer of `len`, and what stands there then.
+fn encrypted(
+    alloc: Global,
+    parameters: &Parameters,
+    len: usize,
+    pos: usize,
+) -> (Result<usize>, [u8; 64]) {
     let mut buffer = SEALED_KEY;
-    let opened = parameters.decrypt_in_place(alloc, &PASSWORD, &mut buffer);
-    assert!(rt; opened == Ok(&KEY));
-    assert!(rt; buffer.starts_with(&KEY));
-    assert!(rt; buffer.ends_with(&[16; 16]));
-    let scheme = pkcs5::EncryptionScheme::Pbes2(parameters);
-    let mut buffer = SEALED_KEY;
-    let opened = scheme.decrypt_in_place(alloc, &PASSWORD, &mut buffer);
-    assert!(rt; opened == Ok(&KEY));
+    let buffer_part = &mut buffer[..len.min(64)];
+    let answer = parameters.encrypt_in_place_len(alloc, &PASSWORD, buffer_part, pos);
+    (answer, buffer)
 }
 
 #[test]
 fn a_ciphertext_that_does_not_fit_is_refused(rt: HostRuntime) {
-    let alloc = rt.alloc();
     let parameters = key_parameters(&rt);
-    let mut buffer = SEALED_KEY;
+    let refused = (Err(Error::EncryptFailed), SEALED_KEY);
     for (len, pos) in [(0, 0), (63, 48), (16, 17)] {
-        let answer = parameters.encrypt_in_place_len(alloc, &PASSWORD, &mut buffer[..len], pos);
-        assert_eq!(rt; answer, Err(Error::EncryptFailed));
-        assert_eq!(rt; buffer, SEALED_KEY);
+        assert!(rt; encrypted(rt.alloc(), &parameters, len, pos) == refused);
     }
 }
 
 #[test]
-fn parameters_are_made_within_their_bounds(rt: HostRuntime) {
+fn parameters_have_what_they_are_made_of(rt: HostRuntime) {
+    let made = Parameters::generate_pbkdf2_sha256_aes128cbc(100_000_000, &[7; 32], IV);
+    let parameters = made.expect(&rt, "parameters");
+    let kdf = Kdf::Pbkdf2(Pbkdf2Params {
+        salt: Salt::new(&[7; 32]).expect(&rt, "a salt"),
+        iteration_count: 100_000_000,
+        key_length: None,
+        prf: Pbkdf2Prf::HmacWithSha256,
+    });
+    assert!(rt; parameters.encryption == EncryptionScheme::Aes128Cbc { iv: IV });
+    assert!(rt; parameters.kdf == kdf);
+}
+
+/// Whether no parameters are made of these rounds and this salt, since they are over their bounds.
+fn are_over_bounds(rounds: u32, salt: &[u8]) -> bool {
     let refused = Err(Error::AlgorithmParametersInvalid { oid: PBKDF2_OID });
-    let parameters = Parameters::generate_pbkdf2_sha256_aes128cbc(100_000_000, &[7; 32], IV).expect(
-        &rt,
-        "parameters",
-    );
-    assert_eq!(rt;
-        parameters.encryption,
-        EncryptionScheme::Aes128Cbc { iv: IV }
-    );
-    assert_eq!(rt;
-        parameters.kdf,
-        Kdf::Pbkdf2(Pbkdf2Params {
-            salt: Salt::new(&[7; 32]).expect(&rt, "a salt"),
-            iteration_count: 100_000_000,
-            key_length: None,
-            prf: Pbkdf2Prf::HmacWithSha256,
-        })
-    );
-    assert_eq!(rt;
-        Parameters::generate_pbkdf2_sha256_aes128cbc(100_000_001, &[7; 32], IV),
-        refused
-    );
-    assert_eq!(rt;
-        Parameters::generate_pbkdf2_sha256_aes256cbc(100_000_001, &[7; 32], IV),
-        refused
-    );
-    assert_eq!(rt;
-        Parameters::generate_pbkdf2_sha256_aes128cbc(1, &[7; 33], IV),
-        refused
-    );
-    assert_eq!(rt;
-        Parameters::generate_pbkdf2_sha256_aes256cbc(1, &[7; 33], IV),
-        refused
-    );
+    Parameters::generate_pbkdf2_sha256_aes128cbc(rounds, salt, IV) == refused
+        && Parameters::generate_pbkdf2_sha256_aes256cbc(rounds, salt, IV) == refused
+}
+
+#[test]
+fn parameters_are_made_within_their_bounds(rt: HostRuntime) {
+    assert!(rt; are_over_bounds(100_000_001, &[7; 32]));
+    assert!(rt; are_over_bounds(1, &[7; 33]));
 }

@@ -1,15 +1,11 @@
 //! What a buffer holds after each refusal of the calls in place whose answer borrows it: no clause of theirs can say that.
-use super::encryption::{IV, PASSWORD, SEALED_KEY, key_parameters, with_key_length};
+use super::encryption::{IV, PASSWORD, SEALED_KEY, UNPADDED, key_parameters, with_key_length};
 use pkcs5::pbes2::{
     self, DES_CBC_OID, Kdf, PBKDF2_OID, Parameters, SCRYPT_OID, Salt, ScryptParams,
 };
 use pkcs5::{EncryptionScheme, Error, Result, pbes1};
 use std::alloc::Global;
 use std::process::Abort;
-
-/// What the ciphertext of the key decrypts to under another password: blocks with no padding.
-const UNPADDED: [u8; 64] =
-    *b"\x02\x5f\xa0\x4c\x90\x93\x29\x4a\x15\x3b\x5e\xd6\x3f\x95\x4d\x39\xa6\x37\x83\x49\x47\x77\x0d\x00\xcc\x60\x25\x62\xd0\xc5\x73\xa8\x81\xcc\x70\x17\x39\x42\x79\xe4\xda\x14\x68\x34\xe5\x6b\x36\x18\x77\x5d\x76\xd2\x4b\xed\x39\x18\x15\xd6\x2f\x09\xa5\x3a\xca\x45";
 
 /// A refusal, and the octets of the buffer behind it.
 type Left = (Option<Error>, [u8; 64]);

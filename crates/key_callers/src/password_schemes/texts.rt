@@ -1,11 +1,8 @@
 //! Texts: what is read of them, what is written, and what is refused. More schemes are lines of `tests/vectors/schemes.txt` and
 //! `tests/vectors/grammars.txt`.
-use crate::values::{octets, oid};
+use crate::values::{are_digits, laws_hold, octets, oid, written};
 use asn1_core::Error::{Malformed, OidUnknown};
-use der_core::{
-    AnyRef, Canonical, Compared, Decode, Encode, Null, OctetStringRef, Sequence, Spelled,
-    canon_is_read, exact_spellings, texts_are_read,
-};
+use der_core::{AnyRef, Canonical, Decode, Null, OctetStringRef, Sequence};
 use pkcs5::pbes2::{
     self, AES_128_CBC_OID, HMAC_WITH_SHA1_OID, HMAC_WITH_SHA256_OID, Kdf, PBES2_OID, PBKDF2_OID,
     Pbkdf2Params, Pbkdf2Prf, Salt,
@@ -24,94 +21,158 @@ pub const AES_256: &str =
 /// Parameters of PBKDF2, of salt `00` to `07` and 2,048 rounds.
 const PARAMS: &str = "301c0408000102030405060702020800300c06082a864886f70d02090500";
 
+/// The same with a stated key length of 32.
+const STATED_PARAMS: &str = "301f0408000102030405060702020800020120300c06082a864886f70d02090500";
+
+/// PBKDF2 with the first parameters.
+const KDF: &str =
+    "302906092a864886f70d01050c301c0408000102030405060702020800300c06082a864886f70d02090500";
+
 /// A cipher, of vector `a0` to `af`.
 const CIPHER: &str = "301d06096086480165030401020410a0a1a2a3a4a5a6a7a8a9aaabacadaeaf";
 
-/// Whether the text is read as this value, and the value is written as `written`.
+/// Parameters of PBES2: that function and that cipher.
+const PARAMETERS: &str =
+    "304a302906092a864886f70d01050c301c0408000102030405060702020800300c06082a864886f70d02090500301d06096086480165030401020410a0a1a2a3a4a5a6a7a8a9aaabacadaeaf";
+
+/// A pseudorandom function, HMAC over SHA-256.
+const PRF: &str = "300c06082a864886f70d02090500";
+
+/// Whether the text is read as this value, and the value is written as the text.
 fn is_kept<'a, T: Canonical<&'a [u8]> + PartialEq>(
     rt: &impl Abort,
     alloc: Global,
     text: &'a [u8],
-    written: &[u8],
     value: &T,
 ) -> bool {
     let read = T::from_der(text).expect(rt, "a text");
-    let found = read.to_der(alloc).expect(rt, "memory");
     let size = value.encoded_len().expect(rt, "a length");
-    read == *value && found.as_slice() == written && size.value as usize == written.len()
+    read == *value
+        && written(rt, alloc, &read).as_slice() == text
+        && size.value as usize == text.len()
+}
+
+/// The scheme of a text.
+fn scheme_of(rt: &impl Abort, text: &[u8]) -> EncryptionScheme {
+    EncryptionScheme::try_from(text).expect(rt, "a scheme")
+}
+
+/// The parameters of the first vector.
+fn aes_256_parameters(rt: &impl Abort, alloc: Global) -> pbes2::Parameters {
+    let text = octets(rt, alloc, AES_256);
+    *scheme_of(rt, text.as_slice()).pbes2().expect(rt, "PBES2")
 }
 
 #[test]
-fn the_parts_of_a_scheme(rt: HostRuntime) {
+fn a_scheme_is_read_and_written_back(rt: HostRuntime) {
     let alloc = rt.alloc();
     let text = octets(&rt, alloc, AES_256);
-    let scheme = EncryptionScheme::try_from(text.as_slice()).expect(&rt, "a scheme");
-    assert!(rt; is_kept(&rt, alloc, text.as_slice(), text.as_slice(), &scheme));
+    let scheme = scheme_of(&rt, text.as_slice());
+    assert!(rt; is_kept(&rt, alloc, text.as_slice(), &scheme));
     assert!(rt; scheme.oid() == PBES2_OID && PBES2_OID == oid(&rt, "1.2.840.113549.1.5.13"));
-    let parameters = scheme.pbes2().expect(&rt, "PBES2");
-    assert!(rt; EncryptionScheme::from(*parameters) == scheme);
-    assert!(rt; parameters.kdf.is_pbkdf2() && parameters.kdf.oid() == PBKDF2_OID);
+    let parameters = aes_256_parameters(&rt, alloc);
+    assert!(rt; EncryptionScheme::from(parameters) == scheme);
+}
+
+#[test]
+fn the_function_of_a_scheme(rt: HostRuntime) {
+    let kdf = aes_256_parameters(&rt, rt.alloc()).kdf;
+    assert!(rt; kdf.is_pbkdf2() && kdf.oid() == PBKDF2_OID && kdf.key_length() == None);
     let salt = [0x79, 0xd9, 0x82, 0xe7, 0x0d, 0xf9, 0x1a, 0x88];
-    let salt = Salt::try_from(&salt[..]).expect(&rt, "a salt");
     let params = Pbkdf2Params {
-        salt,
+        salt: Salt::try_from(&salt[..]).expect(&rt, "a salt"),
         iteration_count: 2048,
         key_length: None,
         prf: Pbkdf2Prf::HmacWithSha256,
     };
-    assert!(rt; parameters.kdf == Kdf::from(params) && parameters.kdf.key_length() == None);
-    assert!(rt; Pbkdf2Params::hmac_sha256(2048, salt.as_bytes()) == Ok(params));
-    let pbes2::EncryptionScheme::Aes256Cbc { iv } = parameters.encryption else {
+    assert!(rt; kdf == Kdf::from(params));
+    assert!(rt; Pbkdf2Params::hmac_sha256(2048, &salt) == Ok(params));
+}
+
+#[test]
+fn the_cipher_of_a_scheme(rt: HostRuntime) {
+    let alloc = rt.alloc();
+    let cipher = aes_256_parameters(&rt, alloc).encryption;
+    let pbes2::EncryptionScheme::Aes256Cbc { iv } = cipher else {
         panic!(rt; "AES-256");
     };
-    let iv_digits = "b2d02d78b2efd9dff694cf8e0af40925";
-    assert!(rt; &iv[..] == octets(&rt, alloc, iv_digits).as_slice());
+    assert!(rt; are_digits(&rt, alloc, &iv, "b2d02d78b2efd9dff694cf8e0af40925"));
+}
+
+/// Whether the text is that of no scheme, and refused so.
+fn is_no_scheme(rt: &impl Abort, alloc: Global, digits: &str, refused: asn1_core::Error) -> bool {
+    let text = octets(rt, alloc, digits);
+    EncryptionScheme::from_der(text.as_slice()) == Err(refused)
+        && EncryptionScheme::try_from(text.as_slice()) == Err(refused)
 }
 
 #[test]
 fn texts_of_no_scheme_are_refused(rt: HostRuntime) {
     let alloc = rt.alloc();
-    assert!(rt; EncryptionScheme::from_der(&[]) == Err(Malformed));
-    assert!(rt; EncryptionScheme::try_from(&[0x30, 0][..]) == Err(Malformed));
-    // RC2
-    let text = octets(
-        &rt,
-        alloc,
-        "304e06092a864886f70d01050d3041302906092a864886f70d01050c301c040832a0ae2e01bbe32902020800300c06082a864886f70d02090500301406082a864886f70d0302040897e8f53ab0aca359",
-    );
-    let oid = oid(&rt, "1.2.840.113549.3.2");
-    assert!(rt; EncryptionScheme::try_from(text.as_slice()) == Err(OidUnknown { oid }));
+    let rc2 = OidUnknown {
+        oid: oid(&rt, "1.2.840.113549.3.2"),
+    };
+    for (digits, refused) in [
+        ("", Malformed),
+        ("3000", Malformed),
+        (
+            "301b06092a864886f70d010502300e0408000102030405060702020800",
+            Malformed,
+        ),
+        (
+            "304e06092a864886f70d01050d3041302906092a864886f70d01050c301c040832a0ae2e01bbe32902020800300c06082a864886f70d02090500301406082a864886f70d0302040897e8f53ab0aca359",
+            rc2,
+        ),
+    ] {
+        assert!(rt; is_no_scheme(&rt, alloc, digits, refused), "{digits}");
+    }
+}
+
+/// Whether the text is that of no key derivation function, and refused so.
+fn is_no_kdf(rt: &impl Abort, alloc: Global, digits: &str, refused: asn1_core::Error) -> bool {
+    let text = octets(rt, alloc, digits);
+    Kdf::from_der(text.as_slice()) == Err(refused)
+}
+
+/// Whether the text is that of no cipher, and refused so.
+fn is_no_cipher(rt: &impl Abort, alloc: Global, digits: &str, refused: asn1_core::Error) -> bool {
+    let text = octets(rt, alloc, digits);
+    pbes2::EncryptionScheme::from_der(text.as_slice()) == Err(refused)
 }
 
 #[test]
 fn octets_behind_parameters_come_last_in_a_part_by_itself(rt: HostRuntime) {
     let alloc = rt.alloc();
-    let unknown = oid(&rt, "1.3.6.1.4.1.11591.4.12");
-    let gcm = oid(&rt, "2.16.840.1.101.3.4.1.26");
-    let text = octets(
-        &rt,
-        alloc,
-        "302b06092b06010401da47040c301c0408000102030405060702020800300c06082a864886f70d020905000500",
-    );
-    assert!(rt; Kdf::from_der(text.as_slice()) == Err(OidUnknown { oid: unknown }));
-    let text = octets(
-        &rt,
-        alloc,
-        "302b06092a864886f70d01050c301c0408000102030405060702020800300c06082a864886f70d020905000500",
-    );
-    assert!(rt; Kdf::from_der(text.as_slice()) == Err(Malformed));
-    let text = octets(
-        &rt,
-        alloc,
-        "301f060960864801650304011a0410a0a1a2a3a4a5a6a7a8a9aaabacadaeaf0500",
-    );
-    assert!(rt; pbes2::EncryptionScheme::from_der(text.as_slice()) == Err(OidUnknown { oid: gcm }));
-    let text = octets(
-        &rt,
-        alloc,
-        "301f060960864801650304012a0410a0a1a2a3a4a5a6a7a8a9aaabacadaeaf0500",
-    );
-    assert!(rt; pbes2::EncryptionScheme::from_der(text.as_slice()) == Err(Malformed));
+    let unknown = OidUnknown {
+        oid: oid(&rt, "1.3.6.1.4.1.11591.4.12"),
+    };
+    for (digits, refused) in [
+        (
+            "302b06092b06010401da47040c301c0408000102030405060702020800300c06082a864886f70d020905000500",
+            unknown,
+        ),
+        (
+            "302b06092a864886f70d01050c301c0408000102030405060702020800300c06082a864886f70d020905000500",
+            Malformed,
+        ),
+    ] {
+        assert!(rt; is_no_kdf(&rt, alloc, digits, refused));
+    }
+    let gcm = OidUnknown {
+        oid: oid(&rt, "2.16.840.1.101.3.4.1.26"),
+    };
+    for (digits, refused) in [
+        (
+            "301f060960864801650304011a0410a0a1a2a3a4a5a6a7a8a9aaabacadaeaf0500",
+            gcm,
+        ),
+        (
+            "301f060960864801650304012a0410a0a1a2a3a4a5a6a7a8a9aaabacadaeaf0500",
+            Malformed,
+        ),
+    ] {
+        assert!(rt; is_no_cipher(&rt, alloc, digits, refused));
+    }
 }
 
 #[test]
@@ -144,20 +205,35 @@ fn the_algorithm_of_a_prf(rt: HostRuntime) {
     assert!(rt; Pbkdf2Prf::try_from(bare) == Ok(Pbkdf2Prf::default()));
 }
 
+/// The cipher by itself.
+fn cipher(rt: &impl Abort, alloc: Global) -> pbes2::EncryptionScheme {
+    let text = octets(rt, alloc, CIPHER);
+    pbes2::EncryptionScheme::from_der(text.as_slice()).expect(rt, "a cipher")
+}
+
+/// Whether an algorithm is of AES-128 in CBC mode, with the vector of these digits.
+fn is_aes_128(
+    rt: &impl Abort,
+    alloc: Global,
+    algorithm: &AlgorithmIdentifierRef<'_>,
+    digits: &str,
+) -> bool {
+    let iv = octets(rt, alloc, digits);
+    let iv = OctetStringRef::new(iv.as_slice()).expect(rt, "a string");
+    algorithm.oid == AES_128_CBC_OID && algorithm.parameters == Some(AnyRef::from(iv))
+}
+
 #[test]
 fn the_algorithm_of_a_cipher(rt: HostRuntime) {
     let alloc = rt.alloc();
-    let text = octets(&rt, alloc, CIPHER);
-    let cipher = pbes2::EncryptionScheme::from_der(text.as_slice()).expect(&rt, "a cipher");
+    let cipher = cipher(&rt, alloc);
     let algorithm = AlgorithmIdentifierRef::try_from(&cipher).expect(&rt, "an algorithm");
-    let iv = octets(&rt, alloc, "a0a1a2a3a4a5a6a7a8a9aaabacadaeaf");
-    let iv = OctetStringRef::new(iv.as_slice()).expect(&rt, "a string");
-    assert!(rt; algorithm.oid == AES_128_CBC_OID && algorithm.parameters == Some(AnyRef::from(iv)));
+    assert!(rt; is_aes_128(&rt, alloc, &algorithm, "a0a1a2a3a4a5a6a7a8a9aaabacadaeaf"));
     assert!(rt; pbes2::EncryptionScheme::try_from(algorithm) == Ok(cipher));
 }
 
 #[test]
-fn algorithms_without_parameters_and_with_null(rt: HostRuntime) {
+fn algorithms_without_parameters(rt: HostRuntime) {
     let bare: AlgorithmIdentifierRef<'_> = AlgorithmIdentifier {
         oid: PBKDF2_OID,
         parameters: None,
@@ -165,73 +241,67 @@ fn algorithms_without_parameters_and_with_null(rt: HostRuntime) {
     assert!(rt; Kdf::try_from(bare) == Err(Malformed));
     assert!(rt; EncryptionScheme::try_from(bare) == Err(Malformed));
     assert!(rt; pbes2::EncryptionScheme::try_from(bare) == Err(Malformed));
-    let algorithm = AlgorithmIdentifier {
-        oid: PBES2_OID,
-        parameters: Some(AnyRef::from(Null)),
-    };
-    assert!(rt; Pbkdf2Prf::try_from(algorithm) == Err(OidUnknown { oid: PBES2_OID }));
-    assert!(rt; Kdf::try_from(algorithm) == Err(OidUnknown { oid: PBES2_OID }));
-    assert!(rt; EncryptionScheme::try_from(algorithm) == Err(Malformed));
-    assert!(rt; pbes2::Parameters::try_from(AnyRef::from(Null)) == Err(Malformed));
-    assert!(rt; Pbkdf2Params::try_from(AnyRef::from(Null)) == Err(Malformed));
 }
 
 #[test]
-fn each_part_by_itself(rt: HostRuntime) {
+fn algorithms_with_null(rt: HostRuntime) {
+    let null = AnyRef::from(Null);
+    let unknown = OidUnknown { oid: PBES2_OID };
+    let algorithm = AlgorithmIdentifier {
+        oid: PBES2_OID,
+        parameters: Some(null),
+    };
+    assert!(rt; Pbkdf2Prf::try_from(algorithm) == Err(unknown));
+    assert!(rt; Kdf::try_from(algorithm) == Err(unknown));
+    assert!(rt; EncryptionScheme::try_from(algorithm) == Err(Malformed));
+    assert!(rt; pbes2::Parameters::try_from(null) == Err(Malformed));
+    assert!(rt; Pbkdf2Params::try_from(null) == Err(Malformed));
+}
+
+/// Parameters of PBKDF2: salt `00` to `07`, 2,048 rounds of HMAC over SHA-256.
+fn params(rt: &impl Abort) -> Pbkdf2Params {
+    Pbkdf2Params::hmac_sha256(2048, &[0, 1, 2, 3, 4, 5, 6, 7]).expect(rt, "parameters")
+}
+
+#[test]
+fn a_salt_and_a_function_by_themselves(rt: HostRuntime) {
     let alloc = rt.alloc();
     let salt = Salt::new(&[0, 1, 2, 3, 4, 5, 6, 7]).expect(&rt, "a salt");
     let text = octets(&rt, alloc, "04080001020304050607");
-    assert!(rt; is_kept(&rt, alloc, text.as_slice(), text.as_slice(), &salt));
-    let text = octets(&rt, alloc, "300c06082a864886f70d02090500");
-    assert!(rt;
-        is_kept(
-            &rt,
-            alloc,
-            text.as_slice(),
-            text.as_slice(),
-            &Pbkdf2Prf::HmacWithSha256
-        )
-    );
-    let params = Pbkdf2Params::hmac_sha256(2048, salt.as_bytes()).expect(&rt, "parameters");
-    let text = octets(&rt, alloc, PARAMS);
-    assert!(rt; is_kept(&rt, alloc, text.as_slice(), text.as_slice(), &params));
-    let stated = Pbkdf2Params {
-        key_length: Some(32),
-        ..params
-    };
-    let text = octets(
-        &rt,
-        alloc,
-        "301f0408000102030405060702020800020120300c06082a864886f70d02090500",
-    );
-    assert!(rt; is_kept(&rt, alloc, text.as_slice(), text.as_slice(), &stated));
-    let kdf = Kdf::from(params);
-    let text = octets(
-        &rt,
-        alloc,
-        "302906092a864886f70d01050c301c0408000102030405060702020800300c06082a864886f70d02090500",
-    );
-    assert!(rt; is_kept(&rt, alloc, text.as_slice(), text.as_slice(), &kdf));
-    let text = octets(&rt, alloc, CIPHER);
-    let cipher = pbes2::EncryptionScheme::from_der(text.as_slice()).expect(&rt, "a cipher");
-    assert!(rt; is_kept(&rt, alloc, text.as_slice(), text.as_slice(), &cipher));
-    let text = octets(
-        &rt,
-        alloc,
-        "304a302906092a864886f70d01050c301c0408000102030405060702020800300c06082a864886f70d02090500301d06096086480165030401020410a0a1a2a3a4a5a6a7a8a9aaabacadaeaf",
-    );
-    let parameters = pbes2::Parameters {
-        kdf,
-        encryption: cipher,
-    };
-    assert!(rt; is_kept(&rt, alloc, text.as_slice(), text.as_slice(), &parameters));
+    assert!(rt; is_kept(&rt, alloc, text.as_slice(), &salt));
+    let text = octets(&rt, alloc, PRF);
+    assert!(rt; is_kept(&rt, alloc, text.as_slice(), &Pbkdf2Prf::HmacWithSha256));
 }
 
-/// The laws of a lawful type, at a value and a text.
-fn laws_hold<'a, T: Spelled<&'a [u8]> + Compared<&'a [u8]>>(text: &'a [u8], value: &T) {
-    texts_are_read::<&'a [u8], T>(text);
-    exact_spellings::<&'a [u8], T>(text, value);
-    canon_is_read::<&'a [u8], T>(value);
+#[test]
+fn parameters_of_pbkdf2_by_themselves(rt: HostRuntime) {
+    let alloc = rt.alloc();
+    let mut params = params(&rt);
+    let text = octets(&rt, alloc, PARAMS);
+    assert!(rt; is_kept(&rt, alloc, text.as_slice(), &params));
+    params.key_length = Some(32);
+    let text = octets(&rt, alloc, STATED_PARAMS);
+    assert!(rt; is_kept(&rt, alloc, text.as_slice(), &params));
+}
+
+#[test]
+fn pbkdf2_and_a_cipher_by_themselves(rt: HostRuntime) {
+    let alloc = rt.alloc();
+    let text = octets(&rt, alloc, KDF);
+    assert!(rt; is_kept(&rt, alloc, text.as_slice(), &Kdf::from(params(&rt))));
+    let text = octets(&rt, alloc, CIPHER);
+    assert!(rt; is_kept(&rt, alloc, text.as_slice(), &cipher(&rt, alloc)));
+}
+
+#[test]
+fn parameters_of_pbes2_by_themselves(rt: HostRuntime) {
+    let alloc = rt.alloc();
+    let parameters = pbes2::Parameters {
+        kdf: Kdf::from(params(&rt)),
+        encryption: cipher(&rt, alloc),
+    };
+    let text = octets(&rt, alloc, PARAMETERS);
+    assert!(rt; is_kept(&rt, alloc, text.as_slice(), &parameters));
 }
 
 /// Whether the tag of a type of SEQUENCEs is that of SEQUENCE.
@@ -256,14 +326,24 @@ fn the_laws_hold_of_these_types(rt: HostRuntime) {
     assert!(rt; is_sequence::<EncryptionScheme>() && is_sequence::<pbes2::Parameters>());
     assert!(rt; is_sequence::<Kdf>() && is_sequence::<pbes2::EncryptionScheme>());
     assert!(rt; is_sequence::<Pbkdf2Params>() && is_sequence::<Pbkdf2Prf>());
+}
+
+#[test]
+fn the_laws_hold_of_schemes(rt: HostRuntime) {
+    let text = octets(&rt, rt.alloc(), AES_256);
     texts_have_one_scheme();
     schemes_are_read_back();
-    schemes_have_texts(&scheme);
+    schemes_have_texts(&scheme_of(&rt, text.as_slice()));
+}
+
+fn is_printed(rt: &impl Abort, alloc: Global, error: Error, text: &str) -> bool {
+    error.to_string(alloc).expect(rt, "memory").as_str() == text
 }
 
 #[test]
 fn texts_of_refusals(rt: HostRuntime) {
     let alloc = rt.alloc();
+    let des = oid(&rt, "1.3.14.3.2.7");
     for (error, text) in [
         (
             Error::AlgorithmParametersInvalid { oid: PBKDF2_OID },
@@ -277,14 +357,11 @@ fn texts_of_refusals(rt: HostRuntime) {
         ),
         (Error::Rng, "random number generation failure"),
         (
-            Error::UnsupportedAlgorithm {
-                oid: oid(&rt, "1.3.14.3.2.7"),
-            },
+            Error::UnsupportedAlgorithm { oid: des },
             "PKCS#5 algorithm 1.3.14.3.2.7 is unsupported",
         ),
         (Error::Memory, "out of memory"),
     ] {
-        let printed = error.to_string(alloc).expect(&rt, "memory");
-        assert!(rt; printed.as_str() == text, "{text}");
+        assert!(rt; is_printed(&rt, alloc, error, text), "{text}");
     }
 }

@@ -72,21 +72,27 @@ pub fn sealed<K: EncodePrivateKey, D: Draw>(
     key.to_pkcs8_encrypted_der(alloc, draw, password)
 }
 
+/// The octets of that key.
+const KEY_OCTETS: &str = "042017ed9c73e9db649ec189a612831c5fc570238207c1aa9dfbd2c53e3ff5e5ea85";
+
 #[test]
-fn the_octets_of_a_key(rt: HostRuntime) {
+fn a_key_of_ones_own_has_the_octets(rt: HostRuntime) {
     let alloc = rt.alloc();
+    let expected = octets(&rt, alloc, KEY_OCTETS);
     let text = octets(&rt, alloc, KEY);
-    let expected = octets(
-        &rt,
-        alloc,
-        "042017ed9c73e9db649ec189a612831c5fc570238207c1aa9dfbd2c53e3ff5e5ea85",
-    );
     let key = loaded(alloc, text.as_slice()).expect(&rt, "a key");
     assert!(rt; key.octets.as_slice() == expected.as_slice());
     let document = octets(&rt, alloc, SEALED);
     let key: KeyOctets = opened(alloc, document.as_slice(), b"hunter42").expect(&rt, "a key");
     assert!(rt; key.octets.as_slice() == expected.as_slice());
+}
+
+#[test]
+fn the_octets_of_a_key_of_an_algorithm(rt: HostRuntime) {
+    let alloc = rt.alloc();
+    let text = octets(&rt, alloc, KEY);
     let ed25519 = oid(&rt, "1.3.101.112");
+    let expected = octets(&rt, alloc, KEY_OCTETS);
     assert!(rt; key_octets(ed25519, text.as_slice()) == Ok(expected.as_slice()));
     let other = key_octets(oid(&rt, "1.3.101.110"), text.as_slice());
     assert!(rt; other == Err(Error::PublicKey(spki::Error::OidUnknown { oid: ed25519 })));

@@ -1,9 +1,9 @@
 //! Private keys under passwords. More documents are lines of `tests/vectors/encrypted_keys.txt`.
 use super::KEY;
 use super::callers::sealed;
-use crate::values::{octets, oid};
+use crate::values::{are_digits, is_text, octets, oid};
 use asn1_core::Octets;
-use der_core::{Decode, Encode, OctetStringRef, canon_is_read, exact_spellings, texts_are_read};
+use der_core::{OctetStringRef, canon_is_read, exact_spellings, texts_are_read};
 use outside::DrawnBytes;
 use pkcs5::pbes2;
 use pkcs8::{
@@ -17,33 +17,43 @@ use std::process::Abort;
 pub const SEALED: &str =
     "30819b305706092a864886f70d01050d304a302906092a864886f70d01050c301c040879d982e70df91a8802020800300c06082a864886f70d02090500301d060960864801650304012a0410b2d02d78b2efd9dff694cf8e0af409250440d0cd6c770f4bb87176422305c17401809e226674ce74185d221bfdaa95069890c8882fce02b05d41bcbf54b035595bcd4154b32593708469b86aacf8815a7b2b";
 
+/// The document of a text.
+fn read<'a>(rt: &impl Abort, text: &'a [u8]) -> EncryptedPrivateKeyInfoRef<'a> {
+    match EncryptedPrivateKeyInfoRef::try_from(text) {
+        Ok(info) => info,
+        Err(_) => panic!(rt; "no document"),
+    }
+}
+
 /// The parameters of a document, which is under PBES2.
 fn parameters(rt: &impl Abort, info: &EncryptedPrivateKeyInfoRef<'_>) -> pbes2::Parameters {
     *info.encryption_algorithm.pbes2().expect(rt, "PBES2")
 }
 
-/// Whether the document opens to the key under the password, and the key under the same parameters is the document again.
-fn opens_and_seals(rt: &impl Abort, alloc: Global, document: &str, key: &str) -> bool {
-    let document = octets(rt, alloc, document);
-    let key = octets(rt, alloc, key);
-    let Ok(info) = EncryptedPrivateKeyInfoRef::try_from(document.as_slice()) else {
-        return false;
-    };
+/// Whether the document opens to the key under the password, and is written back as it was.
+fn opens(rt: &impl Abort, alloc: Global, document: &str, key: &str) -> bool {
+    let text = octets(rt, alloc, document);
+    let info = read(rt, text.as_slice());
     let opened = info.decrypt(alloc, b"hunter42").expect(rt, "a key");
-    let read = PrivateKeyInfoRef::try_from(key.as_slice()).expect(rt, "a private key");
-    let sealed = read
-        .encrypt_with_params(alloc, parameters(rt, &info), b"hunter42")
+    are_digits(rt, alloc, opened.as_bytes(), key) && is_text(rt, alloc, &info, document)
+}
+
+/// Whether the key under the parameters of the document is the document.
+fn seals(rt: &impl Abort, alloc: Global, document: &str, key: &str) -> bool {
+    let text = octets(rt, alloc, document);
+    let parameters = parameters(rt, &read(rt, text.as_slice()));
+    let key = octets(rt, alloc, key);
+    let sealed = super::read(rt, key.as_slice())
+        .encrypt_with_params(alloc, parameters, b"hunter42")
         .expect(rt, "a document");
-    let written = info.to_der(alloc).expect(rt, "memory");
-    opened.as_bytes() == key.as_slice()
-        && sealed.as_bytes() == document.as_slice()
-        && written.as_slice() == document.as_slice()
+    sealed.as_bytes() == text.as_slice()
 }
 
 #[test]
 fn a_document_of_another_program_is_opened_and_made_again(rt: HostRuntime) {
     let alloc = rt.alloc();
-    assert!(rt; opens_and_seals(&rt, alloc, SEALED, KEY));
+    assert!(rt; opens(&rt, alloc, SEALED, KEY));
+    assert!(rt; seals(&rt, alloc, SEALED, KEY));
 }
 
 /// That key under `hunter42` by scrypt and AES-256-CBC, with the octets 00 to 0f for the vector and 10 to 1f for the salt, by Python's
@@ -60,77 +70,108 @@ fn drawing(rt: &impl Abort, alloc: Global) -> DrawnBytes {
 
 /// Whether a call made that document.
 fn is_by_scrypt(rt: &impl Abort, alloc: Global, document: Result<SecretDocument>) -> bool {
-    let expected = octets(rt, alloc, BY_SCRYPT);
-    match document {
-        Ok(document) => document.as_bytes() == expected.as_slice(),
-        Err(_) => false,
-    }
+    let document = document.expect(rt, "a document");
+    are_digits(rt, alloc, document.as_bytes(), BY_SCRYPT)
+}
+
+/// What `encrypt` makes of a key.
+fn by_encrypt(
+    rt: &impl Abort,
+    alloc: Global,
+    key: &PrivateKeyInfoRef<'_>,
+) -> Result<SecretDocument> {
+    key.encrypt(alloc, &mut drawing(rt, alloc), b"hunter42")
+}
+
+/// What `encrypt_with_rng` makes of it.
+fn by_generator(
+    rt: &impl Abort,
+    alloc: Global,
+    key: &PrivateKeyInfoRef<'_>,
+) -> Result<SecretDocument> {
+    key.encrypt_with_rng(alloc, &mut drawing(rt, alloc), b"hunter42")
+}
+
+/// What is made of it as a key of any type.
+fn by_key_type(
+    rt: &impl Abort,
+    alloc: Global,
+    key: &PrivateKeyInfoRef<'_>,
+) -> Result<SecretDocument> {
+    sealed(alloc, &mut drawing(rt, alloc), key, b"hunter42")
 }
 
 #[test]
 fn a_key_is_sealed_under_drawn_octets(rt: HostRuntime) {
     let alloc = rt.alloc();
     let text = octets(&rt, alloc, KEY);
-    let key = PrivateKeyInfoRef::try_from(text.as_slice()).expect(&rt, "a private key");
-    let mut draw = drawing(&rt, alloc);
-    let document = key.encrypt(alloc, &mut draw, b"hunter42");
-    assert!(rt; is_by_scrypt(&rt, alloc, document));
-    let mut draw = drawing(&rt, alloc);
-    let document = key.encrypt_with_rng(alloc, &mut draw, b"hunter42");
-    assert!(rt; is_by_scrypt(&rt, alloc, document));
-    let mut draw = drawing(&rt, alloc);
-    let document = sealed(alloc, &mut draw, &key, b"hunter42");
-    assert!(rt; is_by_scrypt(&rt, alloc, document));
-    let document = octets(&rt, alloc, BY_SCRYPT);
-    let Ok(info) = EncryptedPrivateKeyInfoRef::try_from(document.as_slice()) else {
-        panic!(rt; "a document");
-    };
-    let opened = info.decrypt(alloc, b"hunter42").expect(&rt, "a key");
-    assert!(rt; opened.as_bytes() == text.as_slice());
+    let key = super::read(&rt, text.as_slice());
+    assert!(rt; is_by_scrypt(&rt, alloc, by_encrypt(&rt, alloc, &key)));
+    assert!(rt; is_by_scrypt(&rt, alloc, by_generator(&rt, alloc, &key)));
+    assert!(rt; is_by_scrypt(&rt, alloc, by_key_type(&rt, alloc, &key)));
 }
 
-/// Whether a document in memory of its own, a copy of it and one from the borrowed form are that document.
-fn are_owned(alloc: Global, document: &[u8]) -> bool {
-    let Ok(info) = EncryptedPrivateKeyInfoRef::try_from(document) else {
-        return false;
-    };
-    let Ok(owned) = EncryptedPrivateKeyInfoOwned::from_der(alloc, document) else {
-        return false;
-    };
-    let Ok(copy) = owned.try_clone(alloc) else {
-        return false;
-    };
-    let Ok(other) = info.ref_to_owned(alloc) else {
-        return false;
-    };
-    owned.owned_to_ref() == info && copy == owned && other == owned
+#[test]
+fn a_document_by_scrypt_is_opened(rt: HostRuntime) {
+    assert!(rt; opens(&rt, rt.alloc(), BY_SCRYPT, KEY));
+}
+
+/// The document of a text, in memory of its own.
+fn owned(rt: &impl Abort, alloc: Global, text: &[u8]) -> EncryptedPrivateKeyInfoOwned {
+    EncryptedPrivateKeyInfoOwned::from_der(alloc, text).expect(rt, "a document")
+}
+
+/// Whether an owned document is this borrowed one.
+fn is_borrowed(
+    owned: &EncryptedPrivateKeyInfoOwned,
+    info: &EncryptedPrivateKeyInfoRef<'_>,
+) -> bool {
+    owned.owned_to_ref() == *info
+}
+
+/// Whether an owned document is what is made of this borrowed one.
+fn is_made_owned(
+    rt: &impl Abort,
+    alloc: Global,
+    owned: &EncryptedPrivateKeyInfoOwned,
+    info: &EncryptedPrivateKeyInfoRef<'_>,
+) -> bool {
+    info.ref_to_owned(alloc).expect(rt, "memory") == *owned
+}
+
+/// Whether a copy of an owned document is equal to it.
+fn is_copied(rt: &impl Abort, alloc: Global, owned: &EncryptedPrivateKeyInfoOwned) -> bool {
+    owned.try_clone(alloc).expect(rt, "memory") == *owned
 }
 
 #[test]
 fn documents_in_memory_of_their_own_are_equal(rt: HostRuntime) {
     let alloc = rt.alloc();
     let text = octets(&rt, alloc, SEALED);
-    assert!(rt; are_owned(alloc, text.as_slice()));
+    let info = read(&rt, text.as_slice());
+    let owned = owned(&rt, alloc, text.as_slice());
+    assert!(rt; is_borrowed(&owned, &info));
+    assert!(rt; is_made_owned(&rt, alloc, &owned, &info));
+    assert!(rt; is_copied(&rt, alloc, &owned));
 }
 
 /// What decrypting these octets under a password is refused for.
 fn refusal(alloc: Global, document: &[u8], password: &[u8]) -> Option<Error> {
-    let info = match EncryptedPrivateKeyInfoRef::try_from(document) {
-        Ok(info) => info,
-        Err(e) => return Some(e),
-    };
-    match info.decrypt(alloc, password) {
-        Ok(_) => None,
+    match EncryptedPrivateKeyInfoRef::try_from(document) {
+        Ok(info) => info.decrypt(alloc, password).err(),
         Err(e) => Some(e),
     }
 }
 
-#[test]
-fn another_password_opens_nothing(rt: HostRuntime) {
-    let alloc = rt.alloc();
-    let failed = Some(Error::EncryptedPrivateKey(pkcs5::Error::DecryptFailed));
-    let text = octets(&rt, alloc, SEALED);
-    assert!(rt; refusal(alloc, text.as_slice(), b"hunter43") == failed);
+/// Whether decrypting the document of these digits is refused for this.
+fn is_refused(
+    rt: &impl Abort,
+    alloc: Global,
+    digits: &str,
+    password: &[u8],
+    refused: Error,
+) -> bool {
+    refusal(alloc, octets(rt, alloc, digits).as_slice(), password) == Some(refused)
 }
 
 /// Octets under `hunter42` in two rounds, by the package `cryptography` of Python: an OCTET STRING, a SEQUENCE and an octet more, and an
@@ -152,15 +193,50 @@ const OTHER_FUNCTION: &str =
     "308193304f06092a864886f70d01050d3042302106092b06010401da47040c30140408e6211e2348ad69e002024000020108020101301d060960864801650304012a04109bd0a6251f2254f9fd5963887c27cf010440cc62ba773c0f495fab3668e4fcefcdb08e78a0ee15e0a15013f62abe08daa742065eeb366d6e6c98cc3b0e7e69bdc861c88afeb8f03dba1e2c6d99d06d17360c";
 
 #[test]
-fn what_is_opened_is_one_sequence(rt: HostRuntime) {
+fn documents_that_are_refused(rt: HostRuntime) {
     let alloc = rt.alloc();
-    let malformed = Some(Error::Asn1(asn1_core::Error::Malformed));
-    for document in [NO_SEQUENCE, LEFT_OVER] {
-        let text = octets(&rt, alloc, document);
-        assert!(rt; refusal(alloc, text.as_slice(), b"hunter42") == malformed);
+    let malformed = Error::Asn1(asn1_core::Error::Malformed);
+    let oid = oid(&rt, "1.3.6.1.4.1.11591.4.12");
+    for (digits, refused) in [
+        (NO_SEQUENCE, malformed),
+        (LEFT_OVER, malformed),
+        ("", malformed),
+        ("3000", malformed),
+        (KEY, malformed),
+        (
+            OTHER_FUNCTION,
+            Error::Asn1(asn1_core::Error::OidUnknown { oid }),
+        ),
+    ] {
+        assert!(rt;
+            is_refused(&rt, alloc, digits, b"hunter42", refused),
+            "{digits}"
+        );
     }
-    let text = octets(&rt, alloc, STATED_KEY);
-    assert!(rt; refusal(alloc, text.as_slice(), b"hunter42").is_none());
+    let failed = Error::EncryptedPrivateKey(pkcs5::Error::DecryptFailed);
+    assert!(rt; is_refused(&rt, alloc, SEALED, b"hunter43", failed));
+}
+
+#[test]
+fn a_document_that_is_cut_is_refused(rt: HostRuntime) {
+    let alloc = rt.alloc();
+    let sealed = octets(&rt, alloc, SEALED);
+    let cut = &sealed[..sealed.len().saturating_sub(1)];
+    let malformed = Error::Asn1(asn1_core::Error::Malformed);
+    assert!(rt; refusal(alloc, cut, b"hunter42") == Some(malformed));
+}
+
+/// Whether encrypting the key under the parameters of a document is refused for this.
+fn cannot_seal(rt: &impl Abort, alloc: Global, document: &str, refused: Error) -> bool {
+    let text = octets(rt, alloc, document);
+    let parameters = parameters(rt, &read(rt, text.as_slice()));
+    let key = octets(rt, alloc, KEY);
+    let sealed = super::read(rt, key.as_slice()).encrypt_with_params(
+        alloc,
+        parameters,
+        b"hunter42",
+    );
+    sealed.err() == Some(refused)
 }
 
 #[test]
@@ -168,62 +244,30 @@ fn a_stated_length_is_that_of_the_ciphers_key(rt: HostRuntime) {
     let alloc = rt.alloc();
     let oid = pbes2::PBKDF2_OID;
     let invalid = Error::EncryptedPrivateKey(pkcs5::Error::AlgorithmParametersInvalid { oid });
-    let text = octets(&rt, alloc, SHORTER_KEY);
-    assert!(rt; refusal(alloc, text.as_slice(), b"hunter42") == Some(invalid));
-    assert!(rt; cannot_seal(&rt, alloc, text.as_slice(), invalid));
-}
-
-/// Whether encrypting the key under the parameters of a document is refused for this.
-fn cannot_seal(rt: &impl Abort, alloc: Global, document: &[u8], refusal: Error) -> bool {
-    let Ok(info) = EncryptedPrivateKeyInfoRef::try_from(document) else {
-        return false;
-    };
-    let key = octets(rt, alloc, KEY);
-    let key = PrivateKeyInfoRef::try_from(key.as_slice()).expect(rt, "a private key");
-    match key.encrypt_with_params(alloc, parameters(rt, &info), b"hunter42") {
-        Ok(_) => false,
-        Err(e) => e == refusal,
-    }
+    assert!(rt; is_refused(&rt, alloc, SHORTER_KEY, b"hunter42", invalid));
+    assert!(rt; cannot_seal(&rt, alloc, SHORTER_KEY, invalid));
+    let stated = octets(&rt, alloc, STATED_KEY);
+    assert!(rt; refusal(alloc, stated.as_slice(), b"hunter42").is_none());
 }
 
 #[test]
-fn texts_that_are_no_document_are_refused(rt: HostRuntime) {
+fn an_empty_ciphertext_is_another_document(rt: HostRuntime) {
     let alloc = rt.alloc();
-    let sealed = octets(&rt, alloc, SEALED);
-    let cut = &sealed[..sealed.len().saturating_sub(1)];
-    let malformed = Some(Error::Asn1(asn1_core::Error::Malformed));
-    assert!(rt; refusal(alloc, cut, b"hunter42") == malformed);
-    assert!(rt; refusal(alloc, &[], b"hunter42") == malformed);
-    assert!(rt; refusal(alloc, &[0x30, 0], b"hunter42") == malformed);
-    let key = octets(&rt, alloc, KEY);
-    assert!(rt; refusal(alloc, key.as_slice(), b"hunter42") == malformed);
-    let oid = oid(&rt, "1.3.6.1.4.1.11591.4.12");
-    let unknown = Some(Error::Asn1(asn1_core::Error::OidUnknown { oid }));
-    let other = octets(&rt, alloc, OTHER_FUNCTION);
-    assert!(rt; refusal(alloc, other.as_slice(), b"hunter42") == unknown);
-}
-
-/// Whether the laws hold at a document, and one with an empty ciphertext is another and does not open.
-fn is_lawful(alloc: Global, document: &[u8]) -> bool {
-    let Ok(info) = EncryptedPrivateKeyInfoRef::try_from(document) else {
-        return false;
-    };
-    let Ok(encrypted_data) = OctetStringRef::new(&[]) else {
-        return false;
-    };
-    texts_are_read::<&[u8], EncryptedPrivateKeyInfoRef<'_>>(document);
-    exact_spellings::<&[u8], EncryptedPrivateKeyInfoRef<'_>>(document, &info);
-    canon_is_read::<&[u8], EncryptedPrivateKeyInfoRef<'_>>(&info);
+    let text = octets(&rt, alloc, SEALED);
+    let info = read(&rt, text.as_slice());
     let empty = EncryptedPrivateKeyInfo {
         encryption_algorithm: info.encryption_algorithm,
-        encrypted_data,
+        encrypted_data: OctetStringRef::new(&[]).expect(&rt, "a string"),
     };
-    empty != info && info == info && empty.decrypt(alloc, b"hunter42").is_err()
+    assert!(rt; empty != info && info == info);
+    assert!(rt; empty.decrypt(alloc, b"hunter42").is_err());
 }
 
 #[test]
 fn laws_of_documents_at_concrete_types(rt: HostRuntime) {
-    let alloc = rt.alloc();
-    let sealed = octets(&rt, alloc, SEALED);
-    assert!(rt; is_lawful(alloc, sealed.as_slice()));
+    let text = octets(&rt, rt.alloc(), SEALED);
+    let info = read(&rt, text.as_slice());
+    texts_are_read::<&[u8], EncryptedPrivateKeyInfoRef<'_>>(text.as_slice());
+    exact_spellings::<&[u8], EncryptedPrivateKeyInfoRef<'_>>(text.as_slice(), &info);
+    canon_is_read::<&[u8], EncryptedPrivateKeyInfoRef<'_>>(&info);
 }

@@ -1,7 +1,7 @@
 //! Texts and numbers that are refused, and how refusals are printed.
 use super::{KEY, WITH_PUBLIC_KEY, is_written};
-use crate::values::{octets, oid};
-use der_core::{Decode, Encode};
+use crate::values::{octets, oid, written};
+use der_core::Decode;
 use pkcs8::{Error, KeyError, PrivateKeyInfoRef, Version};
 use std::alloc::Global;
 use std::process::Abort;
@@ -10,7 +10,7 @@ const MALFORMED: asn1_core::Error = asn1_core::Error::Malformed;
 
 fn is_malformed(rt: &impl Abort, alloc: Global, digits: &str) -> bool {
     let text = octets(rt, alloc, digits);
-    PrivateKeyInfoRef::try_from(text.as_slice()) == Err(Error::Asn1(MALFORMED))
+    PrivateKeyInfoRef::try_from(text.as_slice()).err() == Some(Error::Asn1(MALFORMED))
 }
 
 #[test]
@@ -65,22 +65,32 @@ fn texts_of_no_private_key(rt: HostRuntime) {
 }
 
 #[test]
-fn versions_are_told(rt: HostRuntime) {
+fn a_version_tells_of_a_public_key(rt: HostRuntime) {
     let alloc = rt.alloc();
     // the version changed in each of the two texts, and nothing else
     let key =
         "302e020101300506032b65700422042017ed9c73e9db649ec189a612831c5fc570238207c1aa9dfbd2c53e3ff5e5ea85";
-    assert!(rt; is_written(&rt, alloc, KEY, KEY) && is_malformed(&rt, alloc, key));
-    let mut text = octets(&rt, alloc, WITH_PUBLIC_KEY);
-    assert!(rt; PrivateKeyInfoRef::try_from(text.as_slice()).is_ok() && text.len() == 83);
-    text[4] = 0;
-    assert!(rt; PrivateKeyInfoRef::try_from(text.as_slice()) == Err(Error::Asn1(MALFORMED)));
+    let with_public_key =
+        "3051020100300506032b65700422042017ed9c73e9db649ec189a612831c5fc570238207c1aa9dfbd2c53e3ff5e5ea858121004d29167f3f1912a6f7adfa293a051a15c05ec67b8f17267b1c5550dce853bd0d";
+    assert!(rt; is_written(&rt, alloc, KEY, KEY));
+    assert!(rt; is_malformed(&rt, alloc, key));
+    assert!(rt; is_written(&rt, alloc, WITH_PUBLIC_KEY, WITH_PUBLIC_KEY));
+    assert!(rt; is_malformed(&rt, alloc, with_public_key));
+}
+
+#[test]
+fn versions_have_numbers(rt: HostRuntime) {
+    let alloc = rt.alloc();
     for (number, version) in [(0, Version::V1), (1, Version::V2)] {
         assert!(rt; Version::try_from(number) == Ok(version) && u8::from(version) == number);
-        let written = version.to_der(alloc).expect(&rt, "memory");
-        assert!(rt; written.as_slice() == &[2, 1, number][..]);
-        assert!(rt; Version::from_der(written.as_slice()) == Ok(version));
+        let text = written(&rt, alloc, &version);
+        assert!(rt; text.as_slice() == &[2, 1, number][..]);
+        assert!(rt; Version::from_der(text.as_slice()) == Ok(version));
     }
+}
+
+#[test]
+fn other_numbers_are_no_versions(rt: HostRuntime) {
     assert!(rt; Version::try_from(2) == Err(Error::Asn1(MALFORMED)));
     assert!(rt; Version::from_der(&[2, 1, 2]) == Err(MALFORMED));
     assert!(rt; Version::from_der(&[4, 1, 1]) == Err(MALFORMED));
@@ -128,22 +138,34 @@ fn texts_of_refusals(rt: HostRuntime) {
 
 #[test]
 fn refusals_keep_their_cause(rt: HostRuntime) {
-    assert!(rt;
-        Error::from(asn1_core::Error::Overlength) == Error::Asn1(asn1_core::Error::Overlength)
-    );
+    let overlength = asn1_core::Error::Overlength;
+    let malformed = spki::Error::KeyMalformed;
+    assert!(rt; Error::from(overlength) == Error::Asn1(overlength));
     assert!(rt; Error::from(pkcs5::Error::Rng) == Error::EncryptedPrivateKey(pkcs5::Error::Rng));
-    assert!(rt;
-        Error::from(spki::Error::KeyMalformed) == Error::PublicKey(spki::Error::KeyMalformed)
-    );
+    assert!(rt; Error::from(malformed) == Error::PublicKey(malformed));
     assert!(rt; Error::from(KeyError::TooLong) == Error::KeyMalformed(KeyError::TooLong));
+}
+
+#[test]
+fn refused_memory_is_one_error(rt: HostRuntime) {
     assert!(rt; Error::from(asn1_core::Error::Memory) == Error::Memory);
     assert!(rt; Error::from(pkcs5::Error::Memory) == Error::Memory);
     assert!(rt; Error::from(spki::Error::Memory) == Error::Memory);
+}
+
+#[test]
+fn refusals_as_those_of_a_public_key(rt: HostRuntime) {
     let missing = spki::Error::AlgorithmParametersMissing;
-    assert!(rt; spki::Error::from(Error::Asn1(MALFORMED)) == spki::Error::Asn1(MALFORMED));
-    assert!(rt; spki::Error::from(Error::PublicKey(missing)) == missing);
-    assert!(rt; spki::Error::from(Error::Memory) == spki::Error::Memory);
-    assert!(rt; spki::Error::from(Error::ParametersMalformed) == spki::Error::KeyMalformed);
-    let failed = Error::EncryptedPrivateKey(pkcs5::Error::DecryptFailed);
-    assert!(rt; spki::Error::from(failed) == spki::Error::KeyMalformed);
+    for (error, expected) in [
+        (Error::Asn1(MALFORMED), spki::Error::Asn1(MALFORMED)),
+        (Error::PublicKey(missing), missing),
+        (Error::Memory, spki::Error::Memory),
+        (Error::ParametersMalformed, spki::Error::KeyMalformed),
+        (
+            Error::EncryptedPrivateKey(pkcs5::Error::DecryptFailed),
+            spki::Error::KeyMalformed,
+        ),
+    ] {
+        assert!(rt; spki::Error::from(error) == expected);
+    }
 }

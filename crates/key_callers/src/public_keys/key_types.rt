@@ -4,16 +4,17 @@ ghost use Rattle.asn1_core.specs.declared.error.Error.TheVariants as below;
 ghost use Rattle.der_core.specs.BitString.{seen_bits};
 ghost use Rattle.spki.specs.declared.error.Error.TheVariants as errors;
 
-use super::{EC, P_256_ALGORITHM, PUB};
-use crate::values::octets;
+use super::algorithms::owned_algorithm;
+use super::{EC, P_256_ALGORITHM, PUB, read};
+use crate::values::{are_digits, octets};
 use asn1_core::ObjectIdentifier;
 use der_core::{BitString, Document, Encode, Null};
 use sha2::{Digest, Sha256};
 use spki::{
-    AlgorithmIdentifier, AlgorithmIdentifierOwned, AssociatedAlgorithmIdentifier, DecodePublicKey,
-    DigestWriter, DynAssociatedAlgorithmIdentifier, DynSignatureAlgorithmIdentifier,
-    EncodePublicKey, Error, Result, SignatureAlgorithmIdentifier, SignatureBitStringEncoding,
-    SubjectPublicKeyInfoOwned, SubjectPublicKeyInfoRef,
+    AlgorithmIdentifier, AssociatedAlgorithmIdentifier, DecodePublicKey, DigestWriter,
+    DynAssociatedAlgorithmIdentifier, DynSignatureAlgorithmIdentifier, EncodePublicKey, Error,
+    Result, SignatureAlgorithmIdentifier, SignatureBitStringEncoding, SubjectPublicKeyInfoOwned,
+    SubjectPublicKeyInfoRef,
 };
 use std::alloc::Global;
 use std::fs;
@@ -21,7 +22,7 @@ use std::process::Abort;
 use std::rt::Files;
 
 /// A key that keeps its text.
-#[derive(Debug, PartialEq, Eq, Drop)]
+#[derive(PartialEq, Drop)]
 struct KeptKey {
     document: Document,
 }
@@ -139,66 +140,105 @@ impl SignatureAlgorithmIdentifier for KeptKey {
     };
 }
 
-/// Whether the public key of this text goes into a kept key and out of it as it was, in memory and through a file.
-fn is_kept_through<R: Abort + Files>(rt: &R, alloc: Global, digits: &str, path: &str) -> bool {
+/// The kept key of a text.
+fn kept(rt: &impl Abort, alloc: Global, digits: &str) -> KeptKey {
     let text = octets(rt, alloc, digits);
-    let key = KeptKey::from_public_key_der(alloc, text.as_slice()).expect(rt, "a key");
-    let document = key.to_public_key_der(alloc).expect(rt, "memory");
+    KeptKey::from_public_key_der(alloc, text.as_slice()).expect(rt, "a key")
+}
+
+/// Whether the kept key of a text is stored as the text.
+fn is_stored_again(rt: &impl Abort, alloc: Global, digits: &str) -> bool {
+    let document = kept(rt, alloc, digits)
+        .to_public_key_der(alloc)
+        .expect(rt, "memory");
+    are_digits(rt, alloc, document.as_bytes(), digits)
+}
+
+/// Whether it comes back out of a file.
+fn is_read_back<R: Abort + Files>(rt: &R, alloc: Global, digits: &str, path: &str) -> bool {
+    let key = kept(rt, alloc, digits);
     let written = key.write_public_key_der_file(rt, alloc, path);
-    let read = KeptKey::read_public_key_der_file(rt, alloc, path);
-    let stored = SubjectPublicKeyInfoOwned::from_key(alloc, &key).expect(rt, "a public key");
-    let loaded = SubjectPublicKeyInfoOwned::from_public_key_der(alloc, text.as_slice());
-    document.as_bytes() == text.as_slice()
-        && written.is_ok()
-        && read == Ok(key)
-        && loaded == Ok(stored)
+    let read = KeptKey::read_public_key_der_file(rt, alloc, path).expect(rt, "a key");
+    written.is_ok() && read == key
+}
+
+/// Whether it gives the public key of the text.
+fn gives_public_key(rt: &impl Abort, alloc: Global, digits: &str) -> bool {
+    let text = octets(rt, alloc, digits);
+    let key = kept(rt, alloc, digits);
+    let given = SubjectPublicKeyInfoOwned::from_key(alloc, &key).expect(rt, "a public key");
+    let expected = SubjectPublicKeyInfoOwned::from_public_key_der(alloc, text.as_slice());
+    given == expected.expect(rt, "a public key")
 }
 
 #[test]
 fn a_kept_key_comes_back_equal(rt: HostRuntime) {
     let alloc = rt.alloc();
     let path = "spki_kept_key.der";
-    assert!(rt; is_kept_through(&rt, alloc, PUB, path));
-    assert!(rt; is_kept_through(&rt, alloc, EC, path));
-    assert!(rt; fs::write(&rt, path, &[0x30, 0][..]).is_ok());
-    let malformed = Err(Error::Asn1(asn1_core::Error::Malformed));
-    assert!(rt; KeptKey::read_public_key_der_file(&rt, alloc, path) == malformed);
+    for digits in [PUB, EC] {
+        assert!(rt; is_stored_again(&rt, alloc, digits));
+        assert!(rt; is_read_back(&rt, alloc, digits, path));
+        assert!(rt; gives_public_key(&rt, alloc, digits));
+    }
     assert!(rt; fs::remove_file(&rt, path).is_ok());
-    let no_file = Err(Error::Asn1(asn1_core::Error::File));
-    assert!(rt; KeptKey::read_public_key_der_file(&rt, alloc, path) == no_file);
-    let text = octets(&rt, alloc, PUB);
-    let key = KeptKey::from_public_key_der(alloc, text.as_slice()).expect(&rt, "a key");
+}
+
+#[test]
+fn a_text_of_no_key_is_refused(rt: HostRuntime) {
+    let alloc = rt.alloc();
+    let path = "spki_no_key.der";
+    let malformed = Some(Error::Asn1(asn1_core::Error::Malformed));
+    assert!(rt; KeptKey::from_public_key_der(alloc, &[0x30, 0]).err() == malformed);
+    assert!(rt; fs::write(&rt, path, &[0x30, 0][..]).is_ok());
+    assert!(rt; KeptKey::read_public_key_der_file(&rt, alloc, path).err() == malformed);
+    assert!(rt; fs::remove_file(&rt, path).is_ok());
+}
+
+#[test]
+fn a_missing_file_or_folder_is_refused(rt: HostRuntime) {
+    let alloc = rt.alloc();
+    let no_file = Error::Asn1(asn1_core::Error::File);
+    let read = KeptKey::read_public_key_der_file(&rt, alloc, "spki_no_such_key.der");
+    assert!(rt; read.err() == Some(no_file));
+    let key = kept(&rt, alloc, PUB);
     let written = key.write_public_key_der_file(&rt, alloc, "no_such_folder/key.der");
-    assert!(rt; written == Err(Error::Asn1(asn1_core::Error::File)));
-    assert!(rt; KeptKey::from_public_key_der(alloc, &[0x30, 0]) == malformed);
+    assert!(rt; written == Err(no_file));
 }
 
 #[test]
 fn algorithms_of_a_type(rt: HostRuntime) {
     let alloc = rt.alloc();
-    let text = octets(&rt, alloc, PUB);
-    let key = KeptKey::from_public_key_der(alloc, text.as_slice()).expect(&rt, "a key");
-    let text = octets(&rt, alloc, P_256_ALGORITHM);
-    let expected = AlgorithmIdentifierOwned::from_der(alloc, text.as_slice());
-    assert!(rt; key.algorithm_identifier(alloc) == expected);
-    let text = octets(&rt, alloc, "300a06082a8648ce3d040302");
-    let expected = AlgorithmIdentifierOwned::from_der(alloc, text.as_slice());
-    assert!(rt; key.signature_algorithm_identifier(alloc) == expected);
+    let key = kept(&rt, alloc, PUB);
+    let found = key.algorithm_identifier(alloc).expect(&rt, "an algorithm");
+    assert!(rt; found == owned_algorithm(&rt, alloc, P_256_ALGORITHM));
+    let found = key
+        .signature_algorithm_identifier(alloc)
+        .expect(&rt, "an algorithm");
+    assert!(rt; found == owned_algorithm(&rt, alloc, "300a06082a8648ce3d040302"));
+}
+
+#[test]
+fn the_bits_of_a_signature(rt: HostRuntime) {
     let bits = KeptSignature([1, 2])
-        .to_bitstring(alloc)
+        .to_bitstring(rt.alloc())
         .expect(&rt, "memory");
     assert!(rt; bits.unused_bits() == 0 && bits.raw_bytes() == &[1, 2][..]);
 }
 
 #[test]
 fn a_digest_takes_what_is_written(rt: HostRuntime) {
-    let alloc = rt.alloc();
-    let text = octets(&rt, alloc, PUB);
-    let key = SubjectPublicKeyInfoRef::try_from(text.as_slice()).expect(&rt, "a public key");
+    let text = octets(&rt, rt.alloc(), PUB);
+    let key = read(&rt, text.as_slice());
     let mut digest = Sha256::new();
-    let mut writer = DigestWriter(&mut digest);
-    key.encode(&mut writer).expect(&rt, "no refusal");
-    let shown = format!(in alloc; "{writer:?}").expect(&rt, "memory");
-    assert!(rt; shown.as_str() == "DigestWriter { .. }");
+    key.encode(&mut DigestWriter(&mut digest))
+        .expect(&rt, "no refusal");
     assert!(rt; Ok(digest.finalize()) == key.fingerprint_bytes());
+}
+
+#[test]
+fn debug_shows_no_digest(rt: HostRuntime) {
+    let mut digest = Sha256::new();
+    let writer = DigestWriter(&mut digest);
+    let shown = format!(in rt.alloc(); "{writer:?}").expect(&rt, "memory");
+    assert!(rt; shown.as_str() == "DigestWriter { .. }");
 }

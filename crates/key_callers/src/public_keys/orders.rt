@@ -1,13 +1,19 @@
 //! Orders of algorithms and public keys, by their octets.
-use super::SHORT;
+use super::{SHORT, read};
 use crate::values::octets;
 use der_core::{DerOrd, ValueOrd};
-use spki::{AlgorithmIdentifierRef, SubjectPublicKeyInfoRef};
+use spki::AlgorithmIdentifierRef;
 use std::alloc::Global;
 use std::cmp::Ordering;
 use std::process::Abort;
 
-/// How the two algorithms are ordered, by their values and by their texts.
+/// How two values are ordered, by their values and by their texts.
+fn orders<T: ValueOrd + DerOrd>(rt: &impl Abort, one: &T, other: &T) -> (Ordering, Ordering) {
+    let values = one.value_cmp(other).expect(rt, "an order");
+    (values, one.der_cmp(other).expect(rt, "an order"))
+}
+
+/// How the algorithms of two texts are ordered.
 fn algorithm_orders(
     rt: &impl Abort,
     alloc: Global,
@@ -17,17 +23,13 @@ fn algorithm_orders(
     let (one, other) = (octets(rt, alloc, one), octets(rt, alloc, other));
     let one = AlgorithmIdentifierRef::try_from(one.as_slice()).expect(rt, "an algorithm");
     let other = AlgorithmIdentifierRef::try_from(other.as_slice()).expect(rt, "an algorithm");
-    let values = one.value_cmp(&other).expect(rt, "an order");
-    (values, one.der_cmp(&other).expect(rt, "an order"))
+    orders(rt, &one, &other)
 }
 
-/// How the two public keys are ordered, by their values and by their texts.
+/// How the public keys of two texts are ordered.
 fn key_orders(rt: &impl Abort, alloc: Global, one: &str, other: &str) -> (Ordering, Ordering) {
     let (one, other) = (octets(rt, alloc, one), octets(rt, alloc, other));
-    let one = SubjectPublicKeyInfoRef::try_from(one.as_slice()).expect(rt, "a public key");
-    let other = SubjectPublicKeyInfoRef::try_from(other.as_slice()).expect(rt, "a public key");
-    let values = one.value_cmp(&other).expect(rt, "an order");
-    (values, one.der_cmp(&other).expect(rt, "an order"))
+    orders(rt, &read(rt, one.as_slice()), &read(rt, other.as_slice()))
 }
 
 #[test]
