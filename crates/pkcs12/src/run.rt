@@ -328,20 +328,23 @@ fn run_self_test<R: Runtime + AllocGlobal>(rt: &R) -> Result<(), Failure> {
     printed(rt, print!(rt; "{lines}"))
 }
 
+/// What clap says of arguments that it refuses.
+fn refused(alloc: Global, error: &clap::Error) -> Result<String, AllocError> {
+    let text = format!(in alloc; "{error}")?;
+    let text = text.as_str().trim_end();
+    let text = match text.strip_prefix("error: ") {
+        Some(rest) => rest,
+        None => text,
+    };
+    String::from_str(alloc, text)
+}
+
 /// The failure of arguments that clap refuses; none where it shows help or the version, which is printed.
 fn shown<R: Runtime + AllocGlobal>(rt: &R, error: clap::Error) -> Result<(), Failure> {
     match error.kind() {
         ErrorKind::OutOfMemory => Err(Failure::from(AllocError)),
         ErrorKind::DisplayHelp | ErrorKind::DisplayVersion => printed(rt, error.print(rt)),
-        _ => {
-            let text = format!(in rt.alloc(); "{error}")?;
-            let text = text.as_str().trim_end();
-            let text = match text.strip_prefix("error: ") {
-                Some(rest) => rest,
-                None => text,
-            };
-            Err(Failure::with(Ending::Usage, String::from_str(rt.alloc(), text)?))
-        }
+        _ => Err(Failure::with(Ending::Usage, refused(rt.alloc(), &error)?)),
     }
 }
 
