@@ -1,10 +1,11 @@
-//! Calls of `p12` with weaker contracts. The prover keeps what a call promises until the end of the test that makes it, so a test
-//! of several calls is proved much sooner through these.
-ghost use Rattle.std.specs.Prelude.{◌<◌, ◌^◌, length, IfOk};
+//! Calls of `p12` that answer plain values. The prover keeps what a call promises, and each value that is to be dropped, until the
+//! end of the function that makes it, so a test is proved much sooner through these.
+ghost use Rattle.std.specs.Prelude.{◌≡◌, ◌<◌, ◌^◌, length, true, IfOk};
+ghost use Rattle.p12.specs.AlgorithmIdentifier.{salt_of};
 ghost use Rattle.p12.specs.Pfx.{OpeningFits};
 
 use asn1_core::{Items, Octets, SliceReader};
-use p12::{AlgorithmIdentifier, EncryptedPrivateKeyInfo, Error, MacData, PFX};
+use p12::{AlgorithmIdentifier, EncryptedPrivateKeyInfo, Error, PFX};
 use std::alloc::Global;
 
 /// Reads a store.
@@ -30,28 +31,6 @@ pub fn certificate_count(alloc: Global, store: &PFX, password: &str) -> Result<u
     Ok(store.cert_bags(alloc, password)?.len())
 }
 
-/// How many X.509 certificates a store has.
-pub fn x509_count(alloc: Global, store: &PFX, password: &str) -> Result<usize, Error>
-    requires fits { OpeningFits store.now }
-    requires password { length password.now < 2 ^ 57 }
-{
-    Ok(store.cert_x509_bags(alloc, password)?.len())
-}
-
-/// Whether the X.509 certificate at this place, counted from 0, has these octets.
-pub fn is_x509_at(
-    alloc: Global,
-    store: &PFX,
-    password: &str,
-    at: usize,
-    octets: &[u8],
-) -> Result<bool, Error>
-    requires fits { OpeningFits store.now }
-    requires password { length password.now < 2 ^ 57 }
-{
-    Ok(stand_at(&store.cert_x509_bags(alloc, password)?, at, octets))
-}
-
 /// How many SDSI certificates a store has.
 pub fn sdsi_count(alloc: Global, store: &PFX, password: &str) -> Result<usize, Error>
     requires fits { OpeningFits store.now }
@@ -71,25 +50,38 @@ pub fn is_first_sdsi(alloc: Global, store: &PFX, password: &str, text: &str) -> 
     }
 }
 
-/// How many private keys of a store open.
-pub fn key_count(alloc: Global, store: &PFX, password: &str) -> Result<usize, Error>
-    requires fits { OpeningFits store.now }
-    requires password { length password.now < 2 ^ 57 }
-{
-    Ok(store.key_bags(alloc, password)?.len())
-}
-
-/// Whether the first private key has these octets.
-pub fn is_first_key(
+/// Whether the X.509 certificates of a store are these, in order.
+pub fn are_certificates(
     alloc: Global,
     store: &PFX,
     password: &str,
-    octets: &[u8],
+    wanted: &[&[u8]],
 ) -> Result<bool, Error>
     requires fits { OpeningFits store.now }
     requires password { length password.now < 2 ^ 57 }
 {
-    Ok(stand_at(&store.key_bags(alloc, password)?, 0, octets))
+    Ok(are_octets(store.cert_x509_bags(alloc, password)?.as_slice(), wanted))
+}
+
+/// Whether the private keys of a store that open are these, in order.
+pub fn are_keys(alloc: Global, store: &PFX, password: &str, wanted: &[&[u8]]) -> Result<bool, Error>
+    requires fits { OpeningFits store.now }
+    requires password { length password.now < 2 ^ 57 }
+{
+    Ok(are_octets(store.key_bags(alloc, password)?.as_slice(), wanted))
+}
+
+/// Whether these are the octets, in order.
+fn are_octets(found: &[Octets], wanted: &[&[u8]]) -> bool {
+    if found.len() != wanted.len() {
+        return false;
+    }
+    for (octets, wanted) in found.iter().zip(wanted) {
+        if octets.as_slice() != *wanted {
+            return false;
+        }
+    }
+    true
 }
 
 /// Whether the MAC of a store agrees.
@@ -100,34 +92,57 @@ pub fn agrees(alloc: Global, store: &PFX, password: &str) -> Result<bool, Error>
     store.verify_mac(alloc, password)
 }
 
-/// Whether these octets stand at this place of a list.
-fn stand_at(items: &Items<Octets>, at: usize, octets: &[u8]) -> bool {
-    match items.get(at) {
-        Some(found) => found.as_slice() == octets,
-        None => false,
-    }
-}
-
 /// Reads an EncryptedPrivateKeyInfo.
 pub fn encrypted_key(alloc: Global, text: &[u8]) -> Result<EncryptedPrivateKeyInfo, Error> {
-    Ok(EncryptedPrivateKeyInfo::parse(alloc, &mut SliceReader::new(text))?)
+    EncryptedPrivateKeyInfo::parse(alloc, &mut SliceReader::new(text))
 }
 
 /// Reads an AlgorithmIdentifier.
 pub fn algorithm(alloc: Global, text: &[u8]) -> Result<AlgorithmIdentifier, Error> {
-    Ok(AlgorithmIdentifier::parse(alloc, &mut SliceReader::new(text))?)
+    AlgorithmIdentifier::parse(alloc, &mut SliceReader::new(text))
 }
 
-/// Whether a MAC by itself agrees over a content, under a password as `bmp_string` gives it.
-pub fn mac_agrees(
-    alloc: Global,
-    mac: &MacData,
-    content: &[u8],
-    password: &[u8],
-) -> Result<bool, Error>
-    requires content { length content.now < 2 ^ 32 }
-    requires password { length password.now < 2 ^ 59 }
-    requires salt { length mac.now.salt < 2 ^ 59 }
+/// Whether an encrypted key is as short as the calls that open it want.
+pub fn is_short(key: &EncryptedPrivateKeyInfo) -> bool
+    ensures text { result ≡ true → length key.now.encrypted_data < 2 ^ 32 }
+    ensures salt { result ≡ true → length (salt_of key.now.encryption_algorithm) < 2 ^ 59 }
 {
-    mac.verify_mac(alloc, content, password)
+    key.encrypted_data.len() < 1 << 32 && has_short_salt(&key.encryption_algorithm)
+}
+
+/// Whether the salt of an algorithm is as short as the calls that open wants.
+pub fn has_short_salt(algorithm: &AlgorithmIdentifier) -> bool
+    ensures { result ≡ true → length (salt_of algorithm.now) < 2 ^ 59 }
+{
+    match algorithm {
+        AlgorithmIdentifier::PbewithSHAAnd40BitRC2CBC(params)
+        | AlgorithmIdentifier::PbeWithSHAAnd3KeyTripleDESCBC(params) => {
+            params.salt.len() < 1 << 59
+        }
+        AlgorithmIdentifier::Sha1
+        | AlgorithmIdentifier::Sha256
+        | AlgorithmIdentifier::Pbes2(_)
+        | AlgorithmIdentifier::OtherAlg(_) => true,
+    }
+}
+
+/// Whether an algorithm is Triple DES with these rounds and a salt of 8 octets.
+pub fn is_triple_des(algorithm: &AlgorithmIdentifier, rounds: u64) -> bool
+    ensures { result ≡ true → length (salt_of algorithm.now) ≡ 8 }
+{
+    match algorithm {
+        AlgorithmIdentifier::PbeWithSHAAnd3KeyTripleDESCBC(params) => {
+            params.salt.len() == 8 && params.iterations == rounds
+        }
+        _ => false,
+    }
+}
+
+/// Whether what was opened is this, if anything.
+pub fn is(opened: &Option<Octets>, wanted: Option<&[u8]>) -> bool {
+    match (opened, wanted) {
+        (Some(opened), Some(wanted)) => opened.as_slice() == wanted,
+        (None, None) => true,
+        _ => false,
+    }
 }

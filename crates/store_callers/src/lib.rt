@@ -10,6 +10,8 @@ mod ciphertexts_opened;
 #[cfg(test)]
 mod keys_derived;
 #[cfg(test)]
+mod parts_copied;
+#[cfg(test)]
 mod stores_made;
 #[cfg(test)]
 mod stores_read;

@@ -28,6 +28,9 @@ const KEY: &[u8] =
 /// The certificate of an authority, by its form alone.
 const AUTHORITY: &[u8] = b"\x30\x00";
 
+/// The certificate of another authority.
+const OTHER_AUTHORITY: &[u8] = b"\x30\x02\x05\x00";
+
 /// The MAC of an empty list under the empty password and the first salt, and the ciphertexts of the empty list under the second
 /// and the third; by `tests/make_store.py`.
 const MAC_OF_NOTHING: &[u8] =
@@ -52,17 +55,33 @@ fn a_mac_is_made_under_a_drawn_salt(rt: HostRuntime) -> Result<(), Fail> {
     Ok(())
 }
 
+/// A draw of the octets from the second salt on.
+fn drawn_from_second(alloc: Global) -> Result<DrawnBytes, Error> {
+    Ok(DrawnBytes::new(Octets::from_slice(alloc, &SALTS[8..])?))
+}
+
+/// Whether this is the ciphertext of the empty list in an EncryptedData.
+fn is_sealed(alloc: Global, draw: &mut DrawnBytes, ciphertext: &[u8]) -> Result<bool, Error> {
+    let sealed = EncryptedData::from_safe_bags(alloc, &[], &[0, 0], draw)?;
+    Ok(sealed.encrypted_content_info.encrypted_content.as_slice() == ciphertext)
+}
+
+/// The same in an EncryptedContentInfo.
+fn is_sealed_inside(
+    alloc: Global,
+    draw: &mut DrawnBytes,
+    ciphertext: &[u8],
+) -> Result<bool, Error> {
+    let sealed = EncryptedContentInfo::from_safe_bags(alloc, &[], &[0, 0], draw)?;
+    Ok(sealed.encrypted_content.as_slice() == ciphertext)
+}
+
 #[test]
 fn contents_are_made_under_drawn_salts(rt: HostRuntime) -> Result<(), Fail> {
     let alloc = rt.alloc();
-    let mut draw = drawn(alloc)?;
-    let mut passed_over = [0; 8];
-    assert!(rt; draw.fill(&mut passed_over).is_ok());
-    let sealed = EncryptedData::from_safe_bags(alloc, &[], &[0, 0], &mut draw)?;
-    let ciphertext = &sealed.encrypted_content_info.encrypted_content;
-    assert!(rt; ciphertext.as_slice() == NOTHING_SEALED);
-    let again = EncryptedContentInfo::from_safe_bags(alloc, &[], &[0, 0], &mut draw)?;
-    assert!(rt; again.encrypted_content.as_slice() == NOTHING_SEALED_AGAIN);
+    let mut draw = drawn_from_second(alloc)?;
+    assert!(rt; is_sealed(alloc, &mut draw, NOTHING_SEALED) == Ok(true));
+    assert!(rt; is_sealed_inside(alloc, &mut draw, NOTHING_SEALED_AGAIN) == Ok(true));
     Ok(())
 }
 
@@ -102,78 +121,54 @@ fn made_of_three(alloc: Global) -> Result<PFX, Error>
     let mut draw = drawn(alloc)?;
     let mut others = Items::new(alloc);
     others.push(Octets::from_slice(alloc, AUTHORITY)?)?;
-    others.push(Octets::from_slice(alloc, &[0x30, 2, 5, 0])?)?;
+    others.push(Octets::from_slice(alloc, OTHER_AUTHORITY)?)?;
     let others = others.as_slice();
     PFX::new_with_cas(alloc, CERTIFICATE, KEY, others, "p", "look", &mut draw)
 }
 
-/// Whether such a store gives the two certificates under its password.
-fn gives_its_certificates(alloc: Global, key: &[u8], password: &str) -> Result<bool, Error>
-    requires { length password.now < 2 ^ 57 }
+/// Whether a store gives these certificates and this key under its password, and its MAC agrees.
+fn gives(alloc: Global, store: &PFX, password: &str, certificates: &[&[u8]], key: &[u8]) -> bool
+    requires fits { OpeningFits store.now }
+    requires password { length password.now < 2 ^ 57 }
 {
-    let store = made(alloc, key, password)?;
-    Ok(
-        calls::x509_count(alloc, &store, password)? == 2
-            && calls::is_x509_at(alloc, &store, password, 0, CERTIFICATE)?
-            && calls::is_x509_at(alloc, &store, password, 1, AUTHORITY)?,
-    )
+    calls::are_certificates(alloc, store, password, certificates) == Ok(true)
+        && calls::are_keys(alloc, store, password, &[key]) == Ok(true)
+        && calls::agrees(alloc, store, password) == Ok(true)
 }
 
-/// Whether it gives the key.
-fn gives_its_key(alloc: Global, key: &[u8], password: &str) -> Result<bool, Error>
-    requires { length password.now < 2 ^ 57 }
-{
-    let store = made(alloc, key, password)?;
-    Ok(
-        calls::key_count(alloc, &store, password)? == 1
-            && calls::is_first_key(alloc, &store, password, key)?,
-    )
-}
-
-/// Whether its MAC agrees under its password, and not under another.
-fn agrees_under(alloc: Global, key: &[u8], password: &str, other: &str) -> Result<bool, Error>
+/// Whether a store of two certificates gives what it was made of, and its MAC agrees under no other password.
+fn gives_two_certificates(
+    alloc: Global,
+    key: &[u8],
+    password: &str,
+    other: &str,
+) -> Result<bool, Error>
     requires password { length password.now < 2 ^ 57 }
     requires other { length other.now < 2 ^ 57 }
 {
     let store = made(alloc, key, password)?;
-    Ok(calls::agrees(alloc, &store, password)? && !calls::agrees(alloc, &store, other)?)
+    Ok(
+        gives(alloc, &store, password, &[CERTIFICATE, AUTHORITY], key)
+            && calls::agrees(alloc, &store, other) == Ok(false),
+    )
 }
 
 #[test]
-fn a_store_gives_what_it_was_made_of(rt: HostRuntime) -> Result<(), Fail> {
+fn a_store_gives_what_it_was_made_of(rt: HostRuntime) {
     let alloc = rt.alloc();
-    assert!(rt; gives_its_certificates(alloc, KEY, "changeit")?);
-    assert!(rt; gives_its_key(alloc, KEY, "changeit")?);
-    assert!(rt; agrees_under(alloc, KEY, "changeit", "changed")?);
-    Ok(())
+    assert!(rt; gives_two_certificates(alloc, KEY, "changeit", "changed") == Ok(true));
+    // an empty key under an empty password
+    assert!(rt; gives_two_certificates(alloc, &[], "", "changeit") == Ok(true));
 }
 
-#[test]
-fn a_store_of_an_empty_key_has_an_empty_password(rt: HostRuntime) -> Result<(), Fail> {
-    let alloc = rt.alloc();
-    assert!(rt; gives_its_certificates(alloc, &[], "")?);
-    assert!(rt; gives_its_key(alloc, &[], "")?);
-    assert!(rt; agrees_under(alloc, &[], "", "changeit")?);
-    Ok(())
-}
-
-#[test]
-fn a_store_gives_further_certificates_in_order(rt: HostRuntime) -> Result<(), Fail> {
-    let alloc = rt.alloc();
+/// Whether a store of three certificates gives them in order, and its key.
+fn gives_three_certificates(alloc: Global) -> Result<bool, Error> {
     let store = made_of_three(alloc)?;
-    assert!(rt; calls::x509_count(alloc, &store, "p")? == 3);
-    assert!(rt; calls::is_x509_at(alloc, &store, "p", 0, CERTIFICATE)?);
-    assert!(rt; calls::is_x509_at(alloc, &store, "p", 1, AUTHORITY)?);
-    assert!(rt; calls::is_x509_at(alloc, &store, "p", 2, &[0x30, 2, 5, 0])?);
-    Ok(())
+    let certificates = [CERTIFICATE, AUTHORITY, OTHER_AUTHORITY];
+    Ok(gives(alloc, &store, "p", &certificates, KEY))
 }
 
 #[test]
-fn a_store_of_further_certificates_gives_its_key(rt: HostRuntime) -> Result<(), Fail> {
-    let alloc = rt.alloc();
-    let store = made_of_three(alloc)?;
-    assert!(rt; calls::key_count(alloc, &store, "p")? == 1);
-    assert!(rt; calls::is_first_key(alloc, &store, "p", KEY)?);
-    assert!(rt; calls::agrees(alloc, &store, "p")?);
-    Ok(())
+fn a_store_gives_further_certificates_in_order(rt: HostRuntime) {
+    assert!(rt; gives_three_certificates(rt.alloc()) == Ok(true));
 }

@@ -1,14 +1,19 @@
 //! Stores, their parts and their derivation, with octets that other programs made: the derivation and the MACs by Python's `hashlib`
 //! and `hmac`, Triple DES, PBES2 and keys by OpenSSL.
 
+ghost use Rattle.std.specs.Prelude.{◌≡◌, ◌<◌, ◌^◌, length, true};
+ghost use Rattle.p12.specs.AlgorithmIdentifier.{salt_of};
+ghost use Rattle.p12.specs.Pfx.{OpeningFits};
+
 use crate::calls;
-use asn1_core::{ObjectIdentifier, Reader, SliceReader};
+use asn1_core::{ObjectIdentifier, Octets, Reader, SliceReader};
 use mac_modes::Sha256;
 use p12::{
     AlgorithmIdentifier, BagView, BagsView, CertBag, ContentInfo, ContentView, ContentsView,
-    EncryptedData, EncryptedPrivateKeyInfo, Error, MacData, PFX, PKCS12Attribute, Pkcs12PbeParams,
-    SafeBag, SafeBagKind, StoreView, bmp_string, pbepkcs12, pbepkcs12sha1,
+    EncryptedPrivateKeyInfo, Error, MacData, PFX, PKCS12Attribute, Pkcs12PbeParams, SafeBag,
+    SafeBagKind, StoreView, bmp_string, pbepkcs12, pbepkcs12sha1,
 };
+use pkcs5::pbes2::EncryptionScheme;
 use std::alloc::Global;
 use std::test::Fail;
 
@@ -108,146 +113,182 @@ fn keys_are_derived(rt: HostRuntime) -> Result<(), Fail> {
     Ok(())
 }
 
+/// The MAC of the empty list under SHA-1 and the empty password.
+pub fn sha1_mac(alloc: Global) -> Result<MacData, Error> {
+    MacData::with_salt(alloc, &[0x30, 0], &[0, 0], &SALT, 1)
+}
+
+/// The MAC of `abc` under SHA-256 and `p`.
+fn sha256_mac(alloc: Global) -> Result<MacData, Error> {
+    MacData::with_salt_sha256(alloc, b"abc", &PASSWORD, &SALT, 3)?.try_clone(alloc)
+}
+
+/// Whether a MAC has a salt of 8 octets, and agrees over a content under a password in UTF-16.
+fn agrees(alloc: Global, mac: &MacData, content: &[u8], password: &[u8]) -> Result<bool, Error>
+    requires content { length content.now < 2 ^ 32 }
+    requires password { length password.now < 2 ^ 59 }
+{
+    if mac.salt.len() != 8 {
+        return Err(Error::Malformed);
+    }
+    mac.verify_mac(alloc, content, password)
+}
+
 #[test]
 fn a_mac_under_sha1_is_made(rt: HostRuntime) -> Result<(), Fail> {
     let alloc = rt.alloc();
-    let mac = MacData::with_salt(alloc, &[0x30, 0], &[0, 0], &SALT, 1)?;
+    let mac = sha1_mac(alloc)?;
     assert!(rt;
         mac.mac.digest.as_slice()
             == b"\xa4\xa4\xaf\x5b\xf3\x0c\x0e\xd0\xd0\x79\xc4\xd2\xa5\x7f\xdc\xd2\x30\x14\x9e\xc9".as_slice()
     );
-    assert!(rt; mac.salt.len() == 8);
-    assert!(rt; calls::mac_agrees(alloc, &mac, &[0x30, 0], &[0, 0])?);
-    assert!(rt; !calls::mac_agrees(alloc, &mac, &[0x30, 0], &PASSWORD)?);
+    assert!(rt; agrees(alloc, &mac, &[0x30, 0], &[0, 0]) == Ok(true));
+    assert!(rt; agrees(alloc, &mac, &[0x30, 0], &PASSWORD) == Ok(false));
     Ok(())
 }
 
 #[test]
 fn a_mac_under_sha256_is_made(rt: HostRuntime) -> Result<(), Fail> {
     let alloc = rt.alloc();
-    let mac = MacData::with_salt_sha256(alloc, b"abc", &PASSWORD, &SALT, 3)?;
+    let mac = sha256_mac(alloc)?;
     assert!(rt;
         mac.mac.digest.as_slice()
             == b"\x18\xa7\x25\xd3\x47\x07\xec\x5b\x4e\xd6\xca\xd4\xd8\xdd\xc6\x01\x55\xb0\x1f\x58\
     \x71\xf8\x5a\xf4\xc1\x6a\x68\x3d\x09\xdc\x58\x0b"
                 .as_slice()
     );
-    let mac = mac.try_clone(alloc)?;
-    assert!(rt; mac.salt.len() == 8);
-    assert!(rt; calls::mac_agrees(alloc, &mac, b"abc", &PASSWORD)?);
+    assert!(rt; agrees(alloc, &mac, b"abc", &PASSWORD) == Ok(true));
     Ok(())
+}
+
+/// Whether a store has version 3, a MAC, and `CONTENTS` as its plain content.
+fn is_plain_store(store: &PFX) -> bool {
+    match &store.auth_safe {
+        ContentInfo::Data(contents) => {
+            store.version == 3 && store.mac_data.is_some() && contents.as_slice() == CONTENTS
+        }
+        _ => false,
+    }
 }
 
 #[test]
 fn a_plain_store_is_read(rt: HostRuntime) -> Result<(), Fail> {
     let alloc = rt.alloc();
     let store = calls::store(alloc, STORE)?.try_clone(alloc)?;
-    assert!(rt; store.version == 3 && store.mac_data.is_some());
-    let ContentInfo::Data(contents) = &store.auth_safe else {
-        panic!(rt; "another variant");
-    };
-    assert!(rt; contents.as_slice() == CONTENTS);
+    assert!(rt; is_plain_store(&store));
     Ok(())
 }
 
-#[test]
-fn a_list_of_contents_is_read(rt: HostRuntime) -> Result<(), Fail> {
-    let list = ContentInfo::parse_all(rt.alloc(), CONTENTS)?;
-    let ContentInfo::Data(inner) = list.get(0).expect(&rt, "a content") else {
-        panic!(rt; "another variant");
-    };
-    assert!(rt; inner.as_slice() == BAGS);
-    Ok(())
+/// Whether the first of these contents is plain and holds `BAGS`.
+fn is_list_of_contents_read(alloc: Global) -> Result<bool, Error> {
+    match ContentInfo::parse_all(alloc, CONTENTS)?.get(0) {
+        Some(ContentInfo::Data(inner)) => Ok(inner.as_slice() == BAGS),
+        _ => Ok(false),
+    }
+}
+
+/// Whether the first of these bags has the certificate `3000`.
+fn is_list_of_bags_read(alloc: Global) -> Result<bool, Error> {
+    match SafeBag::parse_all(alloc, BAGS)?.get(0) {
+        Some(bag) => Ok(calls::is(&bag.bag.get_x509_cert(alloc)?, Some(&[0x30, 0]))),
+        None => Ok(false),
+    }
 }
 
 #[test]
-fn a_list_of_bags_is_read(rt: HostRuntime) -> Result<(), Fail> {
+fn lists_of_contents_and_of_bags_are_read(rt: HostRuntime) {
     let alloc = rt.alloc();
-    let bags = SafeBag::parse_all(alloc, BAGS)?;
-    let certificate = bags.get(0).expect(&rt, "a bag").bag.get_x509_cert(alloc)?;
-    assert!(rt; certificate.expect(&rt, "a certificate").as_slice() == b"\x30\x00".as_slice());
-    Ok(())
+    assert!(rt; is_list_of_contents_read(alloc) == Ok(true));
+    assert!(rt; is_list_of_bags_read(alloc) == Ok(true));
 }
 
 /// The content of `SEALED_STORE`.
-fn sealed_content(alloc: Global) -> Result<ContentInfo, Error> {
+pub fn sealed_content(alloc: Global) -> Result<ContentInfo, Error> {
     let Some(text) = SEALED_STORE.get(25..) else {
         return Err(Error::Malformed);
     };
     Ok(ContentInfo::parse(alloc, &mut SliceReader::new(text))?)
 }
 
+/// Whether the sealed content opens to this, if anything, under a password in UTF-16.
+fn opens_to(alloc: Global, content: &ContentInfo, password: &[u8], wanted: Option<&[u8]>) -> bool
+    requires { length password.now < 2 ^ 59 }
+{
+    let ContentInfo::EncryptedData(encrypted) = content else {
+        return false;
+    };
+    let info = &encrypted.encrypted_content_info;
+    if info.encrypted_content.len() != 40
+        || !calls::is_triple_des(&info.content_encryption_algorithm, 2)
+    {
+        return false;
+    }
+    match content.data(alloc, password) {
+        Ok(opened) => calls::is(&opened, wanted),
+        Err(_) => false,
+    }
+}
+
 #[test]
 fn a_sealed_content_opens(rt: HostRuntime) -> Result<(), Fail> {
     let alloc = rt.alloc();
     let content = sealed_content(alloc)?.try_clone(alloc)?;
-    let ContentInfo::EncryptedData(encrypted) = &content else {
-        panic!(rt; "another variant");
-    };
-    let info = &encrypted.encrypted_content_info;
-    assert!(rt; info.encrypted_content.len() == 40);
-    let AlgorithmIdentifier::PbeWithSHAAnd3KeyTripleDESCBC(params) =
-        &info.content_encryption_algorithm
-    else {
-        panic!(rt; "another variant");
-    };
-    assert!(rt; params.salt.len() == 8);
-    let bags = content.data(alloc, &PASSWORD)?;
-    assert!(rt; bags.expect(&rt, "bags").as_slice() == BAGS);
-    assert!(rt; content.data(alloc, &[0, 0])?.is_none());
+    assert!(rt; opens_to(alloc, &content, &PASSWORD, Some(BAGS)));
+    assert!(rt; opens_to(alloc, &content, &[0, 0], None));
     Ok(())
 }
 
 /// Whether a store has one bag under its password, the certificate `3000`.
-fn has_one_certificate(alloc: Global, text: &[u8]) -> Result<bool, Error> {
+fn has_one_certificate(alloc: Global, store: &PFX) -> bool
+    requires { OpeningFits store.now }
+{
+    calls::bag_count(alloc, store, "p") == Ok(1)
+        && calls::certificate_count(alloc, store, "p") == Ok(1)
+        && calls::are_certificates(alloc, store, "p", &[&[0x30, 0]]) == Ok(true)
+}
+
+/// Whether it has neither an SDSI certificate nor a key.
+fn has_nothing_else(alloc: Global, store: &PFX) -> bool
+    requires { OpeningFits store.now }
+{
+    calls::sdsi_count(alloc, store, "p") == Ok(0)
+        && calls::are_keys(alloc, store, "p", &[]) == Ok(true)
+}
+
+/// Whether its MAC agrees under its password, and not under another.
+fn agrees_under_its_password(alloc: Global, store: &PFX) -> bool
+    requires { OpeningFits store.now }
+{
+    calls::agrees(alloc, store, "p") == Ok(true) && calls::agrees(alloc, store, "q") == Ok(false)
+}
+
+/// Whether a store has that one certificate and nothing else, and its MAC agrees.
+fn is_store_of_one(alloc: Global, text: &[u8]) -> Result<bool, Error> {
     let store = calls::store(alloc, text)?;
     Ok(
-        calls::bag_count(alloc, &store, "p")? == 1
-            && calls::certificate_count(alloc, &store, "p")? == 1
-            && calls::x509_count(alloc, &store, "p")? == 1
-            && calls::is_x509_at(alloc, &store, "p", 0, &[0x30, 0])?,
+        has_one_certificate(alloc, &store)
+            && has_nothing_else(alloc, &store)
+            && agrees_under_its_password(alloc, &store),
     )
 }
 
-/// Whether a store has neither an SDSI certificate nor a key.
-fn has_nothing_else(alloc: Global, text: &[u8]) -> Result<bool, Error> {
-    let store = calls::store(alloc, text)?;
-    Ok(calls::sdsi_count(alloc, &store, "p")? == 0 && calls::key_count(alloc, &store, "p")? == 0)
+#[test]
+fn the_bags_of_a_store_are_collected_and_its_mac_agrees(rt: HostRuntime) {
+    let alloc = rt.alloc();
+    assert!(rt; is_store_of_one(alloc, STORE) == Ok(true));
+    assert!(rt; is_store_of_one(alloc, SEALED_STORE) == Ok(true));
+}
+
+/// How many bags the sealed store has under a password.
+fn sealed_bag_count(alloc: Global, password: &str) -> Result<usize, Error>
+    requires { length password.now < 2 ^ 57 }
+{
+    calls::bag_count(alloc, &calls::store(alloc, SEALED_STORE)?, password)
 }
 
 #[test]
-fn the_bags_of_a_store_are_collected(rt: HostRuntime) -> Result<(), Fail> {
-    let alloc = rt.alloc();
-    assert!(rt; has_one_certificate(alloc, STORE)?);
-    assert!(rt; has_nothing_else(alloc, STORE)?);
-    assert!(rt; has_one_certificate(alloc, SEALED_STORE)?);
-    assert!(rt; has_nothing_else(alloc, SEALED_STORE)?);
-    Ok(())
-}
-
-/// Whether the MAC of a store agrees under its password, and not under another.
-fn agrees_under_its_password(alloc: Global, text: &[u8]) -> Result<bool, Error> {
-    let store = calls::store(alloc, text)?;
-    Ok(calls::agrees(alloc, &store, "p")? && !calls::agrees(alloc, &store, "q")?)
-}
-
-#[test]
-fn the_mac_of_a_store_agrees_under_its_password_alone(rt: HostRuntime) -> Result<(), Fail> {
-    let alloc = rt.alloc();
-    assert!(rt; agrees_under_its_password(alloc, STORE)?);
-    assert!(rt; agrees_under_its_password(alloc, SEALED_STORE)?);
-    Ok(())
-}
-
-#[test]
-fn a_sealed_store_opens_under_no_other_password(rt: HostRuntime) -> Result<(), Fail> {
-    let alloc = rt.alloc();
-    let store = calls::store(alloc, SEALED_STORE)?;
-    match calls::bag_count(alloc, &store, "q") {
-        Ok(_) => assert!(rt; false),
-        Err(refusal) => assert!(rt; refusal == Error::Invalid),
-    }
-    Ok(())
+fn a_sealed_store_opens_under_no_other_password(rt: HostRuntime) {
+    assert!(rt; sealed_bag_count(rt.alloc(), "q") == Err(Error::Invalid));
 }
 
 /// The bag of `ENCRYPTED_KEY`.
@@ -256,71 +297,121 @@ fn key_bag(alloc: Global) -> Result<SafeBagKind, Error> {
     Ok(SafeBagKind::parse(alloc, &mut SliceReader::new(ENCRYPTED_KEY), identifier)?)
 }
 
+/// Whether a key of 56 octets is under Triple DES in one round with a salt of 8 octets.
+fn is_triple_des_key(key: &EncryptedPrivateKeyInfo) -> bool
+    ensures text { result ≡ true → length key.now.encrypted_data ≡ 56 }
+    ensures salt { result ≡ true → length (salt_of key.now.encryption_algorithm) ≡ 8 }
+{
+    key.encrypted_data.len() == 56 && calls::is_triple_des(&key.encryption_algorithm, 1)
+}
+
+/// Whether a bag gives its key under `p`.
+fn gives_its_key(alloc: Global, bag: &SafeBagKind) -> bool {
+    match bag {
+        SafeBagKind::Pkcs8ShroudedKeyBag(key) if is_triple_des_key(key) => {
+            match bag.get_key(alloc, &PASSWORD) {
+                Ok(opened) => calls::is(&opened, Some(KEY)),
+                Err(_) => false,
+            }
+        }
+        _ => false,
+    }
+}
+
+/// Whether the key of a bag opens to nothing under the empty password.
+fn stays_closed(alloc: Global, bag: &SafeBagKind) -> bool {
+    match bag {
+        SafeBagKind::Pkcs8ShroudedKeyBag(key) if is_triple_des_key(key) => {
+            key.decrypt(alloc, &[0, 0]) == Ok(None)
+        }
+        _ => false,
+    }
+}
+
 #[test]
 fn an_encrypted_key_opens(rt: HostRuntime) -> Result<(), Fail> {
     let alloc = rt.alloc();
     let bag = key_bag(alloc)?;
-    let SafeBagKind::Pkcs8ShroudedKeyBag(key) = &bag else {
-        panic!(rt; "another variant");
-    };
-    let AlgorithmIdentifier::PbeWithSHAAnd3KeyTripleDESCBC(params) = &key.encryption_algorithm
-    else {
-        panic!(rt; "another variant");
-    };
-    assert!(rt; params.salt.len() == 8 && params.iterations == 1);
-    assert!(rt; key.encrypted_data.len() == 56);
-    let plain = bag.get_key(alloc, &PASSWORD)?;
-    assert!(rt; plain.expect(&rt, "a key").as_slice() == KEY);
-    assert!(rt; key.decrypt(alloc, &[0, 0])?.is_none());
+    assert!(rt; gives_its_key(alloc, &bag));
+    assert!(rt; stays_closed(alloc, &bag));
     Ok(())
+}
+
+/// Whether Triple DES, in one round under a salt of 8 octets, seals `KEY` to the ciphertext of this key.
+fn is_sealed_under_triple_des(alloc: Global, key: &EncryptedPrivateKeyInfo) -> bool {
+    let algorithm = &key.encryption_algorithm;
+    match algorithm {
+        AlgorithmIdentifier::PbeWithSHAAnd3KeyTripleDESCBC(params)
+            if params.salt.len() == 8 && params.iterations == 1 => {
+            match algorithm.encrypt_pbe(alloc, KEY, &PASSWORD) {
+                Ok(sealed) => sealed == key.encrypted_data,
+                Err(_) => false,
+            }
+        }
+        _ => false,
+    }
+}
+
+/// Whether AES-256 by PBES2 in three rounds seals `KEY` to the ciphertext of this key.
+fn is_sealed_under_pbes2(alloc: Global, key: &EncryptedPrivateKeyInfo) -> bool {
+    let algorithm = &key.encryption_algorithm;
+    let AlgorithmIdentifier::Pbes2(parameters) = algorithm else {
+        return false;
+    };
+    let EncryptionScheme::Aes256Cbc { .. } = parameters.encryption else {
+        return false;
+    };
+    if !algorithm.is_openable() || algorithm.count() != 3 || algorithm.cost() != 3 {
+        return false;
+    }
+    match algorithm.encrypt_text(alloc, KEY, "p\u{e4}") {
+        Ok(sealed) => sealed == key.encrypted_data,
+        Err(_) => false,
+    }
 }
 
 #[test]
 fn a_key_is_sealed_under_triple_des(rt: HostRuntime) -> Result<(), Fail> {
     let alloc = rt.alloc();
     let key = calls::encrypted_key(alloc, ENCRYPTED_KEY)?;
-    let AlgorithmIdentifier::PbeWithSHAAnd3KeyTripleDESCBC(params) = &key.encryption_algorithm
-    else {
-        panic!(rt; "another variant");
-    };
-    assert!(rt; params.salt.len() == 8 && params.iterations == 1);
-    let sealed = key.encryption_algorithm.encrypt_pbe(alloc, KEY, &PASSWORD)?;
-    assert!(rt; sealed == key.encrypted_data);
+    assert!(rt; is_sealed_under_triple_des(alloc, &key));
     Ok(())
 }
 
 #[test]
 fn a_key_is_sealed_under_pbes2(rt: HostRuntime) -> Result<(), Fail> {
     let alloc = rt.alloc();
-    let key = EncryptedPrivateKeyInfo::parse(alloc, &mut SliceReader::new(PBES2_KEY))?;
-    let algorithm = &key.encryption_algorithm;
-    let AlgorithmIdentifier::Pbes2(parameters) = algorithm else {
-        panic!(rt; "another variant");
-    };
-    let pkcs5::pbes2::EncryptionScheme::Aes256Cbc { .. } = parameters.encryption else {
-        panic!(rt; "another cipher");
-    };
-    assert!(rt; algorithm.is_openable() && algorithm.count() == 3 && algorithm.cost() == 3);
-    let sealed = algorithm.encrypt_text(alloc, KEY, "p\u{e4}")?;
-    assert!(rt; sealed == key.encrypted_data);
+    let key = calls::encrypted_key(alloc, PBES2_KEY)?;
+    assert!(rt; is_sealed_under_pbes2(alloc, &key));
     Ok(())
 }
 
 /// An algorithm under RC2 with 40 bits, and its parameters.
-const RC2: &[u8] =
+pub const RC2: &[u8] =
     b"\x30\x1c\x06\x0a\x2a\x86\x48\x86\xf7\x0d\x01\x0c\x01\x06\x30\x0e\x04\x08\x00\x01\
     \x02\x03\x04\x05\x06\x07\x02\x02\x08\x00";
 
-#[test]
-fn algorithms_are_read(rt: HostRuntime) -> Result<(), Fail> {
-    let alloc = rt.alloc();
-    let rc2 = calls::algorithm(alloc, RC2)?.try_clone(alloc)?;
-    let AlgorithmIdentifier::PbewithSHAAnd40BitRC2CBC(params) = &rc2 else {
-        panic!(rt; "another variant");
+/// A copy of the algorithm that a text is read as.
+fn copied_algorithm(alloc: Global, text: &[u8]) -> Result<AlgorithmIdentifier, Error> {
+    calls::algorithm(alloc, text)?.try_clone(alloc)
+}
+
+/// Whether an algorithm is that under RC2, which opens nothing.
+fn is_rc2(alloc: Global, algorithm: &AlgorithmIdentifier) -> bool {
+    let AlgorithmIdentifier::PbewithSHAAnd40BitRC2CBC(params) = algorithm else {
+        return false;
     };
-    assert!(rt; params.salt.as_slice() == &RC2[18..26] && params.iterations == 2048);
-    assert!(rt; params.salt.len() == 8);
-    assert!(rt; rc2.decrypt_pbe(alloc, &[0; 8], &[0, 0])?.is_none());
+    params.salt.len() == 8
+        && params.salt.as_slice() == &RC2[18..26]
+        && params.iterations == 2048
+        && algorithm.decrypt_pbe(alloc, &[0; 8], &[0, 0]) == Ok(None)
+}
+
+#[test]
+fn rc2_is_read_and_not_opened(rt: HostRuntime) -> Result<(), Fail> {
+    let alloc = rt.alloc();
+    let rc2 = copied_algorithm(alloc, RC2)?;
+    assert!(rt; is_rc2(alloc, &rc2));
     Ok(())
 }
 
@@ -328,35 +419,52 @@ fn algorithms_are_read(rt: HostRuntime) -> Result<(), Fail> {
 fn the_parameters_of_an_algorithm_are_read(rt: HostRuntime) -> Result<(), Fail> {
     let alloc = rt.alloc();
     let params = Pkcs12PbeParams::parse(alloc, &mut SliceReader::new(&RC2[14..]))?;
-    assert!(rt; params.salt.as_slice() == &RC2[18..26]);
-    assert!(rt; params.iterations == 2048);
+    assert!(rt; params.salt.as_slice() == &RC2[18..26] && params.iterations == 2048);
     assert!(rt; params == params.try_clone(alloc)?);
     Ok(())
+}
+
+/// Whether a text is read as SHA-1; none where it is refused.
+fn is_sha1(alloc: Global, text: &[u8]) -> Option<bool> {
+    match calls::algorithm(alloc, text) {
+        Ok(read) => Some(matches!(read, AlgorithmIdentifier::Sha1)),
+        Err(_) => None,
+    }
+}
+
+/// Whether an algorithm is none of those that have names here.
+fn is_other(algorithm: &AlgorithmIdentifier) -> bool {
+    matches!(algorithm, AlgorithmIdentifier::OtherAlg(_))
 }
 
 #[test]
 fn digests_are_read(rt: HostRuntime) -> Result<(), Fail> {
     let alloc = rt.alloc();
-    for sha1 in [
-        b"\x30\x07\x06\x05\x2b\x0e\x03\x02\x1a".as_slice(),
-        b"\x30\x09\x06\x05\x2b\x0e\x03\x02\x1a\x05\x00".as_slice(),
+    // without NULL and with it, another algorithm; a NULL more, an OCTET STRING for the NULL, a length in too many octets
+    for (text, wanted) in [
+        (
+            b"\x30\x07\x06\x05\x2b\x0e\x03\x02\x1a".as_slice(),
+            Some(true),
+        ),
+        (
+            b"\x30\x09\x06\x05\x2b\x0e\x03\x02\x1a\x05\x00".as_slice(),
+            Some(true),
+        ),
+        (b"\x30\x05\x06\x01\x2a\x05\x00".as_slice(), Some(false)),
+        (
+            b"\x30\x0b\x06\x05\x2b\x0e\x03\x02\x1a\x05\x00\x05\x00".as_slice(),
+            None,
+        ),
+        (
+            b"\x30\x09\x06\x05\x2b\x0e\x03\x02\x1a\x04\x00".as_slice(),
+            None,
+        ),
+        (b"\x30\x81\x07\x06\x05\x2b\x0e\x03\x02\x1a".as_slice(), None),
     ] {
-        let read = AlgorithmIdentifier::parse(alloc, &mut SliceReader::new(sha1))?;
-        assert!(rt; matches!(read, AlgorithmIdentifier::Sha1));
+        assert!(rt; is_sha1(alloc, text) == wanted);
     }
-    // a NULL more, an OCTET STRING for the NULL, a length in too many octets
-    for bad in [
-        b"\x30\x0b\x06\x05\x2b\x0e\x03\x02\x1a\x05\x00\x05\x00".as_slice(),
-        b"\x30\x09\x06\x05\x2b\x0e\x03\x02\x1a\x04\x00".as_slice(),
-        b"\x30\x81\x07\x06\x05\x2b\x0e\x03\x02\x1a".as_slice(),
-    ] {
-        assert!(rt; AlgorithmIdentifier::parse(alloc, &mut SliceReader::new(bad)).is_err());
-    }
-    let other = AlgorithmIdentifier::parse(
-        alloc,
-        &mut SliceReader::new(b"\x30\x05\x06\x01\x2a\x05\x00"),
-    )?;
-    assert!(rt; matches!(other.try_clone(alloc)?, AlgorithmIdentifier::OtherAlg(_)));
+    let other = copied_algorithm(alloc, b"\x30\x05\x06\x01\x2a\x05\x00")?;
+    assert!(rt; is_other(&other));
     Ok(())
 }
 
@@ -418,23 +526,35 @@ fn safe_bag(alloc: Global, text: &[u8]) -> Result<SafeBag, Error> {
     Ok(SafeBag::parse(alloc, &mut SliceReader::new(text))?)
 }
 
+/// Whether a bag has the name `b`.
+fn is_named(alloc: Global, bag: &SafeBag) -> bool {
+    match bag.friendly_name(alloc) {
+        Ok(Some(name)) => name.as_str() == "b",
+        _ => false,
+    }
+}
+
+/// Whether it has the key id 7.
+fn has_key_id(alloc: Global, bag: &SafeBag) -> bool {
+    match bag.local_key_id(alloc) {
+        Ok(key_id) => calls::is(&key_id, Some(&[7])),
+        Err(_) => false,
+    }
+}
+
+/// Whether it has the identifier of a certificate bag, and no SDSI text.
+fn is_x509_bag(alloc: Global, bag: &SafeBagKind) -> bool {
+    bag.oid().as_bytes() == b"\x2a\x86\x48\x86\xf7\x0d\x01\x0c\x0a\x01\x03".as_slice()
+        && matches!(bag.get_sdsi_cert(alloc), Ok(None))
+}
+
 #[test]
 fn bags_are_read_with_their_attributes(rt: HostRuntime) -> Result<(), Fail> {
     let alloc = rt.alloc();
     let bag = safe_bag(alloc, NAMED_BAG)?.try_clone(alloc)?;
-    assert!(rt; bag.friendly_name(alloc)?.expect(&rt, "a name").as_str() == "b");
-    assert!(rt; bag.local_key_id(alloc)?.expect(&rt, "a key id").as_slice() == &[7][..]);
-    Ok(())
-}
-
-#[test]
-fn a_certificate_bag_has_its_identifier_and_no_sdsi_text(rt: HostRuntime) -> Result<(), Fail> {
-    let alloc = rt.alloc();
-    let bag = safe_bag(alloc, NAMED_BAG)?;
-    assert!(rt; bag.bag.get_sdsi_cert(alloc)?.is_none());
-    assert!(rt;
-        bag.bag.oid().as_bytes() == b"\x2a\x86\x48\x86\xf7\x0d\x01\x0c\x0a\x01\x03".as_slice()
-    );
+    assert!(rt; is_named(alloc, &bag));
+    assert!(rt; has_key_id(alloc, &bag));
+    assert!(rt; is_x509_bag(alloc, &bag.bag));
     Ok(())
 }
 
@@ -445,41 +565,72 @@ const SDSI_STORE: &[u8] =
     \x30\x25\x30\x23\x06\x0b\x2a\x86\x48\x86\xf7\x0d\x01\x0c\x0a\x01\x03\xa0\x14\x30\x12\
     \x06\x0a\x2a\x86\x48\x86\xf7\x0d\x01\x09\x16\x02\xa0\x04\x16\x02\x61\x62";
 
-#[test]
-fn the_sdsi_certificates_of_a_store_are_collected(rt: HostRuntime) -> Result<(), Fail> {
-    let alloc = rt.alloc();
+/// Whether a store has one SDSI certificate, `ab`, and no other certificate.
+fn has_one_sdsi_certificate(alloc: Global, store: &PFX) -> bool
+    requires { OpeningFits store.now }
+{
+    calls::sdsi_count(alloc, store, "p") == Ok(1)
+        && calls::is_first_sdsi(alloc, store, "p", "ab") == Ok(true)
+        && calls::are_certificates(alloc, store, "p", &[]) == Ok(true)
+}
+
+/// Whether the SDSI certificate of a bag is `ab`.
+fn is_ab(alloc: Global, bag: &SafeBagKind) -> bool {
+    match bag.get_sdsi_cert(alloc) {
+        Ok(Some(text)) => text.as_str() == "ab",
+        _ => false,
+    }
+}
+
+/// Whether that of the first bag of a store is.
+fn is_first_bag_ab(alloc: Global, store: &PFX) -> bool
+    requires { OpeningFits store.now }
+{
+    let Ok(bags) = store.bags(alloc, "p") else {
+        return false;
+    };
+    match bags.get(0) {
+        Some(bag) => is_ab(alloc, &bag.bag),
+        None => false,
+    }
+}
+
+/// Whether the store has that one SDSI certificate, and its MAC agrees, since it has none.
+fn is_sdsi_store_read(alloc: Global) -> Result<bool, Error> {
     let store = calls::store(alloc, SDSI_STORE)?;
-    assert!(rt; calls::sdsi_count(alloc, &store, "p")? == 1);
-    assert!(rt; calls::is_first_sdsi(alloc, &store, "p", "ab")?);
-    assert!(rt; calls::x509_count(alloc, &store, "p")? == 0);
-    assert!(rt; calls::agrees(alloc, &store, "p")?);
-    Ok(())
+    Ok(
+        has_one_sdsi_certificate(alloc, &store)
+            && is_first_bag_ab(alloc, &store)
+            && calls::agrees(alloc, &store, "p") == Ok(true),
+    )
 }
 
 #[test]
-fn a_bag_gives_its_sdsi_certificate(rt: HostRuntime) -> Result<(), Fail> {
+fn the_sdsi_certificates_of_a_store_are_collected(rt: HostRuntime) {
     let alloc = rt.alloc();
-    let bags = calls::store(alloc, SDSI_STORE)?.bags(alloc, "p")?;
-    let bag = bags.get(0).expect(&rt, "a bag");
-    assert!(rt; bag.bag.get_sdsi_cert(alloc)?.expect(&rt, "a text").as_str() == "ab");
-    Ok(())
+    assert!(rt; is_sdsi_store_read(alloc) == Ok(true));
 }
 
 /// The SDSI certificate `ab`.
 const SDSI: &[u8] =
     b"\x30\x12\x06\x0a\x2a\x86\x48\x86\xf7\x0d\x01\x09\x16\x02\xa0\x04\x16\x02\x61\x62";
 
+/// A copy of the certificate of a text, in a copy of its bag.
+fn copied_certificate(alloc: Global, text: &[u8]) -> Result<SafeBagKind, Error> {
+    let certificate = CertBag::parse(alloc, &mut SliceReader::new(text))?;
+    SafeBagKind::CertBag(certificate.try_clone(alloc)?).try_clone(alloc)
+}
+
 #[test]
 fn sdsi_certificates_are_read(rt: HostRuntime) -> Result<(), Fail> {
     let alloc = rt.alloc();
-    let certificate = CertBag::parse(alloc, &mut SliceReader::new(SDSI))?;
-    let kind = SafeBagKind::CertBag(certificate.try_clone(alloc)?).try_clone(alloc)?;
-    assert!(rt; kind.get_sdsi_cert(alloc)?.expect(&rt, "a text").as_str() == "ab");
+    let bag = copied_certificate(alloc, SDSI)?;
+    assert!(rt; is_ab(alloc, &bag));
     Ok(())
 }
 
 #[test]
-fn other_certificates_are_refused(rt: HostRuntime) -> Result<(), Fail> {
+fn other_certificates_are_refused(rt: HostRuntime) {
     // a character over 127, a third kind
     for bad in [
         b"\x30\x12\x06\x0a\x2a\x86\x48\x86\xf7\x0d\x01\x09\x16\x02\xa0\x04\x16\x02\x61\xff".as_slice(),
@@ -489,11 +640,20 @@ fn other_certificates_are_refused(rt: HostRuntime) -> Result<(), Fail> {
         assert!(rt; CertBag::parse(rt.alloc(), &mut r).is_err());
         assert!(rt; r.position() == 0);
     }
-    Ok(())
+}
+
+/// Whether a text is no store, whether it is read into memory or lent.
+fn is_no_store(alloc: Global, text: &[u8]) -> bool {
+    calls::store(alloc, text).is_err() && StoreView::parse(text).is_err()
+}
+
+/// Whether a store has no MAC.
+fn has_no_mac(alloc: Global, text: &[u8]) -> Result<bool, Error> {
+    Ok(calls::store(alloc, text)?.mac_data.is_none())
 }
 
 #[test]
-fn faulty_stores_are_refused(rt: HostRuntime) -> Result<(), Fail> {
+fn faulty_stores_are_refused(rt: HostRuntime) {
     let alloc = rt.alloc();
     // no octets, one octet more, one less, a long length, an indefinite one, a version of 256
     for bad in [
@@ -514,16 +674,12 @@ fn faulty_stores_are_refused(rt: HostRuntime) -> Result<(), Fail> {
     \x04\x04\x02\x30\x00"
             .as_slice(),
     ] {
-        assert!(rt; PFX::parse(alloc, bad).is_err());
-        assert!(rt; StoreView::parse(bad).is_err());
+        assert!(rt; is_no_store(alloc, bad));
     }
-    let plain = PFX::parse(
-        alloc,
+    let without_mac =
         b"\x30\x16\x02\x01\x03\x30\x11\x06\x09\x2a\x86\x48\x86\xf7\x0d\x01\x07\x01\xa0\x04\
-    \x04\x02\x30\x00",
-    )?;
-    assert!(rt; plain.mac_data.is_none());
-    Ok(())
+    \x04\x02\x30\x00";
+    assert!(rt; has_no_mac(alloc, without_mac) == Ok(true));
 }
 
 #[test]

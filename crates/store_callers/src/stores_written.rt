@@ -1,60 +1,81 @@
 //! Texts that are written: each is the text of the grammar in RFC 7292, put together by hand.
 
+use crate::calls;
+use crate::stores_read::RC2;
 use asn1_core::{Octets, SliceReader, VecWriter};
-use p12::{AlgorithmIdentifier, EncryptedPrivateKeyInfo, PKCS12Attribute};
+use p12::{AlgorithmIdentifier, EncryptedPrivateKeyInfo, Error, PKCS12Attribute};
 use std::alloc::Global;
 use std::test::Fail;
 
 /// What is written of an algorithm that is read.
-fn algorithm_again(alloc: Global, text: &[u8]) -> Result<Octets, Fail> {
-    let algorithm = AlgorithmIdentifier::parse(alloc, &mut SliceReader::new(text))?;
+fn algorithm_again(alloc: Global, text: &[u8]) -> Result<Octets, Error> {
     let mut w = VecWriter::new(alloc);
-    algorithm.write(alloc, &mut w)?;
+    calls::algorithm(alloc, text)?.write(alloc, &mut w)?;
+    Ok(w.into_octets())
+}
+
+/// PBES2 whose pseudorandom function has no NULL.
+const WITHOUT_NULL: &[u8] =
+    b"\x30\x5d\x06\x09\x2a\x86\x48\x86\xf7\x0d\x01\x05\x0d\x30\x50\x30\x2f\x06\x09\x2a\x86\x48\
+    \x86\xf7\x0d\x01\x05\x0c\x30\x22\x04\x10\x0c\x12\xaa\x39\xd7\x43\xd1\x63\x3d\xdb\xb6\x15\
+    \xa5\xec\x1b\x6a\x02\x02\x08\x00\x30\x0a\x06\x08\x2a\x86\x48\x86\xf7\x0d\x02\x09\x30\x1d\
+    \x06\x09\x60\x86\x48\x01\x65\x03\x04\x01\x2a\x04\x10\xba\xba\x52\x27\x2b\x5a\x30\x26\x3d\
+    \x62\xf8\x1a\xe2\x7a\xd7\x68";
+
+/// The same with it, as it is written.
+const WITH_NULL: &[u8] =
+    b"\x30\x5f\x06\x09\x2a\x86\x48\x86\xf7\x0d\x01\x05\x0d\x30\x52\x30\x31\x06\x09\x2a\x86\x48\
+    \x86\xf7\x0d\x01\x05\x0c\x30\x24\x04\x10\x0c\x12\xaa\x39\xd7\x43\xd1\x63\x3d\xdb\xb6\x15\
+    \xa5\xec\x1b\x6a\x02\x02\x08\x00\x30\x0c\x06\x08\x2a\x86\x48\x86\xf7\x0d\x02\x09\x05\x00\
+    \x30\x1d\x06\x09\x60\x86\x48\x01\x65\x03\x04\x01\x2a\x04\x10\xba\xba\x52\x27\x2b\x5a\x30\
+    \x26\x3d\x62\xf8\x1a\xe2\x7a\xd7\x68";
+
+#[test]
+fn algorithms_are_written(rt: HostRuntime) -> Result<(), Fail> {
+    for (read, written) in [
+        (RC2, RC2),
+        (
+            b"\x30\x07\x06\x05\x2b\x0e\x03\x02\x1a".as_slice(),
+            b"\x30\x09\x06\x05\x2b\x0e\x03\x02\x1a\x05\x00".as_slice(),
+        ),
+        (WITHOUT_NULL, WITH_NULL),
+    ] {
+        assert!(rt; algorithm_again(rt.alloc(), read)?.as_slice() == written);
+    }
+    Ok(())
+}
+
+/// What is written of the parameters of an algorithm under RC2.
+fn parameters_again(alloc: Global, text: &[u8]) -> Result<Octets, Error> {
+    let read = calls::algorithm(alloc, text)?;
+    let AlgorithmIdentifier::PbewithSHAAnd40BitRC2CBC(params) = &read else {
+        return Err(Error::Invalid);
+    };
+    let mut w = VecWriter::new(alloc);
+    params.write(alloc, &mut w)?;
     Ok(w.into_octets())
 }
 
 #[test]
-fn algorithms_are_written(rt: HostRuntime) -> Result<(), Fail> {
-    let alloc = rt.alloc();
-    let rc2 = b"\x30\x1c\x06\x0a\x2a\x86\x48\x86\xf7\x0d\x01\x0c\x01\x06\x30\x0e\x04\x08\x00\x01\
-        \x02\x03\x04\x05\x06\x07\x02\x02\x08\x00";
-    assert!(rt; algorithm_again(alloc, rc2)?.as_slice() == &rc2[..]);
-    let read = AlgorithmIdentifier::parse(alloc, &mut SliceReader::new(rc2))?;
-    let AlgorithmIdentifier::PbewithSHAAnd40BitRC2CBC(params) = read else {
-        panic!(rt; "another variant");
-    };
-    let mut w = VecWriter::new(alloc);
-    params.write(alloc, &mut w)?;
-    assert!(rt; w.into_octets().as_slice() == &rc2[14..]);
-    let sha1 = algorithm_again(alloc, b"\x30\x07\x06\x05\x2b\x0e\x03\x02\x1a")?;
-    assert!(rt; sha1.as_slice() == &b"\x30\x09\x06\x05\x2b\x0e\x03\x02\x1a\x05\x00"[..]);
-    // the pseudorandom function without NULL, and with it
-    let read =
-        b"\x30\x5d\x06\x09\x2a\x86\x48\x86\xf7\x0d\x01\x05\x0d\x30\x50\x30\x2f\x06\x09\x2a\x86\x48\
-        \x86\xf7\x0d\x01\x05\x0c\x30\x22\x04\x10\x0c\x12\xaa\x39\xd7\x43\xd1\x63\x3d\xdb\xb6\x15\
-        \xa5\xec\x1b\x6a\x02\x02\x08\x00\x30\x0a\x06\x08\x2a\x86\x48\x86\xf7\x0d\x02\x09\x30\x1d\
-        \x06\x09\x60\x86\x48\x01\x65\x03\x04\x01\x2a\x04\x10\xba\xba\x52\x27\x2b\x5a\x30\x26\x3d\
-        \x62\xf8\x1a\xe2\x7a\xd7\x68";
-    let canonical =
-        b"\x30\x5f\x06\x09\x2a\x86\x48\x86\xf7\x0d\x01\x05\x0d\x30\x52\x30\x31\x06\x09\x2a\x86\x48\
-        \x86\xf7\x0d\x01\x05\x0c\x30\x24\x04\x10\x0c\x12\xaa\x39\xd7\x43\xd1\x63\x3d\xdb\xb6\x15\
-        \xa5\xec\x1b\x6a\x02\x02\x08\x00\x30\x0c\x06\x08\x2a\x86\x48\x86\xf7\x0d\x02\x09\x05\x00\
-        \x30\x1d\x06\x09\x60\x86\x48\x01\x65\x03\x04\x01\x2a\x04\x10\xba\xba\x52\x27\x2b\x5a\x30\
-        \x26\x3d\x62\xf8\x1a\xe2\x7a\xd7\x68";
-    assert!(rt; algorithm_again(alloc, read)?.as_slice() == &canonical[..]);
+fn the_parameters_of_an_algorithm_are_written(rt: HostRuntime) -> Result<(), Fail> {
+    assert!(rt; parameters_again(rt.alloc(), RC2)?.as_slice() == &RC2[14..]);
     Ok(())
 }
 
-#[test]
-fn an_encrypted_key_is_written(rt: HostRuntime) -> Result<(), Fail> {
-    let alloc = rt.alloc();
+/// What is written of an encrypted key.
+fn key_text(alloc: Global) -> Result<Octets, Error> {
     let key = EncryptedPrivateKeyInfo {
         encryption_algorithm: AlgorithmIdentifier::Sha1,
         encrypted_data: Octets::from_slice(alloc, b"foo")?,
     };
     let mut w = VecWriter::new(alloc);
     key.write(alloc, &mut w)?;
-    let written = w.into_octets();
+    Ok(w.into_octets())
+}
+
+#[test]
+fn an_encrypted_key_is_written(rt: HostRuntime) -> Result<(), Fail> {
+    let written = key_text(rt.alloc())?;
     assert!(rt;
         written.as_slice()
             == &b"\x30\x10\x30\x09\x06\x05\x2b\x0e\x03\x02\x1a\x05\x00\x04\x03\x66\x6f\x6f"[..]
@@ -62,15 +83,19 @@ fn an_encrypted_key_is_written(rt: HostRuntime) -> Result<(), Fail> {
     Ok(())
 }
 
+/// What is written of an attribute that is read.
+fn attribute_again(alloc: Global, text: &[u8]) -> Result<Octets, Error> {
+    let attribute = PKCS12Attribute::parse(alloc, &mut SliceReader::new(text))?;
+    let mut w = VecWriter::new(alloc);
+    attribute.write(alloc, &mut w)?;
+    Ok(w.into_octets())
+}
+
 #[test]
 fn a_set_of_names_is_written_with_the_last(rt: HostRuntime) -> Result<(), Fail> {
-    let alloc = rt.alloc();
     let two = b"\x30\x15\x06\x09\x2a\x86\x48\x86\xf7\x0d\x01\x09\x14\x31\x08\x1e\x02\x00\x61\x1e\
         \x02\x00\x62";
-    let name = PKCS12Attribute::parse(alloc, &mut SliceReader::new(two))?;
-    let mut w = VecWriter::new(alloc);
-    name.write(alloc, &mut w)?;
-    let written = w.into_octets();
+    let written = attribute_again(rt.alloc(), two)?;
     assert!(rt;
         written.as_slice()
             == &b"\x30\x11\x06\x09\x2a\x86\x48\x86\xf7\x0d\x01\x09\x14\x31\x04\x1e\x02\x00\x62"[..]
