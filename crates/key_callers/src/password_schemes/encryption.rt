@@ -168,7 +168,7 @@ fn encrypts_in_place(alloc: Global, parameters: &Parameters) -> bool {
     sealed == Ok(&SEALED_KEY) && buffer.starts_with(&SEALED_KEY) && buffer.ends_with(&[0x55, 0x55])
 }
 
-/// Whether their scheme does.
+/// Whether the scheme of these parameters encrypts the key where it stands, and leaves the octets behind.
 fn scheme_encrypts_in_place(alloc: Global, parameters: Parameters) -> bool {
     let scheme = pkcs5::EncryptionScheme::Pbes2(parameters);
     let mut buffer = key_with_room();

@@ -67,7 +67,7 @@ fn with_gcm(rt: &impl Abort) -> Parameters {
     with_cipher(rt, pbes2::EncryptionScheme::Aes256Gcm { nonce: [7; 12] })
 }
 
-/// Whether both calls refused so, and left so.
+/// Whether both calls refused for this reason, and left these octets.
 fn are(found: [Left; 2], refused: Error, left: [u8; 64]) -> bool {
     let [(one, first), (two, second)] = found;
     one == Some(refused) && two == Some(refused) && first == left && second == left

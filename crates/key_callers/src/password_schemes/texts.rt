@@ -99,7 +99,7 @@ fn the_cipher_of_a_scheme(rt: HostRuntime) {
     assert!(rt; are_digits(&rt, alloc, &iv, "b2d02d78b2efd9dff694cf8e0af40925"));
 }
 
-/// Whether the text is that of no scheme, and refused so.
+/// Whether the text is refused as a scheme, for this reason.
 fn is_no_scheme(rt: &impl Abort, alloc: Global, digits: &str, refused: asn1_core::Error) -> bool {
     let text = octets(rt, alloc, digits);
     EncryptionScheme::from_der(text.as_slice()) == Err(refused)
@@ -128,13 +128,13 @@ fn texts_of_no_scheme_are_refused(rt: HostRuntime) {
     }
 }
 
-/// Whether the text is that of no key derivation function, and refused so.
+/// Whether the text is refused as a key derivation function, for this reason.
 fn is_no_kdf(rt: &impl Abort, alloc: Global, digits: &str, refused: asn1_core::Error) -> bool {
     let text = octets(rt, alloc, digits);
     Kdf::from_der(text.as_slice()) == Err(refused)
 }
 
-/// Whether the text is that of no cipher, and refused so.
+/// Whether the text is refused as a cipher, for this reason.
 fn is_no_cipher(rt: &impl Abort, alloc: Global, digits: &str, refused: asn1_core::Error) -> bool {
     let text = octets(rt, alloc, digits);
     pbes2::EncryptionScheme::from_der(text.as_slice()) == Err(refused)

@@ -15,7 +15,7 @@ type Algorithm<'a> = AlgorithmIdentifierRef<'a>;
 
 type Oids = (ObjectIdentifier, Option<ObjectIdentifier>);
 
-/// Whether `oids` answers so.
+/// Whether `oids` gives this answer.
 fn oids_are(
     algorithm: &Algorithm<'_>,
     answer: std::result::Result<Oids, asn1_core::Error>,
@@ -23,7 +23,7 @@ fn oids_are(
     algorithm.oids() == answer
 }
 
-/// Whether `assert_algorithm_oid` does.
+/// Whether `assert_algorithm_oid` gives this answer.
 fn asserted_algorithm_is(
     algorithm: &Algorithm<'_>,
     expected: ObjectIdentifier,
@@ -32,7 +32,7 @@ fn asserted_algorithm_is(
     algorithm.assert_algorithm_oid(expected) == answer
 }
 
-/// Whether `assert_parameters_oid` does.
+/// Whether `assert_parameters_oid` gives this answer.
 fn asserted_parameters_are(
     algorithm: &Algorithm<'_>,
     expected: ObjectIdentifier,
@@ -41,7 +41,7 @@ fn asserted_parameters_are(
     algorithm.assert_parameters_oid(expected) == answer
 }
 
-/// Whether `assert_oids` does.
+/// Whether `assert_oids` gives this answer.
 fn asserted_oids_are(
     algorithm: &Algorithm<'_>,
     oid: ObjectIdentifier,
@@ -51,12 +51,12 @@ fn asserted_oids_are(
     algorithm.assert_oids(oid, parameters) == answer
 }
 
-/// Whether `parameters_oid` does.
+/// Whether `parameters_oid` gives this answer.
 fn parameters_oid_is(algorithm: &Algorithm<'_>, answer: Result<ObjectIdentifier>) -> bool {
     algorithm.parameters_oid() == answer
 }
 
-/// Whether `parameters_any` does.
+/// Whether `parameters_any` gives this answer.
 fn any_parameters_are(algorithm: &Algorithm<'_>, answer: Result<AnyRef<'_>>) -> bool {
     algorithm.parameters_any() == answer
 }
