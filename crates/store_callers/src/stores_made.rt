@@ -44,12 +44,19 @@ fn drawn(alloc: Global) -> Result<DrawnBytes, Error> {
     Ok(DrawnBytes::new(Octets::from_slice(alloc, SALTS)?))
 }
 
+/// Whether the MAC of the empty list under the next octets of the draw is that of the first salt.
+fn is_mac_made(alloc: Global, draw: &mut DrawnBytes) -> bool {
+    match MacData::new(alloc, &[0x30, 0], &[0, 0], draw) {
+        Ok(mac) => mac.mac.digest.as_slice() == MAC_OF_NOTHING && mac.iterations == 2_048,
+        Err(_) => false,
+    }
+}
+
 #[test]
 fn a_mac_is_made_under_a_drawn_salt(rt: HostRuntime) -> Result<(), Fail> {
     let alloc = rt.alloc();
     let mut draw = drawn(alloc)?;
-    let mac = MacData::new(alloc, &[0x30, 0], &[0, 0], &mut draw)?;
-    assert!(rt; mac.mac.digest.as_slice() == MAC_OF_NOTHING && mac.iterations == 2_048);
+    assert!(rt; is_mac_made(alloc, &mut draw));
     let mut next = [0; 1];
     assert!(rt; draw.fill(&mut next).is_ok() && next[0] == 8);
     Ok(())
@@ -61,27 +68,27 @@ fn drawn_from_second(alloc: Global) -> Result<DrawnBytes, Error> {
 }
 
 /// Whether this is the ciphertext of the empty list in an EncryptedData.
-fn is_sealed(alloc: Global, draw: &mut DrawnBytes, ciphertext: &[u8]) -> Result<bool, Error> {
-    let sealed = EncryptedData::from_safe_bags(alloc, &[], &[0, 0], draw)?;
-    Ok(sealed.encrypted_content_info.encrypted_content.as_slice() == ciphertext)
+fn is_sealed(alloc: Global, draw: &mut DrawnBytes, ciphertext: &[u8]) -> bool {
+    match EncryptedData::from_safe_bags(alloc, &[], &[0, 0], draw) {
+        Ok(sealed) => { sealed.encrypted_content_info.encrypted_content.as_slice() == ciphertext }
+        Err(_) => false,
+    }
 }
 
 /// The same in an EncryptedContentInfo.
-fn is_sealed_inside(
-    alloc: Global,
-    draw: &mut DrawnBytes,
-    ciphertext: &[u8],
-) -> Result<bool, Error> {
-    let sealed = EncryptedContentInfo::from_safe_bags(alloc, &[], &[0, 0], draw)?;
-    Ok(sealed.encrypted_content.as_slice() == ciphertext)
+fn is_sealed_inside(alloc: Global, draw: &mut DrawnBytes, ciphertext: &[u8]) -> bool {
+    match EncryptedContentInfo::from_safe_bags(alloc, &[], &[0, 0], draw) {
+        Ok(sealed) => sealed.encrypted_content.as_slice() == ciphertext,
+        Err(_) => false,
+    }
 }
 
 #[test]
 fn contents_are_made_under_drawn_salts(rt: HostRuntime) -> Result<(), Fail> {
     let alloc = rt.alloc();
     let mut draw = drawn_from_second(alloc)?;
-    assert!(rt; is_sealed(alloc, &mut draw, NOTHING_SEALED) == Ok(true));
-    assert!(rt; is_sealed_inside(alloc, &mut draw, NOTHING_SEALED_AGAIN) == Ok(true));
+    assert!(rt; is_sealed(alloc, &mut draw, NOTHING_SEALED));
+    assert!(rt; is_sealed_inside(alloc, &mut draw, NOTHING_SEALED_AGAIN));
     Ok(())
 }
 
@@ -137,38 +144,37 @@ fn gives(alloc: Global, store: &PFX, password: &str, certificates: &[&[u8]], key
 }
 
 /// Whether a store of two certificates gives what it was made of, and its MAC agrees under no other password.
-fn gives_two_certificates(
-    alloc: Global,
-    key: &[u8],
-    password: &str,
-    other: &str,
-) -> Result<bool, Error>
+fn gives_two_certificates(alloc: Global, key: &[u8], password: &str, other: &str) -> bool
     requires password { length password.now < 2 ^ 57 }
     requires other { length other.now < 2 ^ 57 }
 {
-    let store = made(alloc, key, password)?;
-    Ok(
-        gives(alloc, &store, password, &[CERTIFICATE, AUTHORITY], key)
-            && calls::agrees(alloc, &store, other) == Ok(false),
-    )
+    match made(alloc, key, password) {
+        Ok(store) => {
+            gives(alloc, &store, password, &[CERTIFICATE, AUTHORITY], key)
+                && calls::agrees(alloc, &store, other) == Ok(false)
+        }
+        Err(_) => false,
+    }
 }
 
 #[test]
 fn a_store_gives_what_it_was_made_of(rt: HostRuntime) {
     let alloc = rt.alloc();
-    assert!(rt; gives_two_certificates(alloc, KEY, "changeit", "changed") == Ok(true));
+    assert!(rt; gives_two_certificates(alloc, KEY, "changeit", "changed"));
     // an empty key under an empty password
-    assert!(rt; gives_two_certificates(alloc, &[], "", "changeit") == Ok(true));
+    assert!(rt; gives_two_certificates(alloc, &[], "", "changeit"));
 }
 
 /// Whether a store of three certificates gives them in order, and its key.
-fn gives_three_certificates(alloc: Global) -> Result<bool, Error> {
-    let store = made_of_three(alloc)?;
+fn gives_three_certificates(alloc: Global) -> bool {
     let certificates = [CERTIFICATE, AUTHORITY, OTHER_AUTHORITY];
-    Ok(gives(alloc, &store, "p", &certificates, KEY))
+    match made_of_three(alloc) {
+        Ok(store) => gives(alloc, &store, "p", &certificates, KEY),
+        Err(_) => false,
+    }
 }
 
 #[test]
 fn a_store_gives_further_certificates_in_order(rt: HostRuntime) {
-    assert!(rt; gives_three_certificates(rt.alloc()) == Ok(true));
+    assert!(rt; gives_three_certificates(rt.alloc()));
 }
