@@ -138,9 +138,13 @@ fn a_store_without_a_mac_is_not_opened(rt: HostRuntime) {
 }
 
 #[test]
-fn a_store_under_a_wrong_mac_is_not_opened(rt: HostRuntime) {
+fn the_limit_is_tested_before_the_mac(rt: HostRuntime) {
     let answer = refusal::<Brand>(rt.alloc(), &ZERO_MAC, 0, Blank::new(1));
     assert_eq!(rt; answer, Some(TransferError::WorkLimit));
+}
+
+#[test]
+fn a_store_under_a_wrong_mac_is_not_opened(rt: HostRuntime) {
     let answer = refusal::<Brand>(rt.alloc(), &ZERO_MAC, 1, Blank::new(1));
     assert_eq!(rt; answer, Some(TransferError::MacMismatch));
 }
