@@ -4,9 +4,9 @@
     bench/gate_minutes.py [rt ci's arguments]
 
 runs `rt ci` with these arguments at the top of the repository, hands on what it prints, and at the end prints a table: for
-each crate its own proof, the proof of its tests, and the proofs that its must-fail edits are tried by. What a run passed is kept
-on the machine, so a later run has less to do: on a machine that has kept something, give `--anew`. Every process of the prover is
-looked at twice a second; what it did after the last look, the linker, and the programs and tests that ran are in the last row.
+each crate its own proof, the proof of its tests, and the proofs that its must-fail edits are tried by. Some kits keep on the
+machine what a run passed, so that a later run has less to do: there give `--anew`. Every process of the prover is looked at twice
+a second; what it did after the last look, the linker, and the programs and tests that ran are in the last row.
 Needs Linux. Processors that are threads of one core take longer where both are busy, and so do these minutes.
 """
 
