@@ -8,6 +8,8 @@ mod answers;
 #[cfg(test)]
 mod cbc_texts;
 #[cfg(test)]
+mod cipher_caller;
+#[cfg(test)]
 mod cipher_chains;
 #[cfg(test)]
 mod der_texts;
