@@ -68,7 +68,7 @@ row() {
     line "$label" "$own" "$(awk "BEGIN { printf \"%.3f\", $other }")" "$(awk "BEGIN { printf \"%.2f\", $own / $other }")"
 }
 
-build derivations "octet_core outside asn1_core der_core spki steps block_core mac_modes phc_core pbkdf2 scrypt_core pkcs12_kdf pkcs5 p12" \
+build derivations "octet_core asn1_core der_core spki steps block_core mac_modes phc_core pbkdf2 scrypt_core pkcs12_kdf pkcs5 p12" \
     "mac_modes p12 pbkdf2 scrypt_core" pbkdf2 1
 line "seconds of user time" "this program" other ratio
 row "PBKDF2-HMAC-SHA256, 600,000 rounds" pbkdf2 600000

@@ -1,10 +1,9 @@
 //! Draws, sources and sinks over memory, and over streams and generators that may fail.
 ghost use Rattle.std.specs.Prelude.{◌≤◌, length};
 
-use octet_core::{Items, Octets};
-use outside::{
-    Draw, DrawnBytes, Failed, FailingDraw, MemorySink, MemorySource, ReadDraw, ReadSource, Sink,
-    Source, TryRngDraw, WriteSink,
+use octet_core::{
+    Draw, DrawnBytes, Failed, FailingDraw, Items, MemorySink, MemorySource, Octets, ReadDraw,
+    ReadSource, Sink, Source, TryRngDraw, WriteSink,
 };
 use rand_core::TryRng;
 use std::alloc::Global;

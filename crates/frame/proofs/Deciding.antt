@@ -1,7 +1,7 @@
 -- What a decision says of the answer.
 use Rattle.std.proofs.Common.{◌≡◌, ◌⊎◌, inl, inr, ◌≤◌, List, ℕ, refl, subst, sym}
 use Rattle.std.specs.Io.KnownBytes.{Appends}
-use Rattle.outside.specs.Faults.{Rose}
+use Rattle.octet_core.specs.Faults.{Rose}
 use Rattle.frame.specs.Calls.{Call, IsWritten, TakesNoStep, cut, whole}
 use Rattle.frame.specs.DueText.{AppendsPart}
 use Rattle.frame.specs.Deciding.{Decides}

@@ -1,7 +1,7 @@
 -- What the work on the one store of an input says of that input.
 use Rattle.std.proofs.Common.{◌≡◌, ◌⊎◌, inl, inr, ℕ, List, subst, sym, ◌∙◌}
 use Rattle.std.specs.Prelude.{Option, Some, None}
-use Rattle.outside.specs.DrawnBytes.{DrawnState}
+use Rattle.octet_core.specs.DrawnBytes.{DrawnState}
 use Rattle.frame.specs.Calls.{Effects}
 use Rattle.frame.specs.InputText.{IsInput}
 use Rattle.frame.specs.Lined.{ByLine, ExactLined, HasLine}

@@ -1,7 +1,7 @@
 -- A call of a program, over the objects of the outside.
 use Rattle.std.specs.Prelude.{ℕ, ◌+◌, ◌≡◌, ◌≤◌, List, length, IfSome}
 use Rattle.std.specs.Io.KnownBytes.{Appends, IsAtEnd}
-use Rattle.outside.specs.Faults.{Rose}
+use Rattle.octet_core.specs.Faults.{Rose}
 use Rattle.frame.specs.DueText.{AppendsPart}
 use Rattle.frame.specs.Input.{input_limit}
 use Rattle.frame.specs.Stream.{Stream}

@@ -1,7 +1,7 @@
 -- What a program answers: each answer comes only where its row of the table holds, and where that row holds it comes.
 use Rattle.std.specs.Prelude.{ℕ, ◌≡◌, ◌≢◌, ◌⊎◌, ◌<◌, ◌≤◌, List, length, Option, Some, IfSome, ⊤}
 use Rattle.std.specs.Io.KnownBytes.{Appends}
-use Rattle.outside.specs.Faults.{Rose}
+use Rattle.octet_core.specs.Faults.{Rose}
 use Rattle.frame.specs.Calls.{Call, Effects, IsRead, KeepsLimit, TakesNoStep}
 use Rattle.frame.specs.DueText.{AppendsPart}
 use Rattle.frame.specs.Input.{input_limit}

@@ -5,12 +5,11 @@ ghost use Rattle.std.specs.Io.KnownBytes.{Appends};
 ghost use Rattle.hex.specs.Hex.{encode_lower};
 ghost use Rattle.frame.specs.DueText.{AppendsPart, digits_line, joined};
 ghost use Rattle.frame.specs.Status.{error_text};
-ghost use Rattle.outside.specs.Faults.{Rose};
+ghost use Rattle.octet_core.specs.Faults.{Rose};
 
 use crate::digits::encode_into;
 use crate::status::Status;
-use octet_core::{Items, Octets};
-use outside::{Failed, Sink};
+use octet_core::{Failed, Items, Octets, Sink};
 use std::alloc::{AllocError, Global};
 
 /// What a program writes where it is done.

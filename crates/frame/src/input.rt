@@ -1,11 +1,11 @@
 //! Reading the whole input.
 ghost use Rattle.std.specs.Prelude.{◌≡◌, ◌<◌, ◌≤◌, length, Err, IfOk, IfSome};
 ghost use Rattle.std.specs.Result.{IsErrOf};
-ghost use Rattle.outside.specs.Faults.{Rose};
+ghost use Rattle.octet_core.specs.Faults.{Rose};
 ghost use Rattle.frame.specs.Input.{IsWhole, input_limit};
 ghost use Rattle.frame.specs.declared.input.InputError.TheVariants.{Memory};
 
-use outside::Source;
+use octet_core::Source;
 use std::alloc::{AllocError, Global};
 
 /// The most octets that the input may have.

@@ -7,7 +7,7 @@ ghost use Rattle.frame.specs.declared.status.Status.{Status};
 
 use crate::due_text::DueText;
 use crate::status::Status;
-use outside::Draw;
+use octet_core::Draw;
 use std::alloc::Global;
 use std::sync::ledger::Ledger;
 use steps::Steps;

@@ -11,7 +11,7 @@ use crate::due_text::{DueText, write_error};
 use crate::input::{InputError, read_input};
 use crate::job::Job;
 use crate::status::Status;
-use outside::{Draw, Sink, Source};
+use octet_core::{Draw, Sink, Source};
 use std::alloc::Global;
 use std::sync::ledger::Ledger;
 use steps::Steps;

@@ -1,2 +1,11 @@
 pub mod Padded
 pub mod Lending
+pub mod Faults
+pub mod Draw
+pub mod Source
+pub mod Sink
+pub mod DrawnBytes
+pub mod FailingDraw
+pub mod Adapter
+pub mod MemorySource
+pub mod MemorySink

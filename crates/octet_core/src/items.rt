@@ -1,5 +1,5 @@
 //! Lists in memory of their own.
-ghost use Rattle.std.specs.Prelude.{◌≡◌, List, [], ◌∷◌, ◌++◌, length, IfErr, OnOk, OnErr, slice_get, ◌==◌, ◌↔◌, ◌≤◌, IfSome, IsNone, Some};
+ghost use Rattle.std.specs.Prelude.{◌≡◌, List, [], ◌∷◌, ◌++◌, length, IfErr, OnOk, OnErr, slice_get, ◌==◌, ◌↔◌, ◌≤◌, IfOk, IfSome, IsNone, Some};
 
 use std::alloc::{AllocError, Global};
 use std::marker::Model;
@@ -72,4 +72,13 @@ impl<T> Items<T> {
     {
         self.items
     }
+}
+
+/// The same numbers in memory of their own. `AllocError` where there is no memory.
+pub(crate) fn copied_numbers(alloc: Global, numbers: &Items<u64>) -> Result<Items<u64>, AllocError>
+    ensures { IfOk result (λ copies. copies ≡ numbers.now) }
+{
+    Ok(Items {
+        items: Vec::from_slice(alloc, numbers.as_slice())?,
+    })
 }

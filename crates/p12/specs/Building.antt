@@ -2,7 +2,7 @@
 -- under Triple DES, the MAC under SHA-1.
 use Rattle.std.specs.Prelude.{◌≡◌, ◌⊎◌, ℕ, List, [], ◌∷◌, ◌++◌, length, map, replicate, All, Option, Some, ⊤}
 use Rattle.std.specs.Io.KnownBytes.{Consumes}
-use Rattle.outside.specs.Draw.{Lacks}
+use Rattle.octet_core.specs.Draw.{Lacks}
 use Rattle.sha1.specs.Sha1.{sha1}
 use Rattle.asn1_core.specs.Der.{IsShort}
 use Rattle.asn1_core.specs.Sets.{Each}

@@ -1,7 +1,7 @@
 //! Making and testing password hashes.
 ghost use Rattle.std.specs.Prelude.{◌≡◌, ◌≤◌, ◌<◌, ◌^◌, ◌↔◌, ℕ, List, length, IfErr, IfSome, IsErr, MatchResult};
 ghost use Rattle.std.specs.Io.KnownBytes.{Consumes, Keeps};
-ghost use Rattle.outside.specs.Faults.{HasCause};
+ghost use Rattle.octet_core.specs.Faults.{HasCause};
 ghost use Rattle.pbkdf2.specs.Algorithm.{derived};
 ghost use Rattle.pbkdf2.specs.Hashes.{hash_of, Customizes, HasSettings, RefusesSettings, Verifies};
 

@@ -1,6 +1,6 @@
 -- What is made of an initialization vector and a salt that were drawn.
 use Rattle.std.proofs.Common.{◌≡◌, ◌∙◌, ap, List, ℕ, Option}
-use Rattle.outside.specs.Draw.{DrawsIvAndSalt}
+use Rattle.octet_core.specs.Draw.{DrawsIvAndSalt}
 
 -- the same octets, of which something else holds
 pub drawn_so : (old new : Option (List ℕ)) (P Q : List ℕ → List ℕ → Type 0) → ((iv salt : List ℕ) → P iv salt → Q iv salt) → DrawsIvAndSalt old new P → DrawsIvAndSalt old new Q

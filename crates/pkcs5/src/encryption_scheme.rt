@@ -4,7 +4,7 @@ ghost use Rattle.asn1_core.specs.Gives.{Gives};
 ghost use Rattle.asn1_core.specs.Oid.{oid_octets};
 ghost use Rattle.asn1_core.specs.Reading.{whole};
 ghost use Rattle.spki.specs.Seen.{borrowed_any, borrowed_algorithm};
-ghost use Rattle.outside.specs.Draw.{DrawsIvAndSalt, Lacks};
+ghost use Rattle.octet_core.specs.Draw.{DrawsIvAndSalt, Lacks};
 ghost use Rattle.pkcs5.specs.Generation.{recommended};
 ghost use Rattle.pkcs5.specs.declared.error.Error.TheVariants as errors;
 ghost use Rattle.pkcs5.specs.Scheme.{IsPbes1, IsPbes2, scheme_oid, SchemeOf, scheme_content, IsScheme, SpellsScheme, scheme_with, scheme_in, scheme_of, scheme_at};

@@ -2,7 +2,7 @@
 use Rattle.std.proofs.Common.{◌≡◌, ℕ, List, Option, Result, Ok, Err, inr, refl, subst, length, lit<, lit≤}
 use Rattle.std.specs.Prelude.{IfOk, IfErr}
 use Rattle.asn1_core.specs.declared.error.Error.TheVariants as asn1
-use Rattle.outside.specs.Draw.{DrawsIvAndSalt}
+use Rattle.octet_core.specs.Draw.{DrawsIvAndSalt}
 use Rattle.pkcs5.specs.Generation.{recommended}
 use Rattle.pkcs5.specs.Opening.{FitsKey}
 use Rattle.pkcs5.specs.declared.error.Error.TheVariants as pkcs5

@@ -1,7 +1,7 @@
 //! Key types that private keys are stored from.
 ghost use Rattle.std.specs.Prelude.{◌≡◌, ◌≤◌, ◌⊎◌, List, ℕ, IfOk, IfErr, OnOk};
 ghost use Rattle.asn1_core.specs.declared.error.Error.TheVariants as below;
-ghost use Rattle.outside.specs.Draw.{DrawsIvAndSalt, Lacks};
+ghost use Rattle.octet_core.specs.Draw.{DrawsIvAndSalt, Lacks};
 ghost use Rattle.pkcs5.specs.Generation.{recommended};
 ghost use Rattle.pkcs8.specs.declared.error.Error.{Error};
 ghost use Rattle.pkcs8.specs.declared.error.Error.TheVariants.{Asn1};
@@ -12,7 +12,7 @@ use crate::encryption::seal_drawn;
 use crate::error::{Error, Result};
 use crate::private_key_info::{PrivateKeyInfoOwned, PrivateKeyInfoRef};
 use der_core::{Encode, SecretDocument};
-use outside::Draw;
+use octet_core::Draw;
 use std::alloc::Global;
 use std::rt::Files;
 

@@ -1,7 +1,7 @@
 //! Encrypting private keys.
 ghost use Rattle.std.specs.Prelude.{◌≡◌, ◌≤◌, ◌⊎◌, length, None, IfOk, IfErr, OnOk};
 ghost use Rattle.asn1_core.specs.Writing.{Cause, IsOverlong};
-ghost use Rattle.outside.specs.Draw.{DrawsIvAndSalt, Lacks};
+ghost use Rattle.octet_core.specs.Draw.{DrawsIvAndSalt, Lacks};
 ghost use Rattle.pkcs5.specs.Generation.{recommended};
 ghost use Rattle.pkcs5.specs.Kinds.{IsDes};
 ghost use Rattle.pkcs5.specs.Opening.{FitsKey};
@@ -14,7 +14,7 @@ use crate::encrypted_private_key_info::EncryptedPrivateKeyInfo;
 use crate::error::{Error, Result};
 use crate::private_key_info::PrivateKeyInfo;
 use der_core::{Encode, OctetStringRef, SecretDocument};
-use outside::Draw;
+use octet_core::Draw;
 use pkcs5::{EncryptionScheme, pbes2, schemes_have_texts};
 use std::alloc::Global;
 

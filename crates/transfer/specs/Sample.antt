@@ -15,7 +15,7 @@ use Rattle.p12.specs.declared.content_info.ContentInfo.TheVariants as content
 use Rattle.p12.specs.declared.pfx.PFX.{PFX}
 use Rattle.p12.specs.declared.safe_bag.SafeBag.{SafeBag}
 use Rattle.p12.specs.declared.safe_bag.SafeBagKind.TheVariants as kind
-use Rattle.outside.specs.Faults.{Rose}
+use Rattle.octet_core.specs.Faults.{Rose}
 use Rattle.frame.specs.DueText.{AppendsPart, digits_line}
 use Rattle.frame.specs.Status.{error_text}
 use Rattle.frame.specs.Stream.{Stream}

@@ -2,7 +2,7 @@
 use Rattle.std.specs.Prelude.{ℕ, ◌+◌, ◌*◌, ◌<◌, ◌≡◌, List, [], ◌∷◌, ◌++◌, length, take, drop, get_or, Option, IfSome}
 use Rattle.std.specs.Io.KnownBytes.{Consumes}
 use Rattle.transfer.specs.Document.{IsDocument}
-use Rattle.outside.specs.Faults.{Rose}
+use Rattle.octet_core.specs.Faults.{Rose}
 
 -- The document seals the private key of this text under these 32 octets: the IV and then the salt.
 pub record IsDrawn (rounds : ℕ) (q drawn text document : List ℕ) : Type 0 where

@@ -15,7 +15,7 @@ pub use laws::{
     documents_are_canonical, documents_are_sealed, drawn_in_place, each_has_verdict, one_document,
     one_verdict, opened_exactly, valid_exactly,
 };
-pub use outside::{Failed, MemorySink, MemorySource, ReadSource, Sink, Source, WriteSink};
+pub use octet_core::{Failed, MemorySink, MemorySource, ReadSource, Sink, Source, WriteSink};
 pub use program::top_call::run;
 pub use store::error::TransferError;
 pub use store::opened::{Opened, open_store};

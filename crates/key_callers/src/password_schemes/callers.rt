@@ -1,6 +1,6 @@
 //! The callers of CALLING.md.
 ghost use Rattle.std.specs.Prelude.{◌≡◌, IfOk, IfErr};
-ghost use Rattle.outside.specs.Draw.{DrawsIvAndSalt};
+ghost use Rattle.octet_core.specs.Draw.{DrawsIvAndSalt};
 ghost use Rattle.pkcs5.specs.Generation.{recommended};
 ghost use Rattle.pkcs5.specs.Opening.{Opens};
 ghost use Rattle.pkcs5.specs.Refusals.{RefusesToEncryptIn};

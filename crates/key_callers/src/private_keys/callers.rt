@@ -1,6 +1,6 @@
 //! The callers of CALLING.md.
 ghost use Rattle.std.specs.Prelude.{◌≡◌, List, ℕ, IfOk};
-ghost use Rattle.outside.specs.Draw.{DrawsIvAndSalt};
+ghost use Rattle.octet_core.specs.Draw.{DrawsIvAndSalt};
 ghost use Rattle.pkcs5.specs.Generation.{recommended};
 ghost use Rattle.pkcs8.specs.KeyTypes.{IsUnlocked, OfKey};
 ghost use Rattle.pkcs8.specs.Sealing.{IsSealed};
@@ -11,7 +11,7 @@ use super::KEY;
 use super::documents::SEALED;
 use crate::values::{octets, oid};
 use asn1_core::{ObjectIdentifier, Octets};
-use outside::Draw;
+use octet_core::Draw;
 use pkcs8::{DecodePrivateKey, EncodePrivateKey, Error, PrivateKeyInfoRef, Result, SecretDocument};
 use std::alloc::Global;
 

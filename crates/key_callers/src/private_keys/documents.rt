@@ -4,7 +4,7 @@ use super::callers::sealed;
 use crate::values::{are_digits, is_text, octets, oid};
 use asn1_core::Octets;
 use der_core::{OctetStringRef, canon_is_read, exact_spellings, texts_are_read};
-use outside::DrawnBytes;
+use octet_core::DrawnBytes;
 use pkcs5::pbes2;
 use pkcs8::{
     EncryptedPrivateKeyInfo, EncryptedPrivateKeyInfoOwned, EncryptedPrivateKeyInfoRef, Error,

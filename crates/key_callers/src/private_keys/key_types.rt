@@ -5,7 +5,7 @@ use super::documents::SEALED;
 use super::{KEY, WITH_PUBLIC_KEY, read};
 use crate::values::{are_digits, octets};
 use asn1_core::Octets;
-use outside::DrawnBytes;
+use octet_core::DrawnBytes;
 use pkcs8::{
     DecodePrivateKey, EncodePrivateKey, Error, PrivateKeyInfoOwned, PrivateKeyInfoRef, Result,
     SecretDocument,

@@ -1,6 +1,6 @@
 //! Parameters of PBES2 from their parts, and from drawn octets.
 ghost use Rattle.std.specs.Prelude.{◌≡◌, ◌≤◌, ◌⊎◌, ◌<◌, length, IfOk, IfErr, MatchResult};
-ghost use Rattle.outside.specs.Draw.{DrawsIvAndSalt, Lacks};
+ghost use Rattle.octet_core.specs.Draw.{DrawsIvAndSalt, Lacks};
 ghost use Rattle.pkcs5.specs.Error.{InvalidOf};
 ghost use Rattle.pkcs5.specs.Identifiers.{pbkdf2_oid, scrypt_oid};
 ghost use Rattle.pkcs5.specs.Generation.{RefusesScrypt, TakesScrypt, by_pbkdf2, pbkdf2_sha256, recommended, scrypt_with};

@@ -12,7 +12,7 @@ ghost use Rattle.transfer.specs.Words.{IsNoCommand};
 use crate::program::words::{command_of, sample_keys};
 use crate::sample::lines::sample_lines;
 use frame::{Status, answer, write_decision};
-use outside::{Draw, Sink, Source};
+use octet_core::{Draw, Sink, Source};
 use std::alloc::Global;
 use std::sync::ledger::Ledger;
 use steps::Steps;

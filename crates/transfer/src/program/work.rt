@@ -9,7 +9,7 @@ use crate::program::due_text::due_lines;
 use crate::store::transfer::{Transferred, transfer};
 use asn1_core::{Items, Octets};
 use frame::{Status, StoreJob};
-use outside::Draw;
+use octet_core::Draw;
 use std::alloc::Global;
 use std::sync::ledger::Ledger;
 use steps::Steps;

@@ -1,5 +1,5 @@
 use Rattle.std.proofs.Common.{List, ℕ, sym, subst}
-use Rattle.outside.specs.Draw.{DrawsIvAndSalt}
+use Rattle.octet_core.specs.Draw.{DrawsIvAndSalt}
 use Rattle.pkcs5.specs.Generation.{recommended}
 use Rattle.pkcs8.specs.Sealing.{IsSealed}
 use Rattle.pkcs8.proofs.Drawn.{of_some_text}

@@ -1,12 +1,12 @@
 //! A sink in memory.
 ghost use Rattle.std.specs.Prelude.{◌≡◌, [], length, min, Some, IfOk, is_err};
 ghost use Rattle.std.specs.Io.{WritesAtMost};
-ghost use Rattle.outside.specs.Faults.{HasCause};
-ghost use Rattle.outside.specs.Sink.{Writes};
+ghost use Rattle.octet_core.specs.Faults.{HasCause};
+ghost use Rattle.octet_core.specs.Sink.{Writes};
 
 use crate::failed::Failed;
+use crate::items::{Items, copied_numbers};
 use crate::sink::Sink;
-use octet_core::Items;
 use std::alloc::{AllocError, Global};
 use std::marker::Model;
 
@@ -23,7 +23,7 @@ pub struct MemorySink {
 
 impl Model for MemorySink {
     ghost use Rattle.std.specs.Prelude.{ℕ, List, ◌≤◌, ◌+◌, length, vec_len, vec_capacity};
-    ghost use Rattle.outside.specs.MemorySink.{SinkState};
+    ghost use Rattle.octet_core.specs.MemorySink.{SinkState};
 
     ghost Value = { SinkState };
 
@@ -39,7 +39,7 @@ impl Model for MemorySink {
 }
 
 impl MemorySink {
-    ghost use Rattle.outside.specs.MemorySink.{SinkState};
+    ghost use Rattle.octet_core.specs.MemorySink.{SinkState};
 
     /// A sink with room for `room` octets. The writes that `failing` lists fail. `AllocError` where there is no memory.
     pub fn new(alloc: Global, room: usize, failing: Items<u64>) -> Result<MemorySink, AllocError>
@@ -62,6 +62,21 @@ impl MemorySink {
         })
     }
 
+    /// An equal sink, which has taken its memory as well. `AllocError` where there is none.
+    pub fn try_clone(&self, alloc: Global) -> Result<MemorySink, AllocError>
+        ensures { IfOk result (λ s. s ≡ self.now) }
+    {
+        let mut bytes = Vec::with_capacity(alloc, self.bytes.capacity())?;
+        bytes.extend_from_slice(self.bytes.as_slice())?;
+        Ok(MemorySink {
+            bytes,
+            room: self.room,
+            failing: copied_numbers(alloc, &self.failing)?,
+            call: self.call,
+            faults: self.faults,
+        })
+    }
+
     /// What was written.
     pub fn octets(&self) -> &[u8]
         ensures { result.now ≡ self.now.written }
@@ -71,7 +86,7 @@ impl MemorySink {
 }
 
 impl Sink for MemorySink {
-    ghost use Rattle.outside.specs.MemorySink.{SinkState, write_fails, after_write};
+    ghost use Rattle.octet_core.specs.MemorySink.{SinkState, write_fails, after_write};
 
     ghost written = { λ s. Some s.written };
 

@@ -1,12 +1,13 @@
 //! A draw over known octets.
-ghost use Rattle.std.specs.Prelude.{◌≡◌, ◌<◌, ◌≤◌, ◌↔◌, ◌++◌, length, drop, Some, OnOk, OnErr, IsErr};
-ghost use Rattle.outside.specs.Draw.{FailsShort, Fills};
-ghost use Rattle.outside.specs.DrawnBytes.{DrawnState};
-ghost use Rattle.outside.specs.Faults.{HasCause, one_more};
+ghost use Rattle.std.specs.Prelude.{◌≡◌, ◌<◌, ◌≤◌, ◌↔◌, ◌++◌, length, drop, Some, OnOk, OnErr, IfOk, IsErr};
+ghost use Rattle.octet_core.specs.Draw.{FailsShort, Fills};
+ghost use Rattle.octet_core.specs.DrawnBytes.{DrawnState};
+ghost use Rattle.octet_core.specs.Faults.{HasCause, one_more};
 
 use crate::draw::Draw;
 use crate::failed::Failed;
-use octet_core::Octets;
+use crate::octets::Octets;
+use std::alloc::{AllocError, Global};
 use std::marker::Model;
 
 /// Octets in memory that are drawn in their order.
@@ -35,6 +36,17 @@ impl DrawnBytes {
             at: 0,
             faults: 0,
         }
+    }
+
+    /// An equal draw in memory of its own. `AllocError` where there is no memory.
+    pub fn try_clone(&self, alloc: Global) -> Result<DrawnBytes, AllocError>
+        ensures { IfOk result (λ d. d ≡ self.now) }
+    {
+        Ok(DrawnBytes {
+            octets: self.octets.try_clone(alloc)?,
+            at: self.at,
+            faults: self.faults,
+        })
     }
 }
 

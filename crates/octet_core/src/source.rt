@@ -2,8 +2,8 @@
 ghost use Rattle.std.specs.Prelude.{ℕ, List, ◌≡◌, OnOk};
 ghost use Rattle.std.specs.declared.option.Option.{Option};
 ghost use Rattle.std.specs.Io.{ReadsAtMost};
-ghost use Rattle.outside.specs.Faults.{HasCause};
-ghost use Rattle.outside.specs.Source.{Reads};
+ghost use Rattle.octet_core.specs.Faults.{HasCause};
+ghost use Rattle.octet_core.specs.Source.{Reads};
 
 use crate::failed::Failed;
 

@@ -2,9 +2,9 @@
 ghost use Rattle.std.specs.Prelude.{◌≡◌, None, OnOk, OnErr};
 ghost use Rattle.std.specs.Io.{ReadsAtMost};
 ghost use Rattle.std.specs.Io.KnownBytes.{ReadConsumes};
-ghost use Rattle.outside.specs.Adapter.{Adapter};
-ghost use Rattle.outside.specs.Faults.{HasCause, one_more};
-ghost use Rattle.outside.specs.Source.{Reads};
+ghost use Rattle.octet_core.specs.Adapter.{Adapter};
+ghost use Rattle.octet_core.specs.Faults.{HasCause, one_more};
+ghost use Rattle.octet_core.specs.Source.{Reads};
 
 use crate::failed::Failed;
 use crate::source::Source;

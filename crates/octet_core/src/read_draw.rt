@@ -1,9 +1,9 @@
 //! A draw over a reader.
 ghost use Rattle.std.specs.Prelude.{◌≡◌, None, OnOk, OnErr};
 ghost use Rattle.std.specs.Io.KnownBytes.{Consumes};
-ghost use Rattle.outside.specs.Draw.{FailsShort, Fills};
-ghost use Rattle.outside.specs.Faults.{HasCause, one_more};
-ghost use Rattle.outside.specs.Adapter.{Adapter};
+ghost use Rattle.octet_core.specs.Draw.{FailsShort, Fills};
+ghost use Rattle.octet_core.specs.Faults.{HasCause, one_more};
+ghost use Rattle.octet_core.specs.Adapter.{Adapter};
 
 use crate::draw::Draw;
 use crate::failed::Failed;

@@ -1,7 +1,7 @@
 -- What a draw of octets promises.
 use Rattle.std.specs.Prelude.{◌≡◌, ℕ, ◌<◌, ◌↔◌, List, ◌++◌, length, Option, IfSome, Result, MatchResult, IsErr}
 use Rattle.std.specs.Io.KnownBytes.{Consumes, Keeps}
-use Rattle.outside.specs.Faults.{Rose}
+use Rattle.octet_core.specs.Faults.{Rose}
 
 -- where the octets to come are told: on Ok the buffer holds the next of them, and a failed draw takes none
 abbrev pub Fills : {E : Type 0} → Option (List ℕ) → Option (List ℕ) → Result (Unit {0}) E → List ℕ → Type 0

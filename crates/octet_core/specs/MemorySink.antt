@@ -1,7 +1,7 @@
 -- What a sink in memory is.
 use Rattle.std.specs.Prelude.{ℕ, ◌-◌, List, ◌++◌, length, take, Bool, if◌then◌else◌, ◌==◌, ◌&&◌, ◌||◌, nat_lt}
 use Rattle.std.specs.List.{list_any}
-use Rattle.outside.specs.Faults.{one_more}
+use Rattle.octet_core.specs.Faults.{one_more}
 
 -- A sink: what was written, how much more it takes, the numbers of the calls that fail, the number of the next call, and
 -- how many writes have failed.

@@ -2,8 +2,8 @@
 ghost use Rattle.std.specs.Prelude.{ℕ, List};
 ghost use Rattle.std.specs.declared.option.Option.{Option};
 ghost use Rattle.std.specs.Io.{WritesAtMost};
-ghost use Rattle.outside.specs.Faults.{HasCause};
-ghost use Rattle.outside.specs.Sink.{Writes};
+ghost use Rattle.octet_core.specs.Faults.{HasCause};
+ghost use Rattle.octet_core.specs.Sink.{Writes};
 
 use crate::failed::Failed;
 

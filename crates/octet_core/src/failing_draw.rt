@@ -1,12 +1,12 @@
 //! A draw that fails at chosen calls.
 ghost use Rattle.std.specs.Prelude.{◌≡◌, List, None, OnOk, OnErr, IsErr};
-ghost use Rattle.outside.specs.Draw.{FailsShort, Fills};
-ghost use Rattle.outside.specs.FailingDraw.{FailingState, IsListed};
-ghost use Rattle.outside.specs.Faults.{HasCause, one_more};
+ghost use Rattle.octet_core.specs.Draw.{FailsShort, Fills};
+ghost use Rattle.octet_core.specs.FailingDraw.{FailingState, IsListed};
+ghost use Rattle.octet_core.specs.Faults.{HasCause, one_more};
 
 use crate::draw::Draw;
 use crate::failed::Failed;
-use octet_core::Items;
+use crate::items::Items;
 use std::marker::Model;
 
 /// A draw that fails at chosen calls of `fill`, and else answers as the draw behind it. It does not tell its octets.

@@ -2,9 +2,9 @@
 ghost use Rattle.std.specs.Prelude.{◌≡◌, None, OnOk, OnErr};
 ghost use Rattle.std.specs.Io.{WritesAtMost};
 ghost use Rattle.std.specs.Io.KnownBytes.{WriteAppends};
-ghost use Rattle.outside.specs.Adapter.{Adapter};
-ghost use Rattle.outside.specs.Faults.{HasCause, one_more};
-ghost use Rattle.outside.specs.Sink.{Writes};
+ghost use Rattle.octet_core.specs.Adapter.{Adapter};
+ghost use Rattle.octet_core.specs.Faults.{HasCause, one_more};
+ghost use Rattle.octet_core.specs.Sink.{Writes};
 
 use crate::failed::Failed;
 use crate::sink::Sink;

@@ -1,8 +1,8 @@
 //! Where random octets come from.
 ghost use Rattle.std.specs.Prelude.{ℕ, List};
 ghost use Rattle.std.specs.declared.option.Option.{Option};
-ghost use Rattle.outside.specs.Draw.{FailsShort, Fills};
-ghost use Rattle.outside.specs.Faults.{HasCause};
+ghost use Rattle.octet_core.specs.Draw.{FailsShort, Fills};
+ghost use Rattle.octet_core.specs.Faults.{HasCause};
 
 use crate::failed::Failed;
 

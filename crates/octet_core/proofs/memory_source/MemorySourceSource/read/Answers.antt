@@ -1,7 +1,7 @@
 use Rattle.std.proofs.Common.{◌≡◌, ◌+◌, ◌-◌, length, take, drop, arith, ap, ◌∙◌}
 use Rattle.std.proofs.lemmas.List.{take_rest, drop_all, length-drop, length-append}
-use Rattle.outside.proofs.Pieces.{given}
-use Rattle.outside.proofs.memory_source.MemorySourceSource.read.Goals as goal
+use Rattle.octet_core.proofs.Pieces.{given}
+use Rattle.octet_core.proofs.memory_source.MemorySourceSource.read.Goals as goal
 
 pub returns-clause-octets : goal.returns-clause-octets
 returns-clause-octets c =

@@ -1,12 +1,14 @@
 //! A source over octets in memory.
 ghost use Rattle.std.specs.Prelude.{◌≡◌, ◌<◌, length, Some, IfOk, OnOk, is_err};
 ghost use Rattle.std.specs.Io.{ReadsAtMost};
-ghost use Rattle.outside.specs.Faults.{HasCause};
-ghost use Rattle.outside.specs.Source.{Reads};
+ghost use Rattle.octet_core.specs.Faults.{HasCause};
+ghost use Rattle.octet_core.specs.Source.{Reads};
 
 use crate::failed::Failed;
+use crate::items::{Items, copied_numbers};
+use crate::octets::Octets;
 use crate::source::Source;
-use octet_core::{Items, Octets};
+use std::alloc::{AllocError, Global};
 use std::marker::Model;
 
 /// Octets that are read in pieces: at most `piece` at a time. It fails exactly at the listed reads, counted from 0.
@@ -22,7 +24,7 @@ pub struct MemorySource {
 
 impl Model for MemorySource {
     ghost use Rattle.std.specs.Prelude.{ℕ, List, ◌≤◌, ◌<◌, length, drop};
-    ghost use Rattle.outside.specs.MemorySource.{SourceState};
+    ghost use Rattle.octet_core.specs.MemorySource.{SourceState};
 
     ghost Value = { SourceState };
 
@@ -38,7 +40,7 @@ impl Model for MemorySource {
 }
 
 impl MemorySource {
-    ghost use Rattle.outside.specs.MemorySource.{SourceState, read_fails, read_count, after_read};
+    ghost use Rattle.octet_core.specs.MemorySource.{SourceState, read_fails, read_count, after_read};
 
     /// A source of these octets, which gives at most `piece` of them at a read. The reads that `failing` lists fail.
     /// Caller: `piece` is at least 1.
@@ -61,10 +63,24 @@ impl MemorySource {
             faults: 0,
         }
     }
+
+    /// An equal source in memory of its own. `AllocError` where there is no memory.
+    pub fn try_clone(&self, alloc: Global) -> Result<MemorySource, AllocError>
+        ensures { IfOk result (λ s. s ≡ self.now) }
+    {
+        Ok(MemorySource {
+            octets: self.octets.try_clone(alloc)?,
+            at: self.at,
+            piece: self.piece,
+            failing: copied_numbers(alloc, &self.failing)?,
+            call: self.call,
+            faults: self.faults,
+        })
+    }
 }
 
 impl Source for MemorySource {
-    ghost use Rattle.outside.specs.MemorySource.{SourceState, read_fails, read_count, after_read};
+    ghost use Rattle.octet_core.specs.MemorySource.{SourceState, read_fails, read_count, after_read};
 
     ghost left = { λ s. Some s.rest };
 

@@ -1,7 +1,7 @@
 -- What a source over octets in memory is.
 use Rattle.std.specs.Prelude.{ℕ, List, length, drop, min, Bool, if◌then◌else◌, ◌==◌}
 use Rattle.std.specs.List.{list_any}
-use Rattle.outside.specs.Faults.{one_more}
+use Rattle.octet_core.specs.Faults.{one_more}
 
 -- A source: what is still to come, how much one read gives at most, the numbers of the calls that fail, the number of the
 -- next call, and how many reads have failed.

@@ -1,9 +1,0 @@
-pub mod Faults
-pub mod Draw
-pub mod Source
-pub mod Sink
-pub mod DrawnBytes
-pub mod FailingDraw
-pub mod Adapter
-pub mod MemorySource
-pub mod MemorySink
