@@ -1,5 +1,6 @@
 //! A writer that keeps what is written.
-ghost use Rattle.std.specs.Prelude.{◌≡◌, [], None};
+ghost use Rattle.std.specs.Prelude.{◌≡◌, [], None, IfOk, IfErr};
+ghost use Rattle.asn1_core.specs.declared.error.Error.TheVariants.{Memory};
 
 use crate::error::Error;
 use crate::writer::Writer;
@@ -20,6 +21,16 @@ impl VecWriter {
         VecWriter {
             octets: Octets::new(alloc),
         }
+    }
+
+    /// An equal writer in memory of its own. The only refusal is `Memory`.
+    pub fn try_clone(&self, alloc: Global) -> Result<VecWriter, Error>
+        ensures ok { IfOk result (λ w. w ≡ self.now) }
+        ensures err { IfErr result (λ e. e ≡ Memory) }
+    {
+        Ok(VecWriter {
+            octets: self.octets.try_clone(alloc)?,
+        })
     }
 
     /// What was written, with no copy.

@@ -12,6 +12,8 @@ mod cipher_caller;
 #[cfg(test)]
 mod cipher_chains;
 #[cfg(test)]
+mod copies;
+#[cfg(test)]
 mod der_texts;
 #[cfg(test)]
 mod der_writing;
