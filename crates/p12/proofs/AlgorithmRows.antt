@@ -16,13 +16,13 @@ use Rattle.asn1_core.specs.Reading.{Fault, All}
 use Rattle.pkcs5.specs.Identifiers.{pbes2_oid}
 use Rattle.pkcs5.specs.Parameters.{ParametersText}
 use Rattle.pkcs5.specs.ParametersLaws.{parameters-exact}
-use Rattle.p12.specs.declared.algorithm_identifier.OtherAlgorithmIdentifier.{OtherAlgorithmIdentifier}
+use Rattle.p12.specs.declared.other_algorithm_identifier.OtherAlgorithmIdentifier.{OtherAlgorithmIdentifier}
 use Rattle.p12.specs.Identifiers.{sha1_oid, sha256_oid, rc2_scheme_oid, triple_des_scheme_oid}
 use Rattle.p12.specs.AlgorithmIdentifier.{ParamsText, NoScheme, AlgorithmCase, AlgorithmText}
 use Rattle.p12.specs.DigestInfo.{DigestText}
 use Rattle.p12.specs.MacData.{MacText}
 use Rattle.p12.specs.Reading.{null_at, params_at, first_ok, or_else, algorithm_all, algorithm_at, digest_at, mac_at}
-use Rattle.p12.specs.declared.algorithm_identifier.Pkcs12PbeParams.{Pkcs12PbeParams}
+use Rattle.p12.specs.declared.pkcs12_pbe_params.Pkcs12PbeParams.{Pkcs12PbeParams}
 use Rattle.p12.specs.declared.algorithm_identifier.AlgorithmIdentifier.{AlgorithmIdentifier}
 use Rattle.p12.specs.declared.algorithm_identifier.AlgorithmIdentifier.TheVariants.{Sha1, Sha256, PbewithSHAAnd40BitRC2CBC, PbeWithSHAAnd3KeyTripleDESCBC, Pbes2, OtherAlg}
 use Rattle.p12.specs.declared.digest_info.DigestInfo.{DigestInfo}

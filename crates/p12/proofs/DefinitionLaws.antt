@@ -1,5 +1,5 @@
 -- Laws of the definitions, for the crates above.
-use Rattle.std.proofs.Common.{◌<◌, ◌≡◌, ℕ, ◌*◌, ◌-◌, ◌≤◌, List, length, Bool, true, false, Option, Some, None, refl, arith, IsTrue, nat_lt}
+use Rattle.std.proofs.Common.{◌<◌, ◌≡◌, ℕ, ◌*◌, ◌≤◌, List, length, Bool, true, false, Option, Some, None, refl, arith, IsTrue, nat_lt}
 use Rattle.std.specs.Prelude.{All, if◌then◌else◌, ◌&&◌}
 use Rattle.std.proofs.lemmas.Bool.{ltb-true}
 use Rattle.asn1_core.specs.Texts.{Within, Many}

@@ -21,6 +21,7 @@ pub mod SpelledStores
 mod HeldBags
 pub mod TextRefusals
 pub mod Again
+pub mod Alike
 pub mod MadeTexts
 mod Made
 mod MadeSizes

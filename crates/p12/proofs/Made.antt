@@ -21,7 +21,7 @@ use Rattle.p12.specs.Pfx.{IsStore, PfxText, StoreFits}
 use Rattle.p12.specs.SafeBag.{BagText, IsBags}
 use Rattle.p12.specs.Same.{SameBag}
 use Rattle.p12.proofs.Again.{known, latest_again, bags_again}
-use Rattle.p12.proofs.DefinitionLaws.{bags_sole, contents_fit, contents_sole}
+use Rattle.p12.proofs.DefinitionLaws.{bags_sole, contents_fit, contents_sole, store_sole}
 use Rattle.p12.proofs.Macs.{mac_of_agrees}
 use Rattle.p12.proofs.MadeTexts.{bag_text, both_made, certificate_made, key_made, sealed_key, store_made}
 use Rattle.p12.specs.declared.algorithm_identifier.AlgorithmIdentifier.TheVariants.{Sha1}
@@ -232,3 +232,22 @@ made_is_read q e s store (t, o, is) short = (subst (λ (x : PFX). PfxText (store
 pub made_is_written : (q : List ℕ) (e : Entry) (s : Salts) (store : PFX) → IsStoreOf q e store s → WritableStore store
 unfolding mac_of
 made_is_written q e s store (t, o, is) = subst WritableStore (sym is) (tt, tt)
+
+-- ---- what was written is read again
+
+-- the store that is read is the one that was written
+reread : (q : List ℕ) (e : Entry) (s : Salts) (store read : PFX) → IsStoreOf q e store s → IsStore (store_canon store) read → store ≡ read
+unfolding IsStore
+reread q e s store read made is = store_sole (store_canon store) store read (made_is_read q e s store made is.1) is
+
+pub reread_holds : (p : List ℕ) (e : Entry) (s : Salts) (store read : PFX) → IsUtf8 e.name → IsStoreOf (bmp_password p) e store s → IsStore (store_canon store) read → (gs : List SafeBag) × StoreHolds p read gs
+reread_holds p e s store read u made is =
+    subst (λ x. (gs : List SafeBag) × StoreHolds p x gs) (reread (bmp_password p) e s store read made is) (made_holds p e s store u made)
+
+pub reread_gives_back : (p : List ℕ) (e : Entry) (s : Salts) (store read : PFX) (gs : List SafeBag) → IsUtf8 e.name → IsStoreOf (bmp_password p) e store s → IsStore (store_canon store) read → StoreHolds p read gs → GivesBack p e gs
+reread_gives_back p e s store read gs u made is held =
+    made_gives_back p e s store gs u made (subst (λ x. StoreHolds p x gs) (sym (reread (bmp_password p) e s store read made is)) held)
+
+pub reread_agrees : (p : List ℕ) (e : Entry) (s : Salts) (store read : PFX) → IsStoreOf (bmp_password p) e store s → IsStore (store_canon store) read → store_agrees p read ≡ true
+reread_agrees p e s store read made is =
+    subst (λ x. store_agrees p x ≡ true) (reread (bmp_password p) e s store read made is) (made_agrees p e s store made)

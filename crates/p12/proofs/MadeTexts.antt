@@ -19,7 +19,7 @@ use Rattle.p12.proofs.Again.{known, one_left, encrypted_content_of, encrypted_da
 use Rattle.p12.proofs.Macs.{made_mac}
 use Rattle.p12.specs.declared.algorithm_identifier.AlgorithmIdentifier.{AlgorithmIdentifier}
 use Rattle.p12.specs.declared.algorithm_identifier.AlgorithmIdentifier.TheVariants.{Sha1, PbeWithSHAAnd3KeyTripleDESCBC}
-use Rattle.p12.specs.declared.algorithm_identifier.Pkcs12PbeParams.{Pkcs12PbeParams}
+use Rattle.p12.specs.declared.pkcs12_pbe_params.Pkcs12PbeParams.{Pkcs12PbeParams}
 use Rattle.p12.specs.declared.attribute.PKCS12Attribute.{PKCS12Attribute}
 use Rattle.p12.specs.declared.cert_bag.CertBag.TheVariants.{X509}
 use Rattle.p12.specs.declared.content_info.ContentInfo.{ContentInfo}

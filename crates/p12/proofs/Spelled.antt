@@ -16,7 +16,7 @@ use Rattle.p12.specs.EncryptedPrivateKeyInfo.{EncryptedKeyText}
 use Rattle.p12.specs.Canonical.{params_canon, algorithm_canon, digest_canon, mac_canon, encrypted_key_canon}
 use Rattle.p12.specs.Spellings.{HasOneText, IsSpelled, SpellsAlgorithm, SpellsCount, SpellsDigest, SpellsEncryptedKey, SpellsHash, SpellsMac}
 use Rattle.p12.proofs.Again.{Count, count_again, algorithm_again, digest_again, encrypted_key_again, known, mac_again, one_left, params_again, raw_is}
-use Rattle.p12.specs.declared.algorithm_identifier.Pkcs12PbeParams.{Pkcs12PbeParams}
+use Rattle.p12.specs.declared.pkcs12_pbe_params.Pkcs12PbeParams.{Pkcs12PbeParams}
 use Rattle.p12.specs.declared.algorithm_identifier.AlgorithmIdentifier.{AlgorithmIdentifier}
 use Rattle.p12.specs.declared.algorithm_identifier.AlgorithmIdentifier.TheVariants.{Sha1, Sha256, PbewithSHAAnd40BitRC2CBC, PbeWithSHAAnd3KeyTripleDESCBC, Pbes2, OtherAlg}
 use Rattle.p12.specs.declared.digest_info.DigestInfo.{DigestInfo}

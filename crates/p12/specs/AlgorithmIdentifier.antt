@@ -21,7 +21,7 @@ use Rattle.pkcs12_kdf.specs.Password.{bmp_password}
 use Rattle.p12.specs.Identifiers.{sha1_oid, sha256_oid, rc2_scheme_oid, triple_des_scheme_oid}
 use Rattle.p12.specs.declared.error.Error.{Error}
 use Rattle.p12.specs.declared.error.Error.TheVariants as errors
-use Rattle.p12.specs.declared.algorithm_identifier.Pkcs12PbeParams.{Pkcs12PbeParams}
+use Rattle.p12.specs.declared.pkcs12_pbe_params.Pkcs12PbeParams.{Pkcs12PbeParams}
 use Rattle.p12.specs.declared.algorithm_identifier.AlgorithmIdentifier.{AlgorithmIdentifier}
 use Rattle.p12.specs.declared.algorithm_identifier.AlgorithmIdentifier.TheVariants.{Sha1, Sha256, PbewithSHAAnd40BitRC2CBC, PbeWithSHAAnd3KeyTripleDESCBC, Pbes2, OtherAlg}
 

@@ -7,10 +7,10 @@ use Rattle.pkcs5.specs.Opening.{LeftBy, key_under, states_length}
 use Rattle.pkcs5.specs.declared.pbes2.parameters.Parameters.{Parameters}
 use Rattle.p12.specs.AlgorithmIdentifier.{is_blocks, triple_des_text}
 use Rattle.pkcs12_kdf.specs.Password.{bmp_password}
-use Rattle.p12.specs.declared.algorithm_identifier.Pkcs12PbeParams.{Pkcs12PbeParams}
+use Rattle.p12.specs.declared.pkcs12_pbe_params.Pkcs12PbeParams.{Pkcs12PbeParams}
 use Rattle.p12.specs.declared.algorithm_identifier.AlgorithmIdentifier.{AlgorithmIdentifier}
 use Rattle.p12.specs.declared.algorithm_identifier.AlgorithmIdentifier.TheVariants.{Sha1, Sha256, PbewithSHAAnd40BitRC2CBC, PbeWithSHAAnd3KeyTripleDESCBC, Pbes2, OtherAlg}
-use Rattle.p12.specs.declared.algorithm_identifier.ParamsView.{ParamsView}
+use Rattle.p12.specs.declared.pkcs12_pbe_params.ParamsView.{ParamsView}
 use Rattle.p12.specs.declared.algorithm_identifier.AlgorithmView.{AlgorithmView}
 use Rattle.p12.specs.declared.algorithm_identifier.AlgorithmView.TheVariants as view
 

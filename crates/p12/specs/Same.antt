@@ -1,5 +1,6 @@
 -- Values that are equal up to the order of their sets, and values that are read again from what is written of them.
 use Rattle.std.specs.Prelude.{◌≡◌, ℕ, List}
+use Rattle.asn1_core.specs.Der.{IsShort}
 use Rattle.asn1_core.specs.Sets.{SameSet, Decodes, IsRead}
 use Rattle.p12.specs.declared.attribute.PKCS12Attribute.{PKCS12Attribute}
 use Rattle.p12.specs.declared.attribute.PKCS12Attribute.TheVariants.{FriendlyName, LocalKeyId, Other}
@@ -31,3 +32,7 @@ CanBeWritten {A = A} R writable = (v : A) → IsRead R v → writable v
 -- values that are the same have one canonical text
 abbrev pub IsOneText : {A : Type 0} → (A → A → Type 0) → (A → List ℕ) → Type 0
 IsOneText {A = A} S canon = (v w : A) → S v w → canon v ≡ canon w
+
+-- what is written of a value that some text has is read as the same value, and of that the same octets are written
+abbrev pub IsWrittenAlike : {A : Type 0} → (List ℕ → A → Type 0) → (A → A → Type 0) → (A → List ℕ) → Type 0
+IsWrittenAlike {A = A} R S canon = (v w : A) → IsRead R v → R (canon v) w × IsShort (canon v) → S w v × (canon w ≡ canon v)

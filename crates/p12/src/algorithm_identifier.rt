@@ -1,26 +1,27 @@
 //! Algorithms of PKCS#12.
 ghost use Rattle.std.specs.Prelude.{◌+◌, ◌*◌, ◌≡◌, ◌<◌, ◌≤◌, ◌^◌, length, take, OnOk, IfOk, IfErr, IfSome, IfNone, Some, None, true};
 ghost use Rattle.asn1_core.specs.Gives.{Gives, ReadsAs, ReadsIn};
-ghost use Rattle.p12.specs.AlgorithmView.{LeftUnopened, left_pbe, seen_algorithm, seen_params};
+ghost use Rattle.p12.specs.AlgorithmView.{LeftUnopened, left_pbe, seen_algorithm};
 ghost use Rattle.asn1_core.specs.declared.error.Error.TheVariants as asn1;
-ghost use Rattle.p12.specs.AlgorithmIdentifier.{IsUnderDes, AlgorithmText, IsSealed, ParamsText, RefusesToSeal, ciphertext_length, cost, count, is_triple_des, openable, salt_of, taken, taken_pbe, unlock, unlock_pbe};
+ghost use Rattle.p12.specs.AlgorithmIdentifier.{IsUnderDes, AlgorithmText, IsSealed, RefusesToSeal, ciphertext_length, cost, count, is_triple_des, openable, salt_of, taken, taken_pbe, unlock, unlock_pbe};
 ghost use Rattle.pkcs5.specs.Kinds as kinds;
 ghost use Rattle.pkcs5.specs.Opening as opening;
 ghost use Rattle.p12.specs.Error.{Reads};
 ghost use Rattle.asn1_core.specs.Reading.{made, perhaps};
 ghost use Rattle.p12.specs.declared.algorithm_identifier.AlgorithmIdentifier.TheVariants as algorithm;
-ghost use Rattle.p12.specs.Reading.{params_at, null_at, digest_all, rc2_all, triple_des_all, pbes2_all, other_algorithm_all, algorithm_all, algorithm_at};
+ghost use Rattle.p12.specs.Reading.{null_at, digest_all, rc2_all, triple_des_all, pbes2_all, other_algorithm_all, algorithm_all, algorithm_at};
 
 use crate::error::Error;
 use crate::identifiers::{
     PBE_WITH_SHA1_AND_3KEY_TRIPLE_DES_CBC, PBE_WITH_SHA1_AND_40BIT_RC2_CBC, SHA1, SHA256,
 };
 use crate::opening::{TRIPLE_DES_BLOCK, open_blocks, open_pbes2, opened_pbes2};
+use crate::other_algorithm_identifier::OtherAlgorithmIdentifier;
 use crate::password::bmp_string;
+use crate::pkcs12_pbe_params::{ParamsView, Pkcs12PbeParams, params_view};
 use crate::sealing::{fitting, seal_blocks, seal_pbes2};
 use asn1_core::{
     ObjectIdentifier, Octets, Reader, SliceReader, Tag, read_identifier, read_inner, read_raw,
-    read_uint,
 };
 use der_core::Decode;
 use pkcs5::pbes2::{Kdf, PBES2_OID, Parameters, Pbkdf2Prf};
@@ -28,24 +29,6 @@ use std::alloc::Global;
 use std::marker::Brand;
 use std::sync::ledger::{Blank, Ledger};
 use steps::Steps;
-
-/// The parameters of a password-based scheme (RFC 7292 appendix C): the salt, and how many rounds derive its key.
-///
-/// ```text
-/// pkcs-12PbeParams ::= SEQUENCE { salt OCTET STRING, iterations INTEGER }
-/// ```
-#[derive(Debug, PartialEq, Eq, Drop)]
-pub struct Pkcs12PbeParams {
-    pub salt: Octets,
-    pub iterations: u64,
-}
-
-/// An algorithm that is none of those that stores are written with here: its identifier, and its parameters as they stand.
-#[derive(Debug, PartialEq, Eq, Drop)]
-pub struct OtherAlgorithmIdentifier {
-    pub algorithm_type: ObjectIdentifier,
-    pub params: Option<Octets>,
-}
 
 /// An algorithm and its parameters (RFC 5280 section 4.1.1.2).
 ///
@@ -89,27 +72,6 @@ pub enum AlgorithmView<'a> {
         algorithm_type: ObjectIdentifier,
         params: Option<&'a [u8]>,
     },
-}
-
-/// The parameters of a password-based scheme, which lend the salt.
-#[derive(Clone, Copy, Drop)]
-pub(crate) struct ParamsView<'a> {
-    pub(crate) salt: &'a [u8],
-    pub(crate) iterations: u64,
-}
-
-#[tactic(auto, unfolding(crate::specs::Reading::params_at))]
-fn params_view<'a>(r: &mut SliceReader<'a>) -> Result<ParamsView<'a>, asn1_core::Error>
-    ensures exact { ReadsAs params_at seen_params r.old.rest.now r.new.rest.now result }
-    ensures place { r.new.read + length r.new.rest.now ≡ r.old.read + length r.old.rest.now }
-{
-    let mut ahead = *r;
-    let mut body = read_inner(&mut ahead, Tag::SEQUENCE)?;
-    let salt = read_inner(&mut body, Tag::OCTET_STRING)?.rest;
-    let iterations = read_uint(&mut body, u64::MAX)?;
-    body.finish()?;
-    *r = ahead;
-    Ok(ParamsView { salt, iterations })
 }
 
 /// That nothing stands, or NULL.
@@ -233,18 +195,6 @@ pub(crate) fn algorithm_view<'a>(
     Ok(algorithm)
 }
 
-impl<'a> ParamsView<'a> {
-    fn owned(&self, alloc: Global) -> Result<Pkcs12PbeParams, asn1_core::Error>
-        ensures ok { IfOk result (λ p. p ≡ seen_params self.now) }
-        ensures err { IfErr result (λ e. e ≡ asn1.Memory) }
-    {
-        Ok(Pkcs12PbeParams {
-            salt: Octets::from_slice(alloc, self.salt)?,
-            iterations: self.iterations,
-        })
-    }
-}
-
 impl<'a> AlgorithmView<'a> {
     /// The same in memory of its own. The only refusal is `Memory`.
     pub fn owned(&self, alloc: Global) -> Result<AlgorithmIdentifier, asn1_core::Error>
@@ -284,20 +234,6 @@ impl<'a> AlgorithmView<'a> {
     }
 }
 
-fn params_in_front(
-    alloc: Global,
-    r: &mut SliceReader<'_>,
-) -> Result<Pkcs12PbeParams, asn1_core::Error>
-    ensures exact { ReadsIn params_at (λ x. x) r.old.rest.now r.new.rest.now result }
-    ensures place { r.new.read + length r.new.rest.now ≡ r.old.read + length r.old.rest.now }
-{
-    let mut ahead = *r;
-    let view = params_view(&mut ahead)?;
-    let params = view.owned(alloc)?;
-    *r = ahead;
-    Ok(params)
-}
-
 fn algorithm_in_front(
     alloc: Global,
     r: &mut SliceReader<'_>,
@@ -315,16 +251,6 @@ fn algorithm_in_front(
     Ok(algorithm)
 }
 
-impl Pkcs12PbeParams {
-    /// The parameters that stand next. `Malformed` exactly where none do; a refusal does not move the reader.
-    pub fn parse(alloc: Global, r: &mut SliceReader<'_>) -> Result<Pkcs12PbeParams, Error>
-        ensures stands { Reads ParamsText r.old.rest.now r.new.rest.now result }
-        ensures place { r.new.read + length r.new.rest.now ≡ r.old.read + length r.old.rest.now }
-    {
-        Ok(params_in_front(alloc, r)?)
-    }
-}
-
 impl AlgorithmIdentifier {
     /// The algorithm that stands next. `Malformed` exactly where none does; a refusal does not move the reader.
     pub fn parse(alloc: Global, r: &mut SliceReader<'_>) -> Result<AlgorithmIdentifier, Error>
@@ -332,36 +258,6 @@ impl AlgorithmIdentifier {
         ensures place { r.new.read + length r.new.rest.now ≡ r.old.read + length r.old.rest.now }
     {
         Ok(algorithm_in_front(alloc, r)?)
-    }
-}
-
-impl Pkcs12PbeParams {
-    /// An equal value in memory of its own. The only refusal is `Memory`.
-    pub fn try_clone(&self, alloc: Global) -> Result<Pkcs12PbeParams, Error>
-        ensures ok { IfOk result (λ v. v ≡ self.now) }
-        ensures err { IfErr result (λ e. e ≡ Error.Memory) }
-    {
-        Ok(Pkcs12PbeParams {
-            salt: self.salt.try_clone(alloc)?,
-            iterations: self.iterations,
-        })
-    }
-}
-
-impl OtherAlgorithmIdentifier {
-    /// An equal value in memory of its own. The only refusal is `Memory`.
-    pub fn try_clone(&self, alloc: Global) -> Result<OtherAlgorithmIdentifier, Error>
-        ensures ok { IfOk result (λ v. v ≡ self.now) }
-        ensures err { IfErr result (λ e. e ≡ Error.Memory) }
-    {
-        let params = match &self.params {
-            Some(params) => Some(params.try_clone(alloc)?),
-            None => None,
-        };
-        Ok(OtherAlgorithmIdentifier {
-            algorithm_type: self.algorithm_type,
-            params,
-        })
     }
 }
 

@@ -6,10 +6,11 @@ ghost use Rattle.p12.specs.Canonical.{WritableBag, bags_canon};
 ghost use Rattle.p12.specs.MacData.{mac_agrees, mac_of};
 ghost use Rattle.p12.specs.declared.algorithm_identifier.AlgorithmIdentifier.TheVariants as algorithm;
 
-use crate::algorithm_identifier::{AlgorithmIdentifier, Pkcs12PbeParams};
+use crate::algorithm_identifier::AlgorithmIdentifier;
 use crate::encrypted_data::{EncryptedContentInfo, EncryptedData};
 use crate::error::Error;
 use crate::mac_data::MacData;
+use crate::pkcs12_pbe_params::Pkcs12PbeParams;
 use crate::safe_bag::SafeBag;
 use asn1_core::Octets;
 use mac_modes::Draw;

@@ -2,11 +2,12 @@
 //! is read again, the texts of a value are its canonical one and its other spellings, and a store that was made here
 //! opens here.
 pub use crate::made_stores::{
-    a_made_mac_agrees, a_made_store_is_read_again, a_made_store_opens, what_opens_has_no_fault,
+    a_made_mac_agrees, a_made_store_is_read_again, a_made_store_opens,
+    a_made_store_opens_once_it_is_read_again, what_opens_has_no_fault,
 };
 pub use crate::rereading::{
-    sets_have_one_canonical_text, what_is_read_can_be_written, written_sets_are_read_as_the_same,
-    written_values_are_read_again,
+    sets_have_one_canonical_text, what_is_read_can_be_written, what_was_read_is_written_alike,
+    written_sets_are_read_as_the_same, written_values_are_read_again,
 };
 pub use crate::spellings::{
     algorithms_are_spelled, attributes_are_spelled, bags_are_spelled, contents_are_spelled,

@@ -20,8 +20,10 @@ mod mac;
 mod mac_data;
 mod made_stores;
 mod opening;
+mod other_algorithm_identifier;
 mod password;
 mod pfx;
+mod pkcs12_pbe_params;
 mod place;
 mod rereading;
 mod rows;
@@ -33,9 +35,7 @@ pub mod uniqueness;
 mod writing;
 mod written;
 
-pub use algorithm_identifier::{
-    AlgorithmIdentifier, AlgorithmView, OtherAlgorithmIdentifier, Pkcs12PbeParams,
-};
+pub use algorithm_identifier::{AlgorithmIdentifier, AlgorithmView};
 pub use attribute::{OtherAttribute, PKCS12Attribute};
 pub use bags_view::BagsView;
 pub use cert_bag::CertBag;
@@ -47,7 +47,9 @@ pub use encrypted_data::{EncryptedContentInfo, EncryptedData};
 pub use encrypted_private_key_info::EncryptedPrivateKeyInfo;
 pub use error::Error;
 pub use mac_data::{MacData, MacView};
+pub use other_algorithm_identifier::OtherAlgorithmIdentifier;
 pub use password::bmp_string;
 pub use pfx::{PFX, StoreView};
+pub use pkcs12_pbe_params::Pkcs12PbeParams;
 pub use place::Place;
 pub use safe_bag::{BagView, OtherBag, SafeBag, SafeBagKind};

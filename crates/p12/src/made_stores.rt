@@ -40,6 +40,20 @@ pub fn a_made_store_is_read_again()
         → IsShort (store_canon store) → IsStore (store_canon store) store }
 {}
 
+/// A store that was made here, written and read again, opens under its password, and only to what it was made of, and its
+/// MAC agrees.
+pub fn a_made_store_opens_once_it_is_read_again()
+    ensures opens { (p : List ℕ) (e : Entry) (s : Salts) (store read : PFX) → IsUtf8 e.name
+        → IsStoreOf (bmp_password p) e store s → IsStore (store_canon store) read
+        → (gs : List SafeBag) × StoreHolds p read gs }
+    ensures gives { (p : List ℕ) (e : Entry) (s : Salts) (store read : PFX) (gs : List SafeBag)
+        → IsUtf8 e.name → IsStoreOf (bmp_password p) e store s
+        → IsStore (store_canon store) read → StoreHolds p read gs → GivesBack p e gs }
+    ensures mac { (p : List ℕ) (e : Entry) (s : Salts) (store read : PFX)
+        → IsStoreOf (bmp_password p) e store s → IsStore (store_canon store) read
+        → store_agrees p read ≡ true }
+{}
+
 /// A MAC that `MacData::new` or `MacData::with_salt` made agrees for the same content and password.
 pub fn a_made_mac_agrees()
     ensures { (a : AlgorithmIdentifier) (q v salt : List ℕ) (r : ℕ) → is_mac_digest a ≡ true

@@ -7,8 +7,9 @@ ghost use Rattle.p12.specs.AlgorithmView.{LeftPbes2};
 ghost use Rattle.pkcs12_kdf.specs.Derivation.{turns};
 ghost use Rattle.p12.specs.declared.algorithm_identifier.AlgorithmIdentifier.TheVariants.{Pbes2};
 
-use crate::algorithm_identifier::{ParamsView, rounds_of};
+use crate::algorithm_identifier::rounds_of;
 use crate::error::Error;
+use crate::pkcs12_pbe_params::ParamsView;
 use asn1_core::Octets;
 use block_core::{BlockCipher, TdesEde3};
 use mac_modes::cbc_decrypt_padded;

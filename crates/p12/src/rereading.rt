@@ -1,4 +1,5 @@
 //! Laws of what is written and read again, each the contract of a function that does nothing.
+ghost use Rattle.std.specs.Prelude.{◌≡◌};
 ghost use Rattle.asn1_core.specs.Sets.{Each};
 ghost use Rattle.asn1_core.specs.Texts.{Many, Within};
 ghost use Rattle.p12.specs.AlgorithmIdentifier.{AlgorithmText, ParamsText};
@@ -12,7 +13,7 @@ ghost use Rattle.p12.specs.EncryptedPrivateKeyInfo.{EncryptedKeyText};
 ghost use Rattle.p12.specs.MacData.{MacText};
 ghost use Rattle.p12.specs.Pfx.{PfxText};
 ghost use Rattle.p12.specs.SafeBag.{BagText};
-ghost use Rattle.p12.specs.Same.{CanBeWritten, IsOneText, IsReadAgain, IsReadAsSame, SameAttribute, SameBag};
+ghost use Rattle.p12.specs.Same.{CanBeWritten, IsOneText, IsReadAgain, IsReadAsSame, IsWrittenAlike, SameAttribute, SameBag};
 
 /// The canonical text of a value that some text has is a text of that value. With `uniqueness::one_text_has_one_value`
 /// it is read as that value and no other.
@@ -58,4 +59,26 @@ pub fn what_is_read_can_be_written()
     ensures attribute { CanBeWritten AttributeText WritableAttribute }
     ensures bag { CanBeWritten BagText WritableBag }
     ensures store { CanBeWritten PfxText WritableStore }
+{}
+
+/// A value that was read, written, read again and written again is the same value up to the order of its sets, and the
+/// octets of both writings are equal.
+pub fn what_was_read_is_written_alike()
+    ensures params { IsWrittenAlike ParamsText (λ v w. v ≡ w) params_canon }
+    ensures algorithm { IsWrittenAlike AlgorithmText (λ v w. v ≡ w) algorithm_canon }
+    ensures digest { IsWrittenAlike DigestText (λ v w. v ≡ w) digest_canon }
+    ensures mac { IsWrittenAlike MacText (λ v w. v ≡ w) mac_canon }
+    ensures encrypted_content { IsWrittenAlike EncryptedContentText (λ v w. v ≡ w)
+        encrypted_content_canon }
+    ensures encrypted_data { IsWrittenAlike EncryptedDataText (λ v w. v ≡ w)
+        encrypted_data_canon }
+    ensures content { IsWrittenAlike ContentText (λ v w. v ≡ w) content_canon }
+    ensures contents { IsWrittenAlike (Within 0x30 (Many ContentText)) (λ v w. v ≡ w)
+        contents_canon }
+    ensures encrypted_key { IsWrittenAlike EncryptedKeyText (λ v w. v ≡ w) encrypted_key_canon }
+    ensures certificate { IsWrittenAlike CertBagText (λ v w. v ≡ w) cert_bag_canon }
+    ensures attribute { IsWrittenAlike AttributeText SameAttribute attribute_canon }
+    ensures bag { IsWrittenAlike BagText SameBag bag_canon }
+    ensures bags { IsWrittenAlike (Within 0x30 (Many BagText)) (Each SameBag) bags_canon }
+    ensures store { IsWrittenAlike PfxText (λ v w. v ≡ w) store_canon }
 {}

@@ -5,7 +5,7 @@ ghost use Rattle.asn1_core.specs.Oid.{oid_octets};
 ghost use Rattle.p12.specs.Canonical.{WritableAlgorithm, WritableAttribute, WritableBag, WritableCertBag, WritableContent, WritableDigest, WritableEncryptedContent, WritableEncryptedData, WritableKey, WritableKind, WritableMac, WritableStore, algorithm_canon, attribute_canon, attributes_canon, bag_canon, cert_bag_canon, content_canon, digest_canon, encrypted_content_canon, encrypted_data_canon, encrypted_key_canon, kind_canon, mac_canon, params_canon, store_canon};
 ghost use Rattle.p12.specs.Writing.{MakesText};
 
-use crate::algorithm_identifier::{AlgorithmIdentifier, Pkcs12PbeParams};
+use crate::algorithm_identifier::AlgorithmIdentifier;
 use crate::attribute::PKCS12Attribute;
 use crate::cert_bag::CertBag;
 use crate::content_info::ContentInfo;
@@ -19,6 +19,7 @@ use crate::identifiers::{
 };
 use crate::mac_data::MacData;
 use crate::pfx::PFX;
+use crate::pkcs12_pbe_params::Pkcs12PbeParams;
 use crate::safe_bag::{SafeBag, SafeBagKind};
 use crate::writing::{Bmp, Both, Encoded, Held, Ia5, Number, Row, SetOf, Within, sequence};
 use asn1_core::{ObjectIdentifier, Octets, Tag};

@@ -7,9 +7,9 @@ ghost use Rattle.p12.specs.AlgorithmIdentifier.{ciphertext_length, is_blocks, tr
 ghost use Rattle.pkcs5.specs.Kinds.{IsDes, key_size, rounds_of};
 ghost use Rattle.pkcs5.specs.Opening.{states_length};
 
-use crate::algorithm_identifier::Pkcs12PbeParams;
 use crate::error::Error;
 use crate::opening::{TRIPLE_DES_BLOCK, TRIPLE_DES_KEY};
+use crate::pkcs12_pbe_params::Pkcs12PbeParams;
 use asn1_core::Octets;
 use block_core::{BlockCipher, TdesEde3};
 use mac_modes::{Sha1, cbc_encrypt_padded};

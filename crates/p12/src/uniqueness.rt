@@ -2,7 +2,7 @@
 ghost use Rattle.std.specs.Prelude.{◌≡◌, ◌↔◌, ◌<◌, ℕ, List, All, Some};
 ghost use Rattle.mac_modes.specs.Padding.{padded};
 ghost use Rattle.p12.specs.AlgorithmIdentifier.{AlgorithmText, ParamsText, unlock_pbe, unpadded};
-ghost use Rattle.p12.specs.declared.algorithm_identifier.Pkcs12PbeParams.{Pkcs12PbeParams};
+ghost use Rattle.p12.specs.declared.pkcs12_pbe_params.Pkcs12PbeParams.{Pkcs12PbeParams};
 ghost use Rattle.p12.specs.declared.algorithm_identifier.AlgorithmIdentifier.TheVariants.{PbeWithSHAAnd3KeyTripleDESCBC};
 ghost use Rattle.p12.specs.Attribute.{AttributeText};
 ghost use Rattle.p12.specs.CertBag.{CertBagText};

@@ -10,7 +10,7 @@ ghost use Rattle.p12.specs.Reading.{content_at};
 ghost use Rattle.p12.specs.Writing.{EncodesText, WritesText};
 ghost use Rattle.p12.specs.declared.content_info.ContentInfo.{ContentInfo};
 
-use crate::algorithm_identifier::{AlgorithmIdentifier, Pkcs12PbeParams};
+use crate::algorithm_identifier::AlgorithmIdentifier;
 use crate::attribute::PKCS12Attribute;
 use crate::cert_bag::CertBag;
 use crate::content_info::{ContentInfo, content_in_front};
@@ -20,6 +20,7 @@ use crate::encrypted_private_key_info::EncryptedPrivateKeyInfo;
 use crate::error::Error;
 use crate::mac_data::MacData;
 use crate::pfx::PFX;
+use crate::pkcs12_pbe_params::Pkcs12PbeParams;
 use crate::safe_bag::{SafeBag, SafeBagKind};
 use crate::writing::{Each, Within, der_of, write_row};
 use asn1_core::{Octets, Reader, SliceReader, Tag, Writer};

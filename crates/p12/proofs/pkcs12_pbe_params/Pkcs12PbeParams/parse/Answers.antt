@@ -1,7 +1,7 @@
 use Rattle.std.proofs.lemmas.Result.{err_from_is_err_and}
 use Rattle.p12.proofs.AlgorithmRows.{params-exact}
 use Rattle.p12.proofs.Public.{refused}
-use Rattle.p12.proofs.algorithm_identifier.Pkcs12PbeParams.parse.Goals as goal
+use Rattle.p12.proofs.pkcs12_pbe_params.Pkcs12PbeParams.parse.Goals as goal
 
 pub returns-in_err-params_in_front-clause-stands : goal.returns-in_err-params_in_front-clause-stands
 returns-in_err-params_in_front-clause-stands c =
