@@ -3,6 +3,7 @@ pub(crate) mod bags;
 pub(crate) mod budget;
 pub(crate) mod certificates;
 pub(crate) mod contents;
+pub(crate) mod copies;
 pub(crate) mod error;
 pub(crate) mod key_locks;
 pub(crate) mod key_text;

@@ -8,7 +8,7 @@ use std::alloc::Global;
 use std::marker::Brand;
 use std::sync::ledger::{Blank, Ledger};
 use steps::Steps;
-use transfer::{Opened, TransferError, open_store, transfer};
+use transfer::{Opened, TransferError, Transferred, open_store, transfer};
 
 /// A store in today's format of `tests/vectors/transferred_keys.txt`: its three counts are 2,048.
 const TODAY: [u8; 477] = [
@@ -108,6 +108,26 @@ fn a_store_of_today_is_opened(rt: HostRuntime) {
     assert!(rt; opens_to_the_key::<Brand>(rt.alloc(), &TODAY, 6144, Blank::new(1)));
 }
 
+/// Whether the store is opened to them, and a copy of what it was opened to has them too.
+fn copies_the_key<L: Ledger>(alloc: Global, store: &[u8], limit: u64, blank: Blank) -> bool
+    requires name { blank.name ≡ L.name }
+    requires parts { blank.parts ≡ L.parts }
+    requires some { 0 < blank.parts }
+{
+    match opened::<L>(alloc, store, limit, blank) {
+        Ok(store) => match store.try_clone(alloc) {
+            Ok(copy) => has_the_key(&copy) && has_the_key(&store),
+            Err(_) => false,
+        },
+        Err(_) => false,
+    }
+}
+
+#[test]
+fn an_opened_store_is_copied(rt: HostRuntime) {
+    assert!(rt; copies_the_key::<Brand>(rt.alloc(), &TODAY, 6144, Blank::new(1)));
+}
+
 /// Why the store is not opened; None where it is.
 fn refusal<L: Ledger>(
     alloc: Global,
@@ -147,6 +167,51 @@ fn the_limit_is_tested_before_the_mac(rt: HostRuntime) {
 fn a_store_under_a_wrong_mac_is_not_opened(rt: HostRuntime) {
     let answer = refusal::<Brand>(rt.alloc(), &ZERO_MAC, 1, Blank::new(1));
     assert_eq!(rt; answer, Some(TransferError::MacMismatch));
+}
+
+/// Transfers a store under the password `changeit`, with a new password, one round and 32 zeros to be drawn.
+fn transferred<L: Ledger>(
+    alloc: Global,
+    store: &[u8],
+    blank: Blank,
+) -> Result<Transferred, TransferError>
+    requires name { blank.name ≡ L.name }
+    requires parts { blank.parts ≡ L.parts }
+    requires some { 0 < blank.parts }
+{
+    let mut steps = Steps::<L>::open(blank);
+    let mut draw = DrawnBytes::new(Octets::from_slice(alloc, &[0; 32])?);
+    transfer(
+        alloc, store, "changeit", b"q", 1, &mut draw, 6144, &mut steps,
+    )
+}
+
+/// Whether both have the one certificate and the one document.
+fn are_alike(one: &Transferred, other: &Transferred) -> bool {
+    one.certificates.len() == 1
+        && one.documents.len() == 1
+        && one.certificates.get(0) == other.certificates.get(0)
+        && one.documents.get(0) == other.documents.get(0)
+}
+
+/// Whether a copy of what a store was transferred to is like it.
+fn copies_what_it_gives<L: Ledger>(alloc: Global, store: &[u8], blank: Blank) -> bool
+    requires name { blank.name ≡ L.name }
+    requires parts { blank.parts ≡ L.parts }
+    requires some { 0 < blank.parts }
+{
+    match transferred::<L>(alloc, store, blank) {
+        Ok(found) => match found.try_clone(alloc) {
+            Ok(copy) => are_alike(&found, &copy),
+            Err(_) => false,
+        },
+        Err(_) => false,
+    }
+}
+
+#[test]
+fn what_a_store_gives_is_copied(rt: HostRuntime) {
+    assert!(rt; copies_what_it_gives::<Brand>(rt.alloc(), &TODAY, Blank::new(1)));
 }
 
 /// Whether a store is transferred, under the password `p` and within one step, and has no certificate. This asks for no

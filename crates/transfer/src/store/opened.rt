@@ -1,11 +1,13 @@
 //! Opening a store for its bags and its keys.
 ghost use Rattle.std.specs.Prelude.{◌≡◌, ◌+◌, ◌≤◌, ◌<◌, ◌^◌, ℕ, length, IfOk, IfErr};
+ghost use Rattle.transfer.specs.declared.store.error.TransferError.TheVariants as refusal;
 ghost use Rattle.transfer.specs.InPlace.{texts_of};
 ghost use Rattle.transfer.specs.Opening.{HasVerdict, RefusedAfter, refused};
 ghost use Rattle.transfer.specs.Transferred.{IsDecided};
 ghost use Rattle.transfer.specs.Verdicts.{StoreOpens};
 
 use crate::store::bags::bags_of;
+use crate::store::copies::{copied, copied_contents};
 use crate::store::error::TransferError;
 use crate::store::key_text::OpenedKey;
 use crate::store::keys::open_keys;
@@ -23,6 +25,19 @@ pub struct Opened {
     pub contents: Items<Items<SafeBag>>,
     /// The plain octets of each encrypted key among them, in store order: the text of a private key (RFC 5958 section 2).
     pub keys: Items<Octets>,
+}
+
+impl Opened {
+    /// An equal value in memory of its own. The only refusal is `Memory`.
+    pub fn try_clone(&self, alloc: Global) -> Result<Opened, TransferError>
+        ensures ok { IfOk result (λ o. o ≡ self.now) }
+        ensures err { IfErr result (λ e. e ≡ refusal.Memory) }
+    {
+        Ok(Opened {
+            contents: copied_contents(alloc, self.contents.as_slice())?,
+            keys: copied(alloc, self.keys.as_slice())?,
+        })
+    }
 }
 
 /// Copies of the texts of keys. The only refusal is `Memory`.

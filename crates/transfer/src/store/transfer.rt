@@ -1,10 +1,12 @@
 //! The transfer of one store.
 ghost use Rattle.std.specs.Prelude.{◌≡◌, ◌≤◌, ◌<◌, ◌+◌, ◌^◌, ℕ, length, IfOk, IfErr, ⊤};
+ghost use Rattle.transfer.specs.declared.store.error.TransferError.TheVariants as error;
 ghost use Rattle.transfer.specs.Limits.{rounds_limit};
 ghost use Rattle.transfer.specs.TransferError.{RefusedBy};
 ghost use Rattle.transfer.specs.Transferred.{IsRefused, RunsShort, Settles, Transfers};
 
 use crate::store::certificates::certificates_of;
+use crate::store::copies::copied;
 use crate::store::error::TransferError;
 use crate::store::keys::open_keys;
 use crate::store::open::{OpenedContents, open_parts};
@@ -22,6 +24,19 @@ pub struct Transferred {
     pub certificates: Items<Octets>,
     /// A document for each encrypted private key, in store order: an EncryptedPrivateKeyInfo in DER (RFC 5958 section 3).
     pub documents: Items<Octets>,
+}
+
+impl Transferred {
+    /// An equal value in memory of its own. The only refusal is `Memory`.
+    pub fn try_clone(&self, alloc: Global) -> Result<Transferred, TransferError>
+        ensures ok { IfOk result (λ t. t ≡ self.now) }
+        ensures err { IfErr result (λ e. e ≡ error.Memory) }
+    {
+        Ok(Transferred {
+            certificates: copied(alloc, self.certificates.as_slice())?,
+            documents: copied(alloc, self.documents.as_slice())?,
+        })
+    }
 }
 
 /// Opens the store under the password, and answers its certificates and, for each encrypted private key, one document that
