@@ -8,7 +8,7 @@ use std::fmt;
 
 /// Identifiers that stores of other programs have, and their names: schemes of encryption and MACs under a password, and kinds of
 /// content; digests, and the functions under PBKDF2; key derivations and ciphers of PBES2.
-const NAMES: [(&str, &str); 38] = [
+static NAMES: [(&str, &str); 38] = [
     ("1.2.840.113549.1.5.1", "pbeWithMD2AndDES-CBC"),
     ("1.2.840.113549.1.5.3", "pbeWithMD5AndDES-CBC"),
     ("1.2.840.113549.1.5.4", "pbeWithMD2AndRC2-CBC"),
@@ -51,7 +51,7 @@ const NAMES: [(&str, &str); 38] = [
 
 /// The name of an algorithm or a kind of content, where it is known.
 fn name_of(identifier: ObjectIdentifier) -> Option<&'static str> {
-    for (decimal, name) in NAMES {
+    for (decimal, name) in &NAMES {
         if ObjectIdentifier::new(decimal) == Ok(identifier) {
             return Some(name);
         }

@@ -105,37 +105,35 @@ fn empty_password<'a>(alloc: Global) -> Arg<'a> {
         .help("Let the new password be empty: the keys are then not protected")
 }
 
-/// The command with one more argument.
-fn with<'a>(command: Command<'a>, argument: Arg<'a>) -> Result<Command<'a>, AllocError> {
-    command.arg(argument)
-}
-
-/// The command with one more option of a group, of which at most one is given.
+/// The command with these options as a group, of which at most one is given.
 fn with_one_of<'a>(
     command: Command<'a>,
     group: &'a str,
-    option: Arg<'a>,
+    options: Vec<Arg<'a>>,
 ) -> Result<Command<'a>, AllocError> {
-    command.arg(option.group(group)?)
+    let mut command = command;
+    for option in options {
+        command = command.arg(option.group(group)?)?;
+    }
+    Ok(command)
 }
 
-/// The three options for the store's password.
+/// The command with the three options for the store's password.
 fn with_password<'a>(alloc: Global, command: Command<'a>) -> Result<Command<'a>, AllocError> {
     let file = Arg::new(alloc, "password-file")
         .long("password-file")
         .value_name("FILE")
         .help("The store's password is the first line of FILE");
-    let command = with_one_of(command, "password", file)?;
     let variable = Arg::new(alloc, "password-env")
         .long("password-env")
         .value_name("NAME")
         .help("The store's password is the environment variable NAME");
-    let command = with_one_of(command, "password", variable)?;
     let standard = Arg::new(alloc, "password-stdin")
         .long("password-stdin")
         .action(ArgAction::SetTrue)
         .help("The store's password is the first line of the standard input");
-    with_one_of(command, "password", standard)
+    let options = Vec::from_array(alloc, [file, variable, standard])?;
+    with_one_of(command, "password", options)
 }
 
 /// The same for the new password.
@@ -144,17 +142,16 @@ fn with_new_password<'a>(alloc: Global, command: Command<'a>) -> Result<Command<
         .long("new-password-file")
         .value_name("FILE")
         .help("The new password is the first line of FILE");
-    let command = with_one_of(command, "new-password", file)?;
     let variable = Arg::new(alloc, "new-password-env")
         .long("new-password-env")
         .value_name("NAME")
         .help("The new password is the environment variable NAME");
-    let command = with_one_of(command, "new-password", variable)?;
     let standard = Arg::new(alloc, "new-password-stdin")
         .long("new-password-stdin")
         .action(ArgAction::SetTrue)
         .help("The new password is the first line of the standard input");
-    with_one_of(command, "new-password", standard)
+    let options = Vec::from_array(alloc, [file, variable, standard])?;
+    with_one_of(command, "new-password", options)
 }
 
 fn export<'a>(alloc: Global) -> Result<Command<'a>, AllocError> {
@@ -163,24 +160,22 @@ fn export<'a>(alloc: Global) -> Result<Command<'a>, AllocError> {
             "Write the certificates, and the private keys sealed under a new password, into a new folder",
         )
         .after_help(NOTES);
-    let command = with(command, store(alloc))?;
-    let command = with(command, out(alloc))?;
-    let command = with(command, format(alloc))?;
-    let command = with(command, force(alloc))?;
-    let command = with_password(alloc, command)?;
+    let places = Vec::from_array(
+        alloc,
+        [store(alloc), out(alloc), format(alloc), force(alloc)],
+    )?;
+    let command = with_password(alloc, command.args(places)?)?;
     let command = with_new_password(alloc, command)?;
-    let command = with(command, empty_password(alloc))?;
-    let command = with(command, rounds(alloc))?;
-    with(command, limit(alloc))
+    let bounds = Vec::from_array(alloc, [empty_password(alloc), rounds(alloc), limit(alloc)])?;
+    command.args(bounds)
 }
 
 fn check<'a>(alloc: Global) -> Result<Command<'a>, AllocError> {
     let command = Command::new(alloc, "check")
         .about("Open the store, write nothing, and say what is in it")
-        .after_help(NOTES);
-    let command = with(command, store(alloc))?;
-    let command = with_password(alloc, command)?;
-    with(command, limit(alloc))
+        .after_help(NOTES)
+        .arg(store(alloc))?;
+    with_password(alloc, command)?.arg(limit(alloc))
 }
 
 fn self_test<'a>(alloc: Global) -> Command<'a> {
@@ -189,8 +184,15 @@ fn self_test<'a>(alloc: Global) -> Command<'a> {
     )
 }
 
+fn subcommands<'a>(alloc: Global) -> Result<Vec<Command<'a>>, AllocError> {
+    let export = export(alloc)?;
+    let check = check(alloc)?;
+    Ok(Vec::from_array(alloc, [export, check, self_test(alloc)])?)
+}
+
 /// The whole command.
 pub fn command<'a>(alloc: Global) -> Result<Command<'a>, AllocError> {
+    let subcommands = subcommands(alloc)?;
     Command::new(alloc, "pkcs12")
         .bin_name("pkcs12")?
         .version("0.1.0")
@@ -199,7 +201,5 @@ pub fn command<'a>(alloc: Global) -> Result<Command<'a>, AllocError> {
         .subcommand_required(true)
         .arg_required_else_help(true)
         .disable_help_subcommand(true)
-        .subcommand(export(alloc)?)?
-        .subcommand(check(alloc)?)?
-        .subcommand(self_test(alloc))
+        .subcommands(subcommands)
 }

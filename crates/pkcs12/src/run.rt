@@ -299,24 +299,45 @@ fn inputs_stay<R: Files + AllocGlobal>(
     password_stays(rt, folder, asked.new_password)
 }
 
+/// The folder that is to be made, where it may be made and no file that is read would go with it.
+fn free_folder<'a, R: Runtime + AllocGlobal>(
+    rt: &R,
+    asked: &Export<'a>,
+) -> Result<Folder<'a>, Failure> {
+    let folder = Folder::find(rt, asked.out, asked.force)?;
+    inputs_stay(rt, &folder, asked)?;
+    Ok(folder)
+}
+
+/// Writes what is taken out of a store, and answers what there is to say of it.
+fn written<R: Runtime + AllocGlobal>(
+    rt: &R,
+    around: Surroundings,
+    asked: &Export<'_>,
+    folder: &Folder<'_>,
+    given: &Given,
+) -> Result<String, Failure> {
+    let found = exported(rt, around, asked, given)?;
+    let counts = Counts {
+        certificates: found.certificates.len(),
+        keys: found.documents.len(),
+    };
+    let text = summary_of(rt.alloc(), given, counts)?;
+    folder.write(rt, around.process, asked.format, &found)?;
+    Ok(text)
+}
+
 fn run_export<R: Runtime + AllocGlobal>(
     rt: &R,
     around: Surroundings,
     asked: &Export<'_>,
 ) -> Result<(), Failure> {
-    let folder = Folder::find(rt, asked.out, asked.force)?;
-    inputs_stay(rt, &folder, asked)?;
+    let folder = free_folder(rt, asked)?;
     if needs_new_password(rt, asked) {
         return Err(new_password_missing());
     }
     let given = read_given(rt, asked.store, asked.password, asked.limit)?;
-    let found = exported(rt, around, asked, &given)?;
-    let counts = Counts {
-        certificates: found.certificates.len(),
-        keys: found.documents.len(),
-    };
-    let text = summary_of(rt.alloc(), &given, counts)?;
-    folder.write(rt, around.process, asked.format, &found)?;
+    let text = written(rt, around, asked, &folder, &given)?;
     // The files are there: that nobody hears of it is no failure.
     match rt.eprint(text.as_str()) {
         Ok(()) | Err(_) => Ok(()),
@@ -363,15 +384,24 @@ fn arguments<R: Runtime + AllocGlobal>(rt: &R) -> Result<Vec<String>, Failure> {
     }
 }
 
+fn answer<R: Runtime + AllocGlobal>(
+    rt: &R,
+    around: Surroundings,
+    request: &Request<'_>,
+) -> Result<(), Failure> {
+    match request {
+        Request::Check(asked) => run_check(rt, around, asked),
+        Request::Export(asked) => run_export(rt, around, asked),
+        Request::SelfTest => run_self_test(rt),
+    }
+}
+
 /// Does what the arguments ask for.
 pub fn run<R: Runtime + AllocGlobal>(rt: &R, around: Surroundings) -> Result<(), Failure> {
     let words = arguments(rt)?;
-    match command(rt.alloc())?.try_get_matches_from(words.as_slice()) {
-        Ok(matches) => match request_of(rt.alloc(), &matches)? {
-            Request::Check(asked) => run_check(rt, around, &asked),
-            Request::Export(asked) => run_export(rt, around, &asked),
-            Request::SelfTest => run_self_test(rt),
-        },
+    let command = command(rt.alloc())?;
+    match command.try_get_matches_from(words.as_slice()) {
+        Ok(matches) => answer(rt, around, &request_of(rt.alloc(), &matches)?),
         Err(error) => shown(rt, error),
     }
 }
