@@ -23,11 +23,26 @@ PHASES = ("Its proof", "Tests", "Edits")
 MARK = f"GATE_MINUTES={os.getpid()}"
 
 
+def words_of(process: pathlib.Path) -> list[str]:
+    return (process / "cmdline").read_text(errors="replace").split("\0")
+
+
+def is_prover(process: pathlib.Path) -> bool:
+    words = words_of(process)
+    return os.path.basename(words[0]) == "rattle" and "--crate-name" in words
+
+
+def fields_of(process: pathlib.Path) -> list[str]:
+    """What the system tells of a process, from its state on."""
+    return (process / "stat").read_text().rpartition(")")[2].split()
+
+
 def crate_and_phase(process: pathlib.Path) -> tuple[str, str] | None:
-    """The crate that a process of this run proves, and for which phase; None for another process."""
-    words = (process / "cmdline").read_text(errors="replace").split("\0")
-    if os.path.basename(words[0]) != "rattle" or "--crate-name" not in words:
+    """The crate that a process of this run proves, and for which phase; None for another process. A prover that works on
+    several processors makes copies of itself, whose time becomes its own when they end: so they are not looked at."""
+    if not is_prover(process) or is_prover(pathlib.Path("/proc") / fields_of(process)[1]):
         return None
+    words = words_of(process)
     if MARK not in (process / "environ").read_text(errors="replace").split("\0"):
         return None
     crate = words[words.index("--crate-name") + 1]
@@ -37,9 +52,8 @@ def crate_and_phase(process: pathlib.Path) -> tuple[str, str] | None:
 
 
 def seconds_of(process: pathlib.Path) -> float:
-    """The processor time of a process so far, without that of its children."""
-    fields = (process / "stat").read_text().rpartition(")")[2].split()
-    return (int(fields[11]) + int(fields[12])) / TICKS
+    """The processor time of a process so far, and of those that it made and that have ended."""
+    return sum(int(ticks) for ticks in fields_of(process)[11:15]) / TICKS
 
 
 def look(seen: dict[str, tuple[tuple[str, str], float]]) -> None:
