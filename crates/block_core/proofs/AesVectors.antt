@@ -1,10 +1,8 @@
--- Worked examples of FIPS 197, computed from the definitions.
+-- Worked steps of FIPS 197, computed from the definitions; whole blocks are lines of tests/vectors/block_ciphers.txt.
 use Rattle.std.proofs.Common.{◌≡◌, ◌/◌, ◌%◌, ◌^◌, ◌==◌, ℕ, zero, suc, Bool, true, List, [], ◌∷◌, refl}
-use Rattle.block_core.specs.Field.{product, product_below, times_x, inverse, inverse_below, power_of_x}
+use Rattle.block_core.specs.Field.{product, product_below, times_x, inverse, inverse_below}
 use Rattle.block_core.specs.Sbox.{sub_byte, affine_bit, from_bits}
-use Rattle.block_core.specs.AesRounds.{encrypt_with, rounds, add_round_key, mix_columns, times_circulant, shift_rows, sub_bytes}
-use Rattle.block_core.specs.AesKey.{expand, next_word, scheduled}
-use Rattle.block_core.specs.Aes.{aes_128, aes_192, aes_256}
+use Rattle.block_core.specs.AesRounds.{mix_columns, times_circulant, shift_rows, sub_bytes}
 use Rattle.block_core.specs.TableLaws.{all_below}
 
 -- the n octets of a number, the highest first
@@ -43,24 +41,3 @@ shifted = refl
 mixed : mix_columns (octets 16 0xd4bf5d30e0b452aeb84111f11e2798e5) ≡ octets 16 0x046681e5e0cb199a48f8d37a2806264c
 unfolding octets mix_columns times_circulant product product_below times_x
 mixed = refl
-
--- appendix C.1
-encrypted_128 :
-    aes_128 (octets 16 0x000102030405060708090a0b0c0d0e0f) (octets 16 0x00112233445566778899aabbccddeeff)
-    ≡ octets 16 0x69c4e0d86a7b0430d8cdb78070b4c55a
-unfolding octets encrypt_with expand next_word scheduled power_of_x rounds add_round_key mix_columns times_circulant shift_rows sub_bytes sub_byte inverse inverse_below affine_bit from_bits product product_below times_x
-encrypted_128 = refl
-
--- appendix C.2
-encrypted_192 :
-    aes_192 (octets 24 0x000102030405060708090a0b0c0d0e0f1011121314151617) (octets 16 0x00112233445566778899aabbccddeeff)
-    ≡ octets 16 0xdda97ca4864cdfe06eaf70a0ec0d7191
-unfolding octets encrypt_with expand next_word scheduled power_of_x rounds add_round_key mix_columns times_circulant shift_rows sub_bytes sub_byte inverse inverse_below affine_bit from_bits product product_below times_x
-encrypted_192 = refl
-
--- appendix C.3
-encrypted_256 :
-    aes_256 (octets 32 0x000102030405060708090a0b0c0d0e0f101112131415161718191a1b1c1d1e1f) (octets 16 0x00112233445566778899aabbccddeeff)
-    ≡ octets 16 0x8ea2b7ca516745bfeafc49904b496089
-unfolding octets encrypt_with expand next_word scheduled power_of_x rounds add_round_key mix_columns times_circulant shift_rows sub_bytes sub_byte inverse inverse_below affine_bit from_bits product product_below times_x
-encrypted_256 = refl

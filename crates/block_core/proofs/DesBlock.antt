@@ -1,9 +1,9 @@
 -- The first and the last permutation of DES by octets: the entries of the two tables.
-use Rattle.std.proofs.Common.{◌≡◌, ◌∙◌, sym, ap, ap₂, ℕ, zero, suc, true, ◌+◌, ◌-◌, ◌*◌, ◌/◌, ◌%◌, ◌^◌, ◌<◌, ◌==◌, List, [], ◌∷◌, ◌++◌, length, get_or, take, drop, replicate, refl, arith, bit_xor}
+use Rattle.std.proofs.Common.{lit<, ◌≡◌, ◌∙◌, sym, ap, ap₂, ℕ, zero, suc, Bool, true, ◌+◌, ◌-◌, ◌*◌, ◌/◌, ◌%◌, ◌^◌, ◌<◌, ◌==◌, ◌&&◌, List, [], ◌∷◌, ◌++◌, length, get_or, take, drop, replicate, refl, arith, bit_xor}
 use Rattle.std.specs.Int.{w32, w64, to_be_bytes}
-use Rattle.std.proofs.lemmas.Bool.{eqb-true}
-use Rattle.std.proofs.lemmas.Nat.{shr_high, mod_low}
-use Rattle.std.proofs.lemmas.List.{append_assoc, append-nil, length-append, length-take-le, length-drop, take-append-drop}
+use Rattle.std.proofs.lemmas.Bool.{and_parts, eqb-true}
+use Rattle.std.proofs.lemmas.Nat.{shr_high, mod_low, xor_block, xor_mod}
+use Rattle.std.proofs.lemmas.List.{append_assoc, append-nil, length-append, length-replicate, length-take-le, length-drop, take-append-drop}
 use Rattle.block_core.specs.Bits.{AreBits, bits_of, bits_of_octets, octets_of_bits, number_of, number_from, pick}
 use Rattle.block_core.specs.BitsLaws.{bits_append, bits_none, bits_bits_of, bits_take, bits_drop, bits_octets, bits_pick, length-pick, length-bits_of, number_of-lt}
 use Rattle.block_core.specs.TableLaws.{all_below, all_below_at}
@@ -11,12 +11,80 @@ use Rattle.block_core.specs.DesTables.{initial_permutation}
 use Rattle.block_core.specs.Des.{final_permutation, place_of}
 use Rattle.block_core.specs.DesLaws.{length-final}
 use Rattle.block_core.proofs.Groups.{octets_by_group}
-use Rattle.block_core.proofs.DesParts.{number_split, tree, part_step, picked_number, bits_of_number}
+use Rattle.block_core.proofs.DesParts.{bits_zeros, number_split, tree, part_step, picked_number, bits_of_number}
 use Rattle.block_core.specs.declared.des_permutations.TheConstants.{SPREAD, GATHER}
 
--- the number of the bits that a table picks of an octet at place j of eight
+-- the number of the bits that a table picks of an octet at place j of eight, and of its high and its low half
 unfoldable pub octet_at : List ℕ → ℕ → ℕ → ℕ
 octet_at table j v = number_of (pick table (replicate (8 * j) 0 ++ (bits_of 8 v ++ replicate (56 - 8 * j) 0)))
+
+unfoldable high_at : List ℕ → ℕ → ℕ → ℕ
+high_at table j h = number_of (pick table (replicate (8 * j) 0 ++ (bits_of 4 h ++ replicate (60 - 8 * j) 0)))
+
+unfoldable low_at : List ℕ → ℕ → ℕ → ℕ
+low_at table j l = number_of (pick table (replicate (8 * j) 0 ++ (replicate 4 0 ++ (bits_of 4 l ++ replicate (56 - 8 * j) 0))))
+
+-- the bits of an octet, by its halves
+bits_by_halves : (v : ℕ) → bits_of 4 (v / 16) ++ bits_of 4 (v % 16) ≡ bits_of 8 v
+unfolding bits_of
+bits_by_halves v =
+    let e0 : v / 16 / 2 ^ 3 % 2 ≡ v / 2 ^ 7 % 2 = omega arith in
+    let e1 : v / 16 / 2 ^ 2 % 2 ≡ v / 2 ^ 6 % 2 = omega arith in
+    let e2 : v / 16 / 2 ^ 1 % 2 ≡ v / 2 ^ 5 % 2 = omega arith in
+    let e3 : v / 16 / 2 ^ 0 % 2 ≡ v / 2 ^ 4 % 2 = omega arith in
+    let e4 : v % 16 / 2 ^ 3 % 2 ≡ v / 2 ^ 3 % 2 = omega arith in
+    let e5 : v % 16 / 2 ^ 2 % 2 ≡ v / 2 ^ 2 % 2 = omega arith in
+    let e6 : v % 16 / 2 ^ 1 % 2 ≡ v / 2 ^ 1 % 2 = omega arith in
+    let e7 : v % 16 / 2 ^ 0 % 2 ≡ v / 2 ^ 0 % 2 = omega arith in
+    λ i. e0 i ∷ e1 i ∷ e2 i ∷ e3 i ∷ e4 i ∷ e5 i ∷ e6 i ∷ e7 i ∷ []
+
+octet_by_halves : (table : List ℕ) (j v : ℕ) → j < 8 → octet_at table j v ≡ bit_xor (high_at table j (v / 16)) (low_at table j (v % 16))
+unfolding octet_at high_at low_at
+octet_by_halves table j v h =
+    let high : List ℕ = bits_of 4 (v / 16) in
+    let low : List ℕ = bits_of 4 (v % 16) in
+    let zeros : List ℕ = replicate (56 - 8 * j) 0 in
+    let rest : length (low ++ zeros) ≡ 60 - 8 * j =
+    omega (arith, length-append low zeros, length-bits_of 4 (v % 16), length-replicate {A = ℕ} (56 - 8 * j) 0) in
+    ap (λ (t : List ℕ). picked_number table (replicate (8 * j) 0 ++ t))
+    (ap (λ (t : List ℕ). t ++ zeros) (sym (bits_by_halves v)) ∙ append_assoc high low zeros)
+    ∙ part_step table (8 * j) 4 (60 - 8 * j) high (low ++ zeros) (length-bits_of 4 (v / 16)) rest
+    (bits_bits_of 4 (v / 16)) (bits_append low zeros (bits_bits_of 4 (v % 16)) (bits_zeros (56 - 8 * j)))
+
+-- whether an entry of a table is the sum of those of its halves
+unfoldable is_sum : List ℕ → ℕ → Bool
+is_sum entries v = get_or entries v 0 == bit_xor (get_or entries (16 * (v / 16)) 0) (get_or entries (v % 16) 0)
+
+-- whether those of the two halves, moved, are what a table picks at place j
+unfoldable are_halves : (ℕ → ℕ) → List ℕ → List ℕ → ℕ → ℕ → Bool
+are_halves move entries table j h = (move (get_or entries (16 * h) 0) == high_at table j h) && (move (get_or entries h 0) == low_at table j h)
+
+-- then each entry is
+looked_up : (move : ℕ → ℕ) → ((x y : ℕ) → move (bit_xor x y) ≡ bit_xor (move x) (move y))
+    → (entries table : List ℕ) (j : ℕ) → j < 8 → all_below (is_sum entries) 256 ≡ true → all_below (are_halves move entries table j) 16 ≡ true
+    → (v : ℕ) → v < 256 → move (get_or entries v 0) ≡ octet_at table j v
+unfolding is_sum are_halves
+looked_up move linear entries table j h sums halves v lt =
+    let h_lt : v / 16 < 16 = omega arith in
+    let l_lt : v % 16 < 16 = omega arith in
+    let high : move (get_or entries (16 * (v / 16)) 0) ≡ high_at table j (v / 16) =
+    eqb-true _ _ (and_parts _ (move (get_or entries (v / 16) 0) == low_at table j (v / 16)) (all_below_at (are_halves move entries table j) 16 halves (v / 16) h_lt)).0 in
+    let low : move (get_or entries (v % 16) 0) ≡ low_at table j (v % 16) =
+    eqb-true _ _ (and_parts (move (get_or entries (16 * (v % 16)) 0) == high_at table j (v % 16)) _ (all_below_at (are_halves move entries table j) 16 halves (v % 16) l_lt)).1 in
+    ap move (eqb-true _ _ (all_below_at (is_sum entries) 256 sums v lt))
+    ∙ linear (get_or entries (16 * (v / 16)) 0) (get_or entries (v % 16) 0)
+    ∙ (λ i. bit_xor (high i) (low i))
+    ∙ sym (octet_by_halves table j v h)
+
+-- a sum, moved left in a word
+plus_zero : (n : ℕ) → n + 0 ≡ n
+plus_zero n = omega arith
+
+moved : (k : ℕ) → 0 < 2 ^ k → (x y : ℕ) → bit_xor x y * 2 ^ k % 2 ^ 64 ≡ bit_xor (x * 2 ^ k % 2 ^ 64) (y * 2 ^ k % 2 ^ 64)
+moved k h x y =
+    let sum = xor_block k x y 0 0 h h in
+    ap (λ (z : ℕ). z % 2 ^ 64) (sym (plus_zero (bit_xor x y * 2 ^ k)) ∙ sym sum ∙ ap₂ bit_xor (plus_zero (x * 2 ^ k)) (plus_zero (y * 2 ^ k)))
+    ∙ xor_mod (x * 2 ^ k) (y * 2 ^ k) 64
 
 -- the inverse of the initial permutation, as it is printed
 abbrev last_table : List ℕ
@@ -30,68 +98,76 @@ last_is : last_table ≡ final_permutation
 unfolding final_permutation place_of
 last_is = refl
 
-spread_0 : all_below (λ v. get_or SPREAD v 0 == octet_at initial_permutation 0 v) 256 ≡ true
-unfolding octet_at pick number_of number_from bits_of
+spread_sums : all_below (is_sum SPREAD) 256 ≡ true
+unfolding is_sum
+spread_sums = refl
+
+gather_sums : all_below (is_sum GATHER) 256 ≡ true
+unfolding is_sum
+gather_sums = refl
+
+spread_0 : all_below (are_halves (λ x. x) SPREAD initial_permutation 0) 16 ≡ true
+unfolding are_halves high_at low_at pick number_of number_from bits_of
 spread_0 = refl
 
-gather_0 : all_below (λ v. get_or GATHER v 0 * 2 ^ 6 % 2 ^ 64 == octet_at last_table 0 v) 256 ≡ true
-unfolding octet_at pick number_of number_from bits_of
+gather_0 : all_below (are_halves (λ x. x * 2 ^ 6 % 2 ^ 64) GATHER last_table 0) 16 ≡ true
+unfolding are_halves high_at low_at pick number_of number_from bits_of
 gather_0 = refl
 
-spread_1 : all_below (λ v. get_or SPREAD v 0 * 2 ^ 1 % 2 ^ 64 == octet_at initial_permutation 1 v) 256 ≡ true
-unfolding octet_at pick number_of number_from bits_of
+spread_1 : all_below (are_halves (λ x. x * 2 ^ 1 % 2 ^ 64) SPREAD initial_permutation 1) 16 ≡ true
+unfolding are_halves high_at low_at pick number_of number_from bits_of
 spread_1 = refl
 
-gather_1 : all_below (λ v. get_or GATHER v 0 * 2 ^ 4 % 2 ^ 64 == octet_at last_table 1 v) 256 ≡ true
-unfolding octet_at pick number_of number_from bits_of
+gather_1 : all_below (are_halves (λ x. x * 2 ^ 4 % 2 ^ 64) GATHER last_table 1) 16 ≡ true
+unfolding are_halves high_at low_at pick number_of number_from bits_of
 gather_1 = refl
 
-spread_2 : all_below (λ v. get_or SPREAD v 0 * 2 ^ 2 % 2 ^ 64 == octet_at initial_permutation 2 v) 256 ≡ true
-unfolding octet_at pick number_of number_from bits_of
+spread_2 : all_below (are_halves (λ x. x * 2 ^ 2 % 2 ^ 64) SPREAD initial_permutation 2) 16 ≡ true
+unfolding are_halves high_at low_at pick number_of number_from bits_of
 spread_2 = refl
 
-gather_2 : all_below (λ v. get_or GATHER v 0 * 2 ^ 2 % 2 ^ 64 == octet_at last_table 2 v) 256 ≡ true
-unfolding octet_at pick number_of number_from bits_of
+gather_2 : all_below (are_halves (λ x. x * 2 ^ 2 % 2 ^ 64) GATHER last_table 2) 16 ≡ true
+unfolding are_halves high_at low_at pick number_of number_from bits_of
 gather_2 = refl
 
-spread_3 : all_below (λ v. get_or SPREAD v 0 * 2 ^ 3 % 2 ^ 64 == octet_at initial_permutation 3 v) 256 ≡ true
-unfolding octet_at pick number_of number_from bits_of
+spread_3 : all_below (are_halves (λ x. x * 2 ^ 3 % 2 ^ 64) SPREAD initial_permutation 3) 16 ≡ true
+unfolding are_halves high_at low_at pick number_of number_from bits_of
 spread_3 = refl
 
-gather_3 : all_below (λ v. get_or GATHER v 0 == octet_at last_table 3 v) 256 ≡ true
-unfolding octet_at pick number_of number_from bits_of
+gather_3 : all_below (are_halves (λ x. x) GATHER last_table 3) 16 ≡ true
+unfolding are_halves high_at low_at pick number_of number_from bits_of
 gather_3 = refl
 
-spread_4 : all_below (λ v. get_or SPREAD v 0 * 2 ^ 4 % 2 ^ 64 == octet_at initial_permutation 4 v) 256 ≡ true
-unfolding octet_at pick number_of number_from bits_of
+spread_4 : all_below (are_halves (λ x. x * 2 ^ 4 % 2 ^ 64) SPREAD initial_permutation 4) 16 ≡ true
+unfolding are_halves high_at low_at pick number_of number_from bits_of
 spread_4 = refl
 
-gather_4 : all_below (λ v. get_or GATHER v 0 * 2 ^ 7 % 2 ^ 64 == octet_at last_table 4 v) 256 ≡ true
-unfolding octet_at pick number_of number_from bits_of
+gather_4 : all_below (are_halves (λ x. x * 2 ^ 7 % 2 ^ 64) GATHER last_table 4) 16 ≡ true
+unfolding are_halves high_at low_at pick number_of number_from bits_of
 gather_4 = refl
 
-spread_5 : all_below (λ v. get_or SPREAD v 0 * 2 ^ 5 % 2 ^ 64 == octet_at initial_permutation 5 v) 256 ≡ true
-unfolding octet_at pick number_of number_from bits_of
+spread_5 : all_below (are_halves (λ x. x * 2 ^ 5 % 2 ^ 64) SPREAD initial_permutation 5) 16 ≡ true
+unfolding are_halves high_at low_at pick number_of number_from bits_of
 spread_5 = refl
 
-gather_5 : all_below (λ v. get_or GATHER v 0 * 2 ^ 5 % 2 ^ 64 == octet_at last_table 5 v) 256 ≡ true
-unfolding octet_at pick number_of number_from bits_of
+gather_5 : all_below (are_halves (λ x. x * 2 ^ 5 % 2 ^ 64) GATHER last_table 5) 16 ≡ true
+unfolding are_halves high_at low_at pick number_of number_from bits_of
 gather_5 = refl
 
-spread_6 : all_below (λ v. get_or SPREAD v 0 * 2 ^ 6 % 2 ^ 64 == octet_at initial_permutation 6 v) 256 ≡ true
-unfolding octet_at pick number_of number_from bits_of
+spread_6 : all_below (are_halves (λ x. x * 2 ^ 6 % 2 ^ 64) SPREAD initial_permutation 6) 16 ≡ true
+unfolding are_halves high_at low_at pick number_of number_from bits_of
 spread_6 = refl
 
-gather_6 : all_below (λ v. get_or GATHER v 0 * 2 ^ 3 % 2 ^ 64 == octet_at last_table 6 v) 256 ≡ true
-unfolding octet_at pick number_of number_from bits_of
+gather_6 : all_below (are_halves (λ x. x * 2 ^ 3 % 2 ^ 64) GATHER last_table 6) 16 ≡ true
+unfolding are_halves high_at low_at pick number_of number_from bits_of
 gather_6 = refl
 
-spread_7 : all_below (λ v. get_or SPREAD v 0 * 2 ^ 7 % 2 ^ 64 == octet_at initial_permutation 7 v) 256 ≡ true
-unfolding octet_at pick number_of number_from bits_of
+spread_7 : all_below (are_halves (λ x. x * 2 ^ 7 % 2 ^ 64) SPREAD initial_permutation 7) 16 ≡ true
+unfolding are_halves high_at low_at pick number_of number_from bits_of
 spread_7 = refl
 
-gather_7 : all_below (λ v. get_or GATHER v 0 * 2 ^ 1 % 2 ^ 64 == octet_at last_table 7 v) 256 ≡ true
-unfolding octet_at pick number_of number_from bits_of
+gather_7 : all_below (are_halves (λ x. x * 2 ^ 1 % 2 ^ 64) GATHER last_table 7) 16 ≡ true
+unfolding are_halves high_at low_at pick number_of number_from bits_of
 gather_7 = refl
 
 -- a sum of what a table picks of each octet
@@ -135,14 +211,14 @@ pub spread_is : (a b c d e f g h : ℕ) → a < 256 → b < 256 → c < 256 → 
     → bit_xor (bit_xor (bit_xor (get_or SPREAD a 0) (get_or SPREAD b 0 * 2 ^ 1 % 2 ^ 64)) (bit_xor (get_or SPREAD c 0 * 2 ^ 2 % 2 ^ 64) (get_or SPREAD d 0 * 2 ^ 3 % 2 ^ 64))) (bit_xor (bit_xor (get_or SPREAD e 0 * 2 ^ 4 % 2 ^ 64) (get_or SPREAD f 0 * 2 ^ 5 % 2 ^ 64)) (bit_xor (get_or SPREAD g 0 * 2 ^ 6 % 2 ^ 64) (get_or SPREAD h 0 * 2 ^ 7 % 2 ^ 64)))
     ≡ number_of (pick initial_permutation (bits_of_octets (a ∷ b ∷ c ∷ d ∷ e ∷ f ∷ g ∷ h ∷ [])))
 spread_is a b c d e f g h ha hb hc hd he hf hg hh =
-    let e0 : get_or SPREAD a 0 ≡ octet_at initial_permutation 0 a = eqb-true _ _ (all_below_at (λ v. get_or SPREAD v 0 == octet_at initial_permutation 0 v) 256 spread_0 a ha) in
-    let e1 : get_or SPREAD b 0 * 2 ^ 1 % 2 ^ 64 ≡ octet_at initial_permutation 1 b = eqb-true _ _ (all_below_at (λ v. get_or SPREAD v 0 * 2 ^ 1 % 2 ^ 64 == octet_at initial_permutation 1 v) 256 spread_1 b hb) in
-    let e2 : get_or SPREAD c 0 * 2 ^ 2 % 2 ^ 64 ≡ octet_at initial_permutation 2 c = eqb-true _ _ (all_below_at (λ v. get_or SPREAD v 0 * 2 ^ 2 % 2 ^ 64 == octet_at initial_permutation 2 v) 256 spread_2 c hc) in
-    let e3 : get_or SPREAD d 0 * 2 ^ 3 % 2 ^ 64 ≡ octet_at initial_permutation 3 d = eqb-true _ _ (all_below_at (λ v. get_or SPREAD v 0 * 2 ^ 3 % 2 ^ 64 == octet_at initial_permutation 3 v) 256 spread_3 d hd) in
-    let e4 : get_or SPREAD e 0 * 2 ^ 4 % 2 ^ 64 ≡ octet_at initial_permutation 4 e = eqb-true _ _ (all_below_at (λ v. get_or SPREAD v 0 * 2 ^ 4 % 2 ^ 64 == octet_at initial_permutation 4 v) 256 spread_4 e he) in
-    let e5 : get_or SPREAD f 0 * 2 ^ 5 % 2 ^ 64 ≡ octet_at initial_permutation 5 f = eqb-true _ _ (all_below_at (λ v. get_or SPREAD v 0 * 2 ^ 5 % 2 ^ 64 == octet_at initial_permutation 5 v) 256 spread_5 f hf) in
-    let e6 : get_or SPREAD g 0 * 2 ^ 6 % 2 ^ 64 ≡ octet_at initial_permutation 6 g = eqb-true _ _ (all_below_at (λ v. get_or SPREAD v 0 * 2 ^ 6 % 2 ^ 64 == octet_at initial_permutation 6 v) 256 spread_6 g hg) in
-    let e7 : get_or SPREAD h 0 * 2 ^ 7 % 2 ^ 64 ≡ octet_at initial_permutation 7 h = eqb-true _ _ (all_below_at (λ v. get_or SPREAD v 0 * 2 ^ 7 % 2 ^ 64 == octet_at initial_permutation 7 v) 256 spread_7 h hh) in
+    let e0 : get_or SPREAD a 0 ≡ octet_at initial_permutation 0 a = looked_up (λ x. x) (λ x y. refl) SPREAD initial_permutation 0 (lit< tt) spread_sums spread_0 a ha in
+    let e1 : get_or SPREAD b 0 * 2 ^ 1 % 2 ^ 64 ≡ octet_at initial_permutation 1 b = looked_up (λ x. x * 2 ^ 1 % 2 ^ 64) (moved 1 (lit< tt)) SPREAD initial_permutation 1 (lit< tt) spread_sums spread_1 b hb in
+    let e2 : get_or SPREAD c 0 * 2 ^ 2 % 2 ^ 64 ≡ octet_at initial_permutation 2 c = looked_up (λ x. x * 2 ^ 2 % 2 ^ 64) (moved 2 (lit< tt)) SPREAD initial_permutation 2 (lit< tt) spread_sums spread_2 c hc in
+    let e3 : get_or SPREAD d 0 * 2 ^ 3 % 2 ^ 64 ≡ octet_at initial_permutation 3 d = looked_up (λ x. x * 2 ^ 3 % 2 ^ 64) (moved 3 (lit< tt)) SPREAD initial_permutation 3 (lit< tt) spread_sums spread_3 d hd in
+    let e4 : get_or SPREAD e 0 * 2 ^ 4 % 2 ^ 64 ≡ octet_at initial_permutation 4 e = looked_up (λ x. x * 2 ^ 4 % 2 ^ 64) (moved 4 (lit< tt)) SPREAD initial_permutation 4 (lit< tt) spread_sums spread_4 e he in
+    let e5 : get_or SPREAD f 0 * 2 ^ 5 % 2 ^ 64 ≡ octet_at initial_permutation 5 f = looked_up (λ x. x * 2 ^ 5 % 2 ^ 64) (moved 5 (lit< tt)) SPREAD initial_permutation 5 (lit< tt) spread_sums spread_5 f hf in
+    let e6 : get_or SPREAD g 0 * 2 ^ 6 % 2 ^ 64 ≡ octet_at initial_permutation 6 g = looked_up (λ x. x * 2 ^ 6 % 2 ^ 64) (moved 6 (lit< tt)) SPREAD initial_permutation 6 (lit< tt) spread_sums spread_6 g hg in
+    let e7 : get_or SPREAD h 0 * 2 ^ 7 % 2 ^ 64 ≡ octet_at initial_permutation 7 h = looked_up (λ x. x * 2 ^ 7 % 2 ^ 64) (moved 7 (lit< tt)) SPREAD initial_permutation 7 (lit< tt) spread_sums spread_7 h hh in
     (λ i. bit_xor (bit_xor (bit_xor (e0 i) (e1 i)) (bit_xor (e2 i) (e3 i))) (bit_xor (bit_xor (e4 i) (e5 i)) (bit_xor (e6 i) (e7 i))))
     ∙ tree (octet_at initial_permutation 0 a) (octet_at initial_permutation 1 b) (octet_at initial_permutation 2 c) (octet_at initial_permutation 3 d) (octet_at initial_permutation 4 e) (octet_at initial_permutation 5 f) (octet_at initial_permutation 6 g) (octet_at initial_permutation 7 h)
     ∙ sym (octets_sum initial_permutation a b c d e f g h)
@@ -152,14 +228,14 @@ pub gather_is : (a b c d e f g h : ℕ) → a < 256 → b < 256 → c < 256 → 
     → bit_xor (bit_xor (bit_xor (get_or GATHER a 0 * 2 ^ 6 % 2 ^ 64) (get_or GATHER b 0 * 2 ^ 4 % 2 ^ 64)) (bit_xor (get_or GATHER c 0 * 2 ^ 2 % 2 ^ 64) (get_or GATHER d 0))) (bit_xor (bit_xor (get_or GATHER e 0 * 2 ^ 7 % 2 ^ 64) (get_or GATHER f 0 * 2 ^ 5 % 2 ^ 64)) (bit_xor (get_or GATHER g 0 * 2 ^ 3 % 2 ^ 64) (get_or GATHER h 0 * 2 ^ 1 % 2 ^ 64)))
     ≡ number_of (pick final_permutation (bits_of_octets (a ∷ b ∷ c ∷ d ∷ e ∷ f ∷ g ∷ h ∷ [])))
 gather_is a b c d e f g h ha hb hc hd he hf hg hh =
-    let e0 : get_or GATHER a 0 * 2 ^ 6 % 2 ^ 64 ≡ octet_at last_table 0 a = eqb-true _ _ (all_below_at (λ v. get_or GATHER v 0 * 2 ^ 6 % 2 ^ 64 == octet_at last_table 0 v) 256 gather_0 a ha) in
-    let e1 : get_or GATHER b 0 * 2 ^ 4 % 2 ^ 64 ≡ octet_at last_table 1 b = eqb-true _ _ (all_below_at (λ v. get_or GATHER v 0 * 2 ^ 4 % 2 ^ 64 == octet_at last_table 1 v) 256 gather_1 b hb) in
-    let e2 : get_or GATHER c 0 * 2 ^ 2 % 2 ^ 64 ≡ octet_at last_table 2 c = eqb-true _ _ (all_below_at (λ v. get_or GATHER v 0 * 2 ^ 2 % 2 ^ 64 == octet_at last_table 2 v) 256 gather_2 c hc) in
-    let e3 : get_or GATHER d 0 ≡ octet_at last_table 3 d = eqb-true _ _ (all_below_at (λ v. get_or GATHER v 0 == octet_at last_table 3 v) 256 gather_3 d hd) in
-    let e4 : get_or GATHER e 0 * 2 ^ 7 % 2 ^ 64 ≡ octet_at last_table 4 e = eqb-true _ _ (all_below_at (λ v. get_or GATHER v 0 * 2 ^ 7 % 2 ^ 64 == octet_at last_table 4 v) 256 gather_4 e he) in
-    let e5 : get_or GATHER f 0 * 2 ^ 5 % 2 ^ 64 ≡ octet_at last_table 5 f = eqb-true _ _ (all_below_at (λ v. get_or GATHER v 0 * 2 ^ 5 % 2 ^ 64 == octet_at last_table 5 v) 256 gather_5 f hf) in
-    let e6 : get_or GATHER g 0 * 2 ^ 3 % 2 ^ 64 ≡ octet_at last_table 6 g = eqb-true _ _ (all_below_at (λ v. get_or GATHER v 0 * 2 ^ 3 % 2 ^ 64 == octet_at last_table 6 v) 256 gather_6 g hg) in
-    let e7 : get_or GATHER h 0 * 2 ^ 1 % 2 ^ 64 ≡ octet_at last_table 7 h = eqb-true _ _ (all_below_at (λ v. get_or GATHER v 0 * 2 ^ 1 % 2 ^ 64 == octet_at last_table 7 v) 256 gather_7 h hh) in
+    let e0 : get_or GATHER a 0 * 2 ^ 6 % 2 ^ 64 ≡ octet_at last_table 0 a = looked_up (λ x. x * 2 ^ 6 % 2 ^ 64) (moved 6 (lit< tt)) GATHER last_table 0 (lit< tt) gather_sums gather_0 a ha in
+    let e1 : get_or GATHER b 0 * 2 ^ 4 % 2 ^ 64 ≡ octet_at last_table 1 b = looked_up (λ x. x * 2 ^ 4 % 2 ^ 64) (moved 4 (lit< tt)) GATHER last_table 1 (lit< tt) gather_sums gather_1 b hb in
+    let e2 : get_or GATHER c 0 * 2 ^ 2 % 2 ^ 64 ≡ octet_at last_table 2 c = looked_up (λ x. x * 2 ^ 2 % 2 ^ 64) (moved 2 (lit< tt)) GATHER last_table 2 (lit< tt) gather_sums gather_2 c hc in
+    let e3 : get_or GATHER d 0 ≡ octet_at last_table 3 d = looked_up (λ x. x) (λ x y. refl) GATHER last_table 3 (lit< tt) gather_sums gather_3 d hd in
+    let e4 : get_or GATHER e 0 * 2 ^ 7 % 2 ^ 64 ≡ octet_at last_table 4 e = looked_up (λ x. x * 2 ^ 7 % 2 ^ 64) (moved 7 (lit< tt)) GATHER last_table 4 (lit< tt) gather_sums gather_4 e he in
+    let e5 : get_or GATHER f 0 * 2 ^ 5 % 2 ^ 64 ≡ octet_at last_table 5 f = looked_up (λ x. x * 2 ^ 5 % 2 ^ 64) (moved 5 (lit< tt)) GATHER last_table 5 (lit< tt) gather_sums gather_5 f hf in
+    let e6 : get_or GATHER g 0 * 2 ^ 3 % 2 ^ 64 ≡ octet_at last_table 6 g = looked_up (λ x. x * 2 ^ 3 % 2 ^ 64) (moved 3 (lit< tt)) GATHER last_table 6 (lit< tt) gather_sums gather_6 g hg in
+    let e7 : get_or GATHER h 0 * 2 ^ 1 % 2 ^ 64 ≡ octet_at last_table 7 h = looked_up (λ x. x * 2 ^ 1 % 2 ^ 64) (moved 1 (lit< tt)) GATHER last_table 7 (lit< tt) gather_sums gather_7 h hh in
     (λ i. bit_xor (bit_xor (bit_xor (e0 i) (e1 i)) (bit_xor (e2 i) (e3 i))) (bit_xor (bit_xor (e4 i) (e5 i)) (bit_xor (e6 i) (e7 i))))
     ∙ tree (octet_at last_table 0 a) (octet_at last_table 1 b) (octet_at last_table 2 c) (octet_at last_table 3 d) (octet_at last_table 4 e) (octet_at last_table 5 f) (octet_at last_table 6 g) (octet_at last_table 7 h)
     ∙ sym (octets_sum last_table a b c d e f g h)

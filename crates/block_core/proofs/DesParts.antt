@@ -13,7 +13,7 @@ use Rattle.block_core.specs.BitsLaws.{bits_append, bits_cons, bits_none, bits_bi
 use Rattle.block_core.specs.DesTables.{expansion, permutation, s_box_1, s_box_2, s_box_3, s_box_4, s_box_5, s_box_6, s_box_7, s_box_8}
 use Rattle.block_core.specs.Des.{substitute, substitute_all, cipher_function}
 use Rattle.block_core.specs.DesWords.{joined, key_of, six_of}
-use Rattle.block_core.proofs.Joined.{entry}
+use Rattle.block_core.specs.SboxLaws.{entry}
 use Rattle.block_core.specs.declared.des_joined.TheConstants.{SP1, SP2, SP3, SP4, SP5, SP6, SP7, SP8}
 
 get_or-xor_each : (xs ys : List ℕ) (i : ℕ) → length xs ≡ length ys → get_or (xor_each xs ys) i 0 ≡ bit_xor (get_or xs i 0) (get_or ys i 0)
@@ -64,7 +64,7 @@ unfolding xor_each
 behind zero xs ys = refl
 behind (suc k) xs ys = ap (λ (z : List ℕ). 0 ∷ z) (behind k xs ys)
 
-bits_zeros : (n : ℕ) → AreBits (replicate n 0)
+pub bits_zeros : (n : ℕ) → AreBits (replicate n 0)
 bits_zeros zero = bits_none
 bits_zeros (suc n) = bits_cons 0 (replicate n 0) (lit< tt) (bits_zeros n)
 

@@ -4,7 +4,7 @@ use Rattle.std.specs.Prelude.{map}
 use Rattle.std.specs.Int.{w32, to_be_bytes}
 use Rattle.block_core.specs.AesKey.{AreOctets}
 use Rattle.block_core.specs.Sbox.{sub_byte, inv_sub_byte}
-use Rattle.block_core.specs.AesLaws.{sub_facts_at}
+use Rattle.block_core.specs.SboxLaws.{sub_facts_at}
 use Rattle.block_core.specs.AesRounds.{times_circulant, add_round_key, mix_columns, shift_rows, sub_bytes, inv_mix_columns, inv_shift_rows, inv_sub_bytes}
 use Rattle.block_core.specs.AesWords.{word, mixed_word, octets_of, key_column}
 use Rattle.block_core.specs.AesWordsLaws.{column_octets, xored_octets}

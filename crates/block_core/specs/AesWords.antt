@@ -3,7 +3,6 @@ use Rattle.std.specs.Prelude.{◌≡◌, ℕ, ◌+◌, ◌*◌, ◌^◌, ◌<◌
 use Rattle.std.specs.List.{flat_map}
 use Rattle.std.specs.Int.{w32, to_be_bytes}
 use Rattle.block_core.specs.Field.{product}
-use Rattle.block_core.specs.Sbox.{sub_byte, inv_sub_byte}
 use Rattle.block_core.specs.AesRounds.{times_circulant}
 
 -- the word of four octets, the highest first
@@ -19,13 +18,6 @@ octets_of w =
 -- the word of an octet times four factors
 abbrev pub scaled : ℕ → ℕ → ℕ → ℕ → ℕ → ℕ
 scaled k0 k1 k2 k3 a = word (product k0 a) (product k1 a) (product k2 a) (product k3 a)
-
--- the entries of the tables: an octet through the S-box, or the inverse S-box, times four factors
-unfoldable pub sub_scaled : ℕ → ℕ → ℕ → ℕ → ℕ → ℕ
-sub_scaled k0 k1 k2 k3 a = scaled k0 k1 k2 k3 (sub_byte a)
-
-unfoldable pub inv_sub_scaled : ℕ → ℕ → ℕ → ℕ → ℕ → ℕ
-inv_sub_scaled k0 k1 k2 k3 a = scaled k0 k1 k2 k3 (inv_sub_byte a)
 
 -- the word of the product of a column with a circulant matrix
 abbrev pub mixed_word : ℕ → ℕ → ℕ → ℕ → List ℕ → ℕ

@@ -1,6 +1,6 @@
 use Rattle.std.proofs.Common.{◌∙◌, ap, ℕ, List, [], ◌∷◌, get_or}
 use Rattle.block_core.specs.Sbox.{inv_sub_byte, sub_byte}
-use Rattle.block_core.specs.AesLaws.{sub_facts_at}
+use Rattle.block_core.specs.SboxLaws.{sub_facts_at}
 use Rattle.block_core.specs.AesWords.{mixed_word}
 use Rattle.block_core.proofs.Rounds.{at, at0, at1, at2, at3}
 use Rattle.block_core.proofs.aes_words.unmixed.Goals as goal
