@@ -35,12 +35,8 @@ pub(crate) fn uint_in_front(r: &mut SliceReader<'_>, max: u64) -> Result<u64, Er
     ensures small { IfOk result (λ n. n ≤ max) }
 {
     let mut ahead = *r;
-    let header = ahead.header()?;
-    if header.tag != Tag::INTEGER {
-        return Err(Error::Malformed);
-    }
-    let value = ahead.read_slice(header.length)?;
-    let n = uint_value(max, value)?;
+    let value = inner_in_front(&mut ahead, Tag::INTEGER)?;
+    let n = uint_value(max, value.rest)?;
     *r = ahead;
     Ok(n)
 }
@@ -50,12 +46,8 @@ pub(crate) fn identifier_in_front(r: &mut SliceReader<'_>) -> Result<ObjectIdent
     ensures place { r.new.read + length r.new.rest.now ≡ r.old.read + length r.old.rest.now }
 {
     let mut ahead = *r;
-    let header = ahead.header()?;
-    if header.tag != Tag::OBJECT_IDENTIFIER {
-        return Err(Error::Malformed);
-    }
-    let value = ahead.read_slice(header.length)?;
-    let identifier = ObjectIdentifier::from_bytes(value)?;
+    let value = inner_in_front(&mut ahead, Tag::OBJECT_IDENTIFIER)?;
+    let identifier = ObjectIdentifier::from_bytes(value.rest)?;
     *r = ahead;
     Ok(identifier)
 }

@@ -79,7 +79,6 @@ fn write_units<W: Writer>(w: &mut W, text: &str) -> Result<(), Error>
 
 /// Writes the text as a BMPString (X.690 section 8.23), a character over 65,535 as a pair of surrogates. `Overlength` where the
 /// element would have more than 2^32 - 1 octets, and nothing is written then; else the writer's refusals.
-#[tactic(auto, using(crate::proofs::TextLaws::bmp_written))]
 pub fn write_bmp<W: Writer>(w: &mut W, text: &str) -> Result<(), Error>
     ensures writes { Writes W.sink ⊥ (IsOverlong (length (el 0x1e (text_units text.now))))
         (el 0x1e (text_units text.now)) w.old result w.new }

@@ -2,10 +2,8 @@ pub mod KeyBlocks
 mod Chains
 mod PaddedTexts
 pub mod Uniqueness
-mod HmacVectors
-mod CbcVectors
+mod PaddingExamples
 mod Field
 mod Hashed
 mod Stream
 mod Sealed
-mod GcmVectors

@@ -81,8 +81,8 @@ impl EncryptedPrivateKeyInfo {
         ensures err { IfErr result (λ e. e ≡ Error.Memory) }
     {
         Ok(EncryptedPrivateKeyInfo {
-            encryption_algorithm: self.encryption_algorithm.try_clone(alloc)?,
             encrypted_data: self.encrypted_data.try_clone(alloc)?,
+            encryption_algorithm: self.encryption_algorithm.try_clone(alloc)?,
         })
     }
 }

@@ -282,13 +282,14 @@ impl MacData {
         ensures agrees { IfOk result (λ m. mac_agrees m password.now content.now ≡ true) }
         ensures err { IfErr result (λ e. e ≡ Error.Memory) }
     {
-        let mac = made_under::<Sha1>(alloc, content, password, salt, iterations)?;
+        let digest = made_under::<Sha1>(alloc, content, password, salt, iterations)?;
+        let salt = Octets::from_slice(alloc, salt)?;
         Ok(MacData {
             mac: DigestInfo {
                 digest_algorithm: AlgorithmIdentifier::Sha1,
-                digest: mac,
+                digest,
             },
-            salt: Octets::from_slice(alloc, salt)?,
+            salt,
             iterations,
         })
     }
@@ -311,13 +312,14 @@ impl MacData {
         ensures agrees { IfOk result (λ m. mac_agrees m password.now content.now ≡ true) }
         ensures err { IfErr result (λ e. e ≡ Error.Memory) }
     {
-        let mac = made_under::<Sha256>(alloc, content, password, salt, iterations)?;
+        let digest = made_under::<Sha256>(alloc, content, password, salt, iterations)?;
+        let salt = Octets::from_slice(alloc, salt)?;
         Ok(MacData {
             mac: DigestInfo {
                 digest_algorithm: AlgorithmIdentifier::Sha256,
-                digest: mac,
+                digest,
             },
-            salt: Octets::from_slice(alloc, salt)?,
+            salt,
             iterations,
         })
     }

@@ -2,6 +2,7 @@ use Rattle.std.proofs.Common.{arith, inr}
 use Rattle.std.proofs.lemmas.Result.{err_from_is_err_and}
 use Rattle.asn1_core.specs.Unicode.{text_units}
 use Rattle.asn1_core.specs.WritingLaws.{stopped_before, overlong_el, el_size, element_stopped, element_written, short_el, held}
+use Rattle.asn1_core.proofs.TextLaws.{bmp_written}
 use Rattle.asn1_core.proofs.write_text.write_bmp.Goals as goal
 
 pub returns-in_err-length-clause-writes : goal.returns-in_err-length-clause-writes
@@ -26,3 +27,15 @@ returns-clause-writes g c = element_written g.W.Writer.sink 0x1e c.in_ok-length.
 
 pub returns-clause-short : goal.returns-clause-short
 returns-clause-short g c = held _ c.write_units.result (short_el 0x1e c.in_ok-length.length.value (text_units c.args.text.now) c.in_ok-length.ensures c.in_ok-element_len.ensures.1)
+
+pub returns-in_err-length-clause-text : goal.returns-in_err-length-clause-text
+returns-in_err-length-clause-text g c = bmp_written c.args.text.now c.utf8.text
+
+pub returns-in_err-element_len-clause-text : goal.returns-in_err-element_len-clause-text
+returns-in_err-element_len-clause-text g c = bmp_written c.args.text.now c.utf8.text
+
+pub returns-in_err-write_header-clause-text : goal.returns-in_err-write_header-clause-text
+returns-in_err-write_header-clause-text g c = bmp_written c.args.text.now c.utf8.text
+
+pub returns-clause-text : goal.returns-clause-text
+returns-clause-text g c = bmp_written c.args.text.now c.utf8.text

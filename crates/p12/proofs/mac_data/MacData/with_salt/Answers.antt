@@ -6,10 +6,10 @@ use Rattle.p12.proofs.mac_data.MacData.with_salt.Goals as goal
 
 pub returns-clause-value : goal.returns-clause-value
 unfolding mac_value
-returns-clause-value c = mac_is Sha1 _ _ _ _ _ _ c.in_ok-mac.ensures.value c.in_ok-from_slice.ensures
+returns-clause-value c = mac_is Sha1 _ _ _ _ _ _ c.in_ok-digest.ensures.value c.in_ok-salt.ensures
 
 pub returns-clause-agrees : goal.returns-clause-agrees
 unfolding mac_value
 returns-clause-agrees c =
-    ap (λ m. mac_agrees m c.args.password.now c.args.content.now) (mac_is Sha1 _ _ _ _ _ _ c.in_ok-mac.ensures.value c.in_ok-from_slice.ensures)
+    ap (λ m. mac_agrees m c.args.password.now c.args.content.now) (mac_is Sha1 _ _ _ _ _ _ c.in_ok-digest.ensures.value c.in_ok-salt.ensures)
     ∙ mac_of_agrees Sha1 _ _ _ _ refl c.requires.iterations
