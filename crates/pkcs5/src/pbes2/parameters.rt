@@ -46,6 +46,19 @@ impl TryFrom<AnyRef<'_>> for Parameters {
     }
 }
 
+/// The parameters whose value octets these are.
+fn read_parameters(value: &[u8]) -> Result<Parameters, Error>
+    ensures { Gives (λ v. v) result (parameters_of value.now) }
+{
+    let mut inner = SliceReader::new(value);
+    let function = AlgorithmIdentifierRef::decode(&mut inner)?;
+    let cipher = AlgorithmIdentifierRef::decode(&mut inner)?;
+    let kdf = Kdf::try_from(function)?;
+    let encryption = EncryptionScheme::try_from(cipher)?;
+    inner.finish()?;
+    Ok(Parameters { kdf, encryption })
+}
+
 impl FixedTag for Parameters {
     ghost TAG = { record { first = 0x30; is_tag = refl } };
 
@@ -66,14 +79,9 @@ impl<'a> DecodeValue<&'a [u8]> for Parameters {
     fn decode_value<R: Reader<&'a [u8]>>(r: &mut R, header: Header) -> Result<Parameters, Error> {
         let mut ahead = *r;
         let value = ahead.read_slice(header.length)?;
-        let mut inner = SliceReader::new(value);
-        let function = AlgorithmIdentifierRef::decode(&mut inner)?;
-        let cipher = AlgorithmIdentifierRef::decode(&mut inner)?;
-        let kdf = Kdf::try_from(function)?;
-        let encryption = EncryptionScheme::try_from(cipher)?;
-        inner.finish()?;
+        let parameters = read_parameters(value)?;
         *r = ahead;
-        Ok(Parameters { kdf, encryption })
+        Ok(parameters)
     }
 
     ghost exact = { λ t. parameters_of-exact };

@@ -104,6 +104,24 @@ fn prf_or_default(prf: Option<Pbkdf2Prf>) -> Pbkdf2Prf
     }
 }
 
+/// The parameters whose value octets these are.
+fn read_params(value: &[u8]) -> Result<Pbkdf2Params, Error>
+    ensures { Gives (λ v. v) result (pbkdf2_params_of value.now) }
+{
+    let mut inner = SliceReader::new(value);
+    let salt = Salt::decode(&mut inner)?;
+    let iteration_count = u32::decode(&mut inner)?;
+    let key_length = Option::<u16>::decode(&mut inner)?;
+    let prf = Option::<Pbkdf2Prf>::decode(&mut inner)?;
+    inner.finish()?;
+    Ok(Pbkdf2Params {
+        salt,
+        iteration_count,
+        key_length,
+        prf: prf_or_default(prf),
+    })
+}
+
 impl TryFrom<AnyRef<'_>> for Pbkdf2Params {
     type Error = Error;
 
@@ -136,19 +154,9 @@ impl<'a> DecodeValue<&'a [u8]> for Pbkdf2Params {
     fn decode_value<R: Reader<&'a [u8]>>(r: &mut R, header: Header) -> Result<Pbkdf2Params, Error> {
         let mut ahead = *r;
         let value = ahead.read_slice(header.length)?;
-        let mut inner = SliceReader::new(value);
-        let salt = Salt::decode(&mut inner)?;
-        let iteration_count = u32::decode(&mut inner)?;
-        let key_length = Option::<u16>::decode(&mut inner)?;
-        let prf = Option::<Pbkdf2Prf>::decode(&mut inner)?;
-        inner.finish()?;
+        let params = read_params(value)?;
         *r = ahead;
-        Ok(Pbkdf2Params {
-            salt,
-            iteration_count,
-            key_length,
-            prf: prf_or_default(prf),
-        })
+        Ok(params)
     }
 
     ghost exact = { λ t. pbkdf2_params_of-exact };

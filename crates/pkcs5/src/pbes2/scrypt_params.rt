@@ -164,6 +164,26 @@ impl TryFrom<AnyRef<'_>> for ScryptParams {
     }
 }
 
+/// The parameters whose value octets these are.
+fn read_params(value: &[u8]) -> Result<ScryptParams, Error>
+    ensures { Gives (λ v. v) result (scrypt_params_of value.now) }
+{
+    let mut inner = SliceReader::new(value);
+    let salt = Salt::decode(&mut inner)?;
+    let cost_parameter = u64::decode(&mut inner)?;
+    let block_size = u16::decode(&mut inner)?;
+    let parallelization = u16::decode(&mut inner)?;
+    let key_length = Option::<u16>::decode(&mut inner)?;
+    inner.finish()?;
+    Ok(ScryptParams {
+        salt,
+        cost_parameter,
+        block_size,
+        parallelization,
+        key_length,
+    })
+}
+
 impl FixedTag for ScryptParams {
     ghost TAG = { record { first = 0x30; is_tag = refl } };
 
@@ -182,21 +202,9 @@ impl<'a> DecodeValue<&'a [u8]> for ScryptParams {
     fn decode_value<R: Reader<&'a [u8]>>(r: &mut R, header: Header) -> Result<ScryptParams, Error> {
         let mut ahead = *r;
         let value = ahead.read_slice(header.length)?;
-        let mut inner = SliceReader::new(value);
-        let salt = Salt::decode(&mut inner)?;
-        let cost_parameter = u64::decode(&mut inner)?;
-        let block_size = u16::decode(&mut inner)?;
-        let parallelization = u16::decode(&mut inner)?;
-        let key_length = Option::<u16>::decode(&mut inner)?;
-        inner.finish()?;
+        let params = read_params(value)?;
         *r = ahead;
-        Ok(ScryptParams {
-            salt,
-            cost_parameter,
-            block_size,
-            parallelization,
-            key_length,
-        })
+        Ok(params)
     }
 
     ghost exact = { λ t. scrypt_params_of-exact };
