@@ -112,11 +112,14 @@ content_salt_at y = octets_behind y 8
 abbrev pub mac_salt_at : ℕ → List ℕ
 mac_salt_at y = octets_behind (state_behind y 8) 8
 
+-- a content of these octets, encrypted once under a salt
+abbrev pub encrypted_content : List ℕ → List ℕ → ContentInfo
+encrypted_content salt c =
+    content.EncryptedData (record { encrypted_content_info = record { content_encryption_algorithm = triple_des_once salt; encrypted_content = c } })
+
 -- the two contents: the certificates, of which c is encrypted, and the bags of the keys
 abbrev pub two_contents : List ℕ → List ℕ → List SafeBag → List ContentInfo
-two_contents salt c gs =
-    content.EncryptedData (record { encrypted_content_info = record { content_encryption_algorithm = triple_des_once salt; encrypted_content = c } })
-    ∷ content.Data (bags_canon gs) ∷ []
+two_contents salt c gs = encrypted_content salt c ∷ content.Data (bags_canon gs) ∷ []
 
 -- the store of these two contents
 abbrev pub store_of : List ℕ → List ℕ → PFX

@@ -1,11 +1,11 @@
 //! The text that the sample is due.
-ghost use Rattle.std.specs.Prelude.{◌≡◌, ◌*◌, ◌≤◌, ◌++◌, List, ℕ, IfOk, IfErr};
+ghost use Rattle.std.specs.Prelude.{◌≡◌, ◌*◌, ◌≤◌, ◌++◌, ◌∷◌, [], List, ℕ, IfOk, IfErr, OnOk};
 ghost use Rattle.sha2.specs.Sha256.{sha256};
 ghost use Rattle.p12.specs.Canonical.{store_canon};
 ghost use Rattle.p12.specs.declared.pfx.PFX.{PFX};
 ghost use Rattle.frame.specs.DueText.{joined};
 ghost use Rattle.frame.specs.declared.status.Status.{Status};
-ghost use Rattle.transfer.specs.Sample.{IsSampleStore, SampleMakes, drawn_octets, number_line, octets_behind, sample_text};
+ghost use Rattle.transfer.specs.Sample.{IsSampleStore, SampleMakes, behind_store, drawn_octets, number_line, octets_behind, sample_text};
 
 use crate::program::due_text::due_lines;
 use crate::sample::generator::Generator;
@@ -37,6 +37,17 @@ fn octets_to_draw(alloc: Global, keys: u32, generator: &mut Generator) -> Result
     Ok(Octets::from_vec(octets))
 }
 
+/// The text of the store of so many keys. The generator then stands in front of the octets to be drawn.
+fn store_text(alloc: Global, keys: u32, generator: &mut Generator) -> Result<Octets, p12::Error>
+    requires { generator.old.state ≡ keys }
+    ensures store { IfOk result (λ text. (store : PFX) × IsSampleStore keys store
+        × (text ≡ store_canon store)) }
+    ensures state { OnOk result (generator.new.state ≡ behind_store keys) }
+{
+    let store = sample_store(alloc, keys, generator)?;
+    store.to_der(alloc)
+}
+
 /// The sample of so many keys.
 fn sample_of(alloc: Global, keys: u32) -> Result<Sample, p12::Error>
     ensures store { IfOk result (λ s. (store : PFX) × IsSampleStore keys store
@@ -44,12 +55,9 @@ fn sample_of(alloc: Global, keys: u32) -> Result<Sample, p12::Error>
     ensures drawn { IfOk result (λ s. s.drawn ≡ drawn_octets keys) }
 {
     let mut generator = Generator::new(keys);
-    let store = sample_store(alloc, keys, &mut generator)?;
+    let store = store_text(alloc, keys, &mut generator)?;
     let drawn = octets_to_draw(alloc, keys, &mut generator)?;
-    Ok(Sample {
-        store: store.to_der(alloc)?,
-        drawn,
-    })
+    Ok(Sample { store, drawn })
 }
 
 /// Feeds a hasher with lines, one after the other.
@@ -81,6 +89,19 @@ fn number_line(alloc: Global, label: &[u8], number: u64) -> Result<Octets, Alloc
     Ok(line)
 }
 
+/// Puts that line behind the others.
+fn add_number(
+    alloc: Global,
+    lines: &mut Items<Octets>,
+    label: &[u8],
+    number: u64,
+) -> Result<(), AllocError>
+    ensures { OnOk result (lines.new ≡ lines.old ++ number_line label.now number ∷ []) }
+{
+    let line = number_line(alloc, label, number)?;
+    lines.push(line)
+}
+
 /// The five lines for a store and what it was transferred to.
 fn lines_for(
     alloc: Global,
@@ -98,11 +119,12 @@ fn lines_for(
     } = transferred;
     let text = due_lines(alloc, certificates.as_slice(), documents.as_slice())?;
     let mut lines = Items::new(alloc);
-    lines.push(number_line(alloc, b"keys ", u64::from(keys))?)?;
-    lines.push(number_line(alloc, b"certs ", certificates.len() as u64)?)?;
-    lines.push(number_line(alloc, b"store ", store.len() as u64)?)?;
-    lines.push(number_line(alloc, b"steps ", 3 * u64::from(keys) + 4)?)?;
-    lines.push(line_of(alloc, "sha256 ", &digest_of(text.as_slice()))?)?;
+    add_number(alloc, &mut lines, b"keys ", u64::from(keys))?;
+    add_number(alloc, &mut lines, b"certs ", certificates.len() as u64)?;
+    add_number(alloc, &mut lines, b"store ", store.len() as u64)?;
+    add_number(alloc, &mut lines, b"steps ", 3 * u64::from(keys) + 4)?;
+    let digest = line_of(alloc, "sha256 ", &digest_of(text.as_slice()))?;
+    lines.push(digest)?;
     Ok(lines)
 }
 

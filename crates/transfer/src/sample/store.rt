@@ -2,7 +2,7 @@
 ghost use Rattle.std.specs.Prelude.{◌≡◌, ◌*◌, ◌<◌, ◌^◌, List, ℕ, length, IfOk, OnOk};
 ghost use Rattle.asn1_core.specs.Sets.{Each};
 ghost use Rattle.p12.specs.Canonical.{bags_canon, contents_canon};
-ghost use Rattle.transfer.specs.Sample.{IsKeyBag, IsSampleStore, OpensTo, SealsKey, behind_keys, behind_store, certificate_bag, certificate_bags, starts, store_of, triple_des_once, two_contents};
+ghost use Rattle.transfer.specs.Sample.{IsKeyBag, IsSampleStore, OpensTo, SealsKey, behind_keys, behind_store, certificate_bag, certificate_bags, encrypted_content, starts, store_of, triple_des_once, two_contents};
 
 use crate::sample::generator::Generator;
 use crate::sample::material::next_material;
@@ -83,6 +83,27 @@ fn key_bags(alloc: Global, keys: u32, generator: &mut Generator) -> Result<Items
     Ok(bags)
 }
 
+/// The content of the bags of the certificates, encrypted under a salt.
+fn certificates_content(
+    alloc: Global,
+    certificates: &[SafeBag],
+    salt: &[u8],
+) -> Result<ContentInfo, Error>
+    requires { length salt.now ≡ 8 }
+    ensures { IfOk result (λ t. (c : List ℕ) × OpensTo salt.now (bags_canon certificates.now) c
+        × (t ≡ encrypted_content salt.now c)) }
+{
+    let plain = SafeBag::all_to_der(alloc, certificates)?;
+    let algorithm = triple_des_once(alloc, salt)?;
+    let encrypted_content = algorithm.encrypt_text(alloc, plain.as_slice(), PASSWORD)?;
+    Ok(ContentInfo::EncryptedData(EncryptedData {
+        encrypted_content_info: EncryptedContentInfo {
+            content_encryption_algorithm: algorithm,
+            encrypted_content,
+        },
+    }))
+}
+
 /// The text of the two contents: the bags of the certificates, encrypted under a salt, and those of the keys.
 fn two_contents(
     alloc: Global,
@@ -95,17 +116,11 @@ fn two_contents(
         × (t ≡ contents_canon (two_contents salt.now c keys.now))) }
     ensures short { IfOk result (λ t. length t < 2 ^ 32) }
 {
-    let plain = SafeBag::all_to_der(alloc, certificates)?;
-    let algorithm = triple_des_once(alloc, salt)?;
-    let encrypted_content = algorithm.encrypt_text(alloc, plain.as_slice(), PASSWORD)?;
+    let encrypted = certificates_content(alloc, certificates, salt)?;
+    let plain = SafeBag::all_to_der(alloc, keys)?;
     let mut contents = Items::new(alloc);
-    contents.push(ContentInfo::EncryptedData(EncryptedData {
-        encrypted_content_info: EncryptedContentInfo {
-            content_encryption_algorithm: algorithm,
-            encrypted_content,
-        },
-    }))?;
-    contents.push(ContentInfo::Data(SafeBag::all_to_der(alloc, keys)?))?;
+    contents.push(encrypted)?;
+    contents.push(ContentInfo::Data(plain))?;
     ContentInfo::all_to_der(alloc, contents.as_slice())
 }
 

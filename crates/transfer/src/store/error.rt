@@ -55,26 +55,35 @@ impl From<Error> for TransferError {
     }
 }
 
+impl TransferError {
+    /// The name of the variant; want of memory in words.
+    #[tactic(auto, unfolding(crate::specs::TransferError::error_name))]
+    fn text(self) -> &'static str
+        ensures { result.now ≡ error_name self }
+    {
+        match self {
+            TransferError::TooLong => "TooLong",
+            TransferError::Malformed => "Malformed",
+            TransferError::Unsupported => "Unsupported",
+            TransferError::MacMissing => "MacMissing",
+            TransferError::MacUnsupported => "MacUnsupported",
+            TransferError::ZeroIterations => "ZeroIterations",
+            TransferError::WorkLimit => "WorkLimit",
+            TransferError::MacMismatch => "MacMismatch",
+            TransferError::ContentMalformed => "ContentMalformed",
+            TransferError::DecryptFailed => "DecryptFailed",
+            TransferError::KeyMalformed => "KeyMalformed",
+            TransferError::Rng => "Rng",
+            TransferError::Memory => "out of memory",
+        }
+    }
+}
+
 impl fmt::Display for TransferError {
     ghost output = { λ e. Some (error_name e) };
 
-    #[tactic(auto, unfolding(crate::specs::TransferError::error_name))]
     fn fmt<W: fmt::Write>(&self, f: &mut fmt::Formatter<W>) -> fmt::Result {
-        match self {
-            TransferError::TooLong => f.write_str("TooLong"),
-            TransferError::Malformed => f.write_str("Malformed"),
-            TransferError::Unsupported => f.write_str("Unsupported"),
-            TransferError::MacMissing => f.write_str("MacMissing"),
-            TransferError::MacUnsupported => f.write_str("MacUnsupported"),
-            TransferError::ZeroIterations => f.write_str("ZeroIterations"),
-            TransferError::WorkLimit => f.write_str("WorkLimit"),
-            TransferError::MacMismatch => f.write_str("MacMismatch"),
-            TransferError::ContentMalformed => f.write_str("ContentMalformed"),
-            TransferError::DecryptFailed => f.write_str("DecryptFailed"),
-            TransferError::KeyMalformed => f.write_str("KeyMalformed"),
-            TransferError::Rng => f.write_str("Rng"),
-            TransferError::Memory => f.write_str("out of memory"),
-        }
+        f.write_str(self.text())
     }
 }
 
