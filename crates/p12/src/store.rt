@@ -1,5 +1,5 @@
 //! Making a store of a key and its certificates.
-ghost use Rattle.std.specs.Prelude.{◌≡◌, ◌<◌, ◌≤◌, ◌-◌, ◌^◌, List, ℕ, length, IfErr, IfOk, OnOk};
+ghost use Rattle.std.specs.Prelude.{◌≡◌, ◌<◌, ◌≤◌, ◌-◌, ◌^◌, ◌++◌, ◌∷◌, [], List, ℕ, length, IfErr, IfOk, OnOk};
 ghost use Rattle.asn1_core.specs.Texts.{seen_option};
 ghost use Rattle.p12.specs.Building.{DrawsSalts, IsCiphertext, IsOuterText, IsStoreOf, IsTooLong, IsTooLongStore, RefusesDrawn, RefusesStore, certificate_bag, certificate_bags, entry_of, key_bag, own_attributes, seen_entry, seen_salts};
 ghost use Rattle.p12.specs.Collected.{at_most_one};
@@ -88,6 +88,21 @@ fn certificate_bag(
     })
 }
 
+/// Puts the bag of a certificate behind the others.
+fn add_certificate(
+    alloc: Global,
+    bags: &mut Items<SafeBag>,
+    certificate: &[u8],
+    attributes: Items<PKCS12Attribute>,
+) -> Result<(), Error>
+    ensures ok { OnOk result
+        (bags.new ≡ bags.old ++ certificate_bag attributes certificate.now ∷ []) }
+    ensures err { IfErr result (λ e. e ≡ Error.Memory) }
+{
+    let bag = certificate_bag(alloc, certificate, attributes)?;
+    Ok(bags.push(bag)?)
+}
+
 /// The bags of the certificates, that of the key first.
 fn certificate_bags(alloc: Global, entry: EntryParts<'_>) -> Result<Items<SafeBag>, Error>
     ensures ok { IfOk result (λ bags. bags ≡ certificate_bags (seen_entry entry.entry)) }
@@ -95,9 +110,9 @@ fn certificate_bags(alloc: Global, entry: EntryParts<'_>) -> Result<Items<SafeBa
 {
     let attributes = own_attributes(alloc, entry)?;
     let mut bags = Items::new(alloc);
-    bags.push(certificate_bag(alloc, entry.certificate, attributes)?)?;
+    add_certificate(alloc, &mut bags, entry.certificate, attributes)?;
     for other in entry.others {
-        bags.push(certificate_bag(alloc, other.as_slice(), Items::new(alloc))?)?;
+        add_certificate(alloc, &mut bags, other.as_slice(), Items::new(alloc))?;
     }
     Ok(bags)
 }

@@ -91,3 +91,24 @@ returns-clause-exact g c =
     ((gss : List (List SafeBag)) × (ks : List (List ℕ)) × (n : ℕ) × HasVerdict c.args.store.now c.args.password.now c.args.limit (opened gss ks) n
     × IfSome (g.D.Draw.left c.args.draw.now) (λ d. length d < 32 * length ks))
     (λ e h. absurd h) (λ h. (o.0.bags, texts_of c.in-Ok-open_keys.keys, _, v, rw (same, sym c.as_slice-2.ensures) h.1)) c.in-Err-seal_all.e c.in-Err-seal_all.ensures.cause)
+
+pub returns-in_err-certificates-clause-at_most : goal.returns-in_err-certificates-clause-at_most
+returns-in_err-certificates-clause-at_most g c = c.in-Ok.ensures.at_most
+
+pub returns-in-Err-open_keys-clause-at_most : goal.returns-in-Err-open_keys-clause-at_most
+returns-in-Err-open_keys-clause-at_most g c =
+    let o = c.in-Ok.ensures.opened in
+    let t = c.in-Err-open_keys.ensures.at_most in
+    (omega (arith, o.2, t.0), omega (arith, o.1, o.2, t.1))
+
+pub returns-in-Ok-seal_all-clause-at_most : goal.returns-in-Ok-seal_all-clause-at_most
+returns-in-Ok-seal_all-clause-at_most g c =
+    let o = c.in-Ok.ensures.opened in
+    let t = c.in-Ok-open_keys.ensures.at_most in
+    (omega (arith, o.2, t.0), omega (arith, o.1, o.2, t.1))
+
+pub returns-clause-at_most : goal.returns-clause-at_most
+returns-clause-at_most g c =
+    let o = c.in-Ok.ensures.opened in
+    let t = c.in-Ok-open_keys.ensures.at_most in
+    (omega (arith, o.2, t.0), omega (arith, o.1, o.2, t.1))
