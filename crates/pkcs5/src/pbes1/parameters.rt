@@ -104,6 +104,20 @@ impl TryFrom<AnyRef<'_>> for Parameters {
     }
 }
 
+/// The parameters whose value octets these are.
+fn read_parameters(value: &[u8]) -> Result<Parameters, Error>
+    ensures { Gives (λ v. v) result (pbe_params_of value.now) }
+{
+    let mut inner = SliceReader::new(value);
+    let salt = PbeSalt::decode(&mut inner)?.octets;
+    let iteration_count = u16::decode(&mut inner)?;
+    inner.finish()?;
+    Ok(Parameters {
+        salt,
+        iteration_count,
+    })
+}
+
 impl FixedTag for Parameters {
     ghost TAG = { record { first = 0x30; is_tag = refl } };
 
@@ -122,16 +136,9 @@ impl<'a> DecodeValue<&'a [u8]> for Parameters {
     fn decode_value<R: Reader<&'a [u8]>>(r: &mut R, header: Header) -> Result<Parameters, Error> {
         let mut ahead = *r;
         let value = ahead.read_slice(header.length)?;
-        let mut inner = SliceReader::new(value);
-        let read = PbeSalt::decode(&mut inner)?;
-        let iteration_count = u16::decode(&mut inner)?;
-        inner.finish()?;
+        let parameters = read_parameters(value)?;
         *r = ahead;
-        let salt = read.octets;
-        Ok(Parameters {
-            salt,
-            iteration_count,
-        })
+        Ok(parameters)
     }
 
     ghost exact = { λ t. pbe_params_of-exact };
