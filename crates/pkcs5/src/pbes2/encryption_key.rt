@@ -199,16 +199,17 @@ impl EncryptionKey {
     {
         let key_size = parameters.encryption.key_size();
         expect_length(&parameters.kdf, key_size)?;
-        let mut octets = [0u8; 32];
         match &parameters.kdf {
             Kdf::Pbkdf2(params) => {
-                derive_by_pbkdf2(params, password, &mut octets[..key_size], steps)
+                let mut octets = [0u8; 32];
+                let key = &mut octets[..key_size];
+                derive_by_pbkdf2(params, password, key, steps);
+                Ok(EncryptionKey {
+                    octets: ShortOctets::new(key),
+                })
             }
-            Kdf::Scrypt(_) => return Err(Error::UnsupportedAlgorithm { oid: SCRYPT_OID }),
+            Kdf::Scrypt(_) => Err(Error::UnsupportedAlgorithm { oid: SCRYPT_OID }),
         }
-        Ok(EncryptionKey {
-            octets: ShortOctets::new(&octets[..key_size]),
-        })
     }
 
     /// The octets of the key.
