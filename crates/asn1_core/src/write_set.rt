@@ -12,15 +12,24 @@ use crate::writer::Writer;
 use octet_core::{Items, Octets};
 use std::alloc::Global;
 
-/// The octets of the elements, in ascending order.
-fn ascending(alloc: Global, elements: &Items<Octets>) -> Result<Vec<&[u8]>, Error>
-    ensures ok { IfOk result (λ texts. map (λ t. t.now) texts.items ≡ in_order elements.now) }
+/// The octets of the elements, in the order given.
+fn given_texts(alloc: Global, elements: &Items<Octets>) -> Result<Vec<&[u8]>, Error>
+    ensures ok { IfOk result (λ texts. map (λ t. t.now) texts.items ≡ elements.now) }
     ensures err { IfErr result (λ e. e ≡ Error.Memory) }
 {
     let mut texts = Vec::new(alloc);
     for element in elements.as_slice() {
         texts.push(element.as_slice())?;
     }
+    Ok(texts)
+}
+
+/// The octets of the elements, in ascending order.
+fn ascending(alloc: Global, elements: &Items<Octets>) -> Result<Vec<&[u8]>, Error>
+    ensures ok { IfOk result (λ texts. map (λ t. t.now) texts.items ≡ in_order elements.now) }
+    ensures err { IfErr result (λ e. e ≡ Error.Memory) }
+{
+    let mut texts = given_texts(alloc, elements)?;
     texts.sort_unstable();
     Ok(texts)
 }

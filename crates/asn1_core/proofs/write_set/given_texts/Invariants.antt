@@ -1,5 +1,5 @@
 use Rattle.std.proofs.Common.{◌≡◌, take, map}
-use Rattle.asn1_core.proofs.write_set.ascending.Given as goal
+use Rattle.asn1_core.proofs.write_set.given_texts.Given as goal
 
 abbrev pub invariant-loop-element : goal.invariant-loop-element
 invariant-loop-element l = map (λ t. t.now) l.texts.items ≡ take l.element-index l.elements
