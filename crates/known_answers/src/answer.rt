@@ -4,6 +4,7 @@ ghost use Rattle.phc_core.specs.PasswordHash.{Phc};
 ghost use Rattle.phc_core.specs.declared.password_hash.PasswordHash.{PasswordHash};
 ghost use Rattle.pbkdf2.specs.Hashes.{Agrees};
 ghost use Rattle.mac_modes.specs.Hmac.{hmac};
+ghost use Rattle.p12.specs.Canonical.{store_canon};
 ghost use Rattle.known_answers.specs.Known.{word, Costs, IsAnswer, IsDerived, IsFingerprint, IsGcmOpened, IsGcmSealed, IsMade, IsOpened, IsRewritten};
 ghost use Rattle.known_answers.specs.declared.call.Call.TheVariants.{Pkcs12Key, Pkcs12Store, Pkcs12Written, Scrypt, PhcVerify, PhcString, Pkcs5Decrypt, Pkcs5Encrypt, Pkcs5Scheme, SpkiFingerprint, Identifier};
 
@@ -247,6 +248,16 @@ fn verified(alloc: Global, words: &[Octets]) -> Result<Octets, Refused>
     }
 }
 
+/// The text that is written of a store.
+fn text_of(alloc: Global, store: &PFX) -> Result<Octets, Refused>
+    ensures { IfOk result (λ o. o ≡ store_canon store.now) }
+{
+    match store.to_der(alloc) {
+        Ok(text) => Ok(text),
+        Err(e) => Err(Refused::Pkcs12(e)),
+    }
+}
+
 /// What a store is made of.
 #[derive(Clone, Copy)]
 struct Entry<'a> {
@@ -263,7 +274,7 @@ fn made(alloc: Global, entry: Entry<'_>, password: &str, drawn: Octets) -> Resul
         password.now entry.entry.name.now drawn entry.entry.others.now) }
 {
     let mut draw = DrawnBytes::new(drawn);
-    let store = PFX::new_with_cas(
+    match PFX::new_with_cas(
         alloc,
         entry.certificate,
         entry.key,
@@ -271,8 +282,10 @@ fn made(alloc: Global, entry: Entry<'_>, password: &str, drawn: Octets) -> Resul
         password,
         entry.name,
         &mut draw,
-    )?;
-    Ok(store.to_der(alloc)?)
+    ) {
+        Ok(store) => text_of(alloc, &store),
+        Err(e) => Err(Refused::Pkcs12(e)),
+    }
 }
 
 /// The text of a store that is made: certificate, key, password, name, the octets that are drawn for its salts, and further
@@ -306,7 +319,10 @@ fn store_written(alloc: Global, words: &[Octets]) -> Result<Octets, Refused>
     if words.len() != 1 {
         return Err(Refused::Words);
     }
-    Ok(PFX::parse(alloc, words[0].as_slice())?.to_der(alloc)?)
+    match PFX::parse(alloc, words[0].as_slice()) {
+        Ok(store) => text_of(alloc, &store),
+        Err(e) => Err(Refused::Pkcs12(e)),
+    }
 }
 
 /// The text of a ciphertext under a password: scheme, password, ciphertext.

@@ -4,7 +4,7 @@ use scrypt_core::{InvalidParams, ScryptError};
 use std::alloc::{AllocError, Global};
 
 /// Why a case has no octets for an answer.
-#[derive(Debug, Drop)]
+#[derive(Drop)]
 pub enum Refused {
     /// The call takes another number of words, or words of other lengths.
     Words,
@@ -50,24 +50,6 @@ impl From<InvalidParams> for Refused {
 impl From<ScryptError> for Refused {
     fn from(e: ScryptError) -> Refused {
         Refused::Scrypt(e)
-    }
-}
-
-impl From<phc_core::Error> for Refused {
-    fn from(e: phc_core::Error) -> Refused {
-        Refused::Phc(e)
-    }
-}
-
-impl From<pkcs5::Error> for Refused {
-    fn from(e: pkcs5::Error) -> Refused {
-        Refused::Pkcs5(e)
-    }
-}
-
-impl From<p12::Error> for Refused {
-    fn from(e: p12::Error) -> Refused {
-        Refused::Pkcs12(e)
     }
 }
 

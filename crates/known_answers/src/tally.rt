@@ -8,7 +8,7 @@ use std::io;
 use std::io::Write;
 
 /// How many cases held, and how many did not.
-#[derive(Clone, Copy, Debug, PartialEq, Eq)]
+#[derive(Clone, Copy)]
 pub struct Counts {
     pub passed: usize,
     pub failed: usize,

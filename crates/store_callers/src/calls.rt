@@ -1,78 +1,53 @@
-//! Calls of `p12` that answer plain values. The prover keeps what a call promises, and each value that is to be dropped, until the
-//! end of the function that makes it, so a test is proved much sooner through these.
+//! Answers of `p12` compared with what is wanted. An answer is handed over as it comes, and taken apart here: the prover follows
+//! each value that may have to be dropped to the end of the function that takes it apart, so one such place for each kind of
+//! answer is proved much sooner than one in each test.
 ghost use Rattle.std.specs.Prelude.{◌≡◌, ◌<◌, ◌^◌, length, true, IfOk};
 ghost use Rattle.p12.specs.AlgorithmIdentifier.{salt_of};
 ghost use Rattle.p12.specs.Pfx.{OpeningFits};
 
-use asn1_core::{Items, Octets, SliceReader};
+use asn1_core::{Items, Octets, SliceReader, Text};
 use p12::{AlgorithmIdentifier, EncryptedPrivateKeyInfo, Error, PFX};
 use std::alloc::Global;
 
-/// Reads a store.
-pub fn store(alloc: Global, text: &[u8]) -> Result<PFX, Error>
-    ensures { IfOk result OpeningFits }
-{
-    PFX::parse(alloc, text)
-}
-
-/// How many bags a store has.
-pub fn bag_count(alloc: Global, store: &PFX, password: &str) -> Result<usize, Error>
-    requires fits { OpeningFits store.now }
-    requires password { length password.now < 2 ^ 57 }
-{
-    Ok(store.bags(alloc, password)?.len())
-}
-
-/// How many certificate bags a store has.
-pub fn certificate_count(alloc: Global, store: &PFX, password: &str) -> Result<usize, Error>
-    requires fits { OpeningFits store.now }
-    requires password { length password.now < 2 ^ 57 }
-{
-    Ok(store.cert_bags(alloc, password)?.len())
-}
-
-/// How many SDSI certificates a store has.
-pub fn sdsi_count(alloc: Global, store: &PFX, password: &str) -> Result<usize, Error>
-    requires fits { OpeningFits store.now }
-    requires password { length password.now < 2 ^ 57 }
-{
-    Ok(store.cert_sdsi_bags(alloc, password)?.len())
-}
-
-/// Whether the first SDSI certificate is this text.
-pub fn is_first_sdsi(alloc: Global, store: &PFX, password: &str, text: &str) -> Result<bool, Error>
-    requires fits { OpeningFits store.now }
-    requires password { length password.now < 2 ^ 57 }
-{
-    match store.cert_sdsi_bags(alloc, password)?.get(0) {
-        Some(found) => Ok(found.as_str() == text),
-        None => Ok(false),
+/// Whether the answer is these octets.
+pub fn gives(answer: Result<Octets, Error>, wanted: &[u8]) -> bool {
+    match answer {
+        Ok(octets) => octets.as_slice() == wanted,
+        Err(_) => false,
     }
 }
 
-/// Whether the X.509 certificates of a store are these, in order.
-pub fn are_certificates(
-    alloc: Global,
-    store: &PFX,
-    password: &str,
-    wanted: &[&[u8]],
-) -> Result<bool, Error>
-    requires fits { OpeningFits store.now }
-    requires password { length password.now < 2 ^ 57 }
-{
-    Ok(are_octets(store.cert_x509_bags(alloc, password)?.as_slice(), wanted))
+/// Whether something was opened, and is these octets.
+pub fn opens_to(answer: Result<Option<Octets>, Error>, wanted: &[u8]) -> bool {
+    match answer {
+        Ok(Some(octets)) => octets.as_slice() == wanted,
+        _ => false,
+    }
 }
 
-/// Whether the private keys of a store that open are these, in order.
-pub fn are_keys(alloc: Global, store: &PFX, password: &str, wanted: &[&[u8]]) -> Result<bool, Error>
-    requires fits { OpeningFits store.now }
-    requires password { length password.now < 2 ^ 57 }
-{
-    Ok(are_octets(store.key_bags(alloc, password)?.as_slice(), wanted))
+/// Whether the answer is that nothing can be opened.
+pub fn stays_closed(answer: Result<Option<Octets>, Error>) -> bool {
+    matches!(answer, Ok(None))
 }
 
-/// Whether these are the octets, in order.
-fn are_octets(found: &[Octets], wanted: &[&[u8]]) -> bool {
+/// Whether there is a text, and it is this one.
+pub fn is_text(answer: Result<Option<Text>, Error>, wanted: &str) -> bool {
+    match answer {
+        Ok(Some(text)) => text.as_str() == wanted,
+        _ => false,
+    }
+}
+
+/// Whether the answer is these octets, in order.
+fn are_octets(answer: Result<Items<Octets>, Error>, wanted: &[&[u8]]) -> bool {
+    match answer {
+        Ok(found) => are_equal(found.as_slice(), wanted),
+        Err(_) => false,
+    }
+}
+
+/// Whether both are the same octets, in order.
+fn are_equal(found: &[Octets], wanted: &[&[u8]]) -> bool {
     if found.len() != wanted.len() {
         return false;
     }
@@ -84,12 +59,74 @@ fn are_octets(found: &[Octets], wanted: &[&[u8]]) -> bool {
     true
 }
 
-/// Whether the MAC of a store agrees.
-pub fn agrees(alloc: Global, store: &PFX, password: &str) -> Result<bool, Error>
+/// Whether the answer is one text, this one, or no text where none is wanted.
+fn is_sdsi(answer: Result<Items<Text>, Error>, wanted: Option<&str>) -> bool {
+    let Ok(texts) = answer else {
+        return false;
+    };
+    match (texts.as_slice(), wanted) {
+        ([text], Some(wanted)) => text.as_str() == wanted,
+        ([], None) => true,
+        _ => false,
+    }
+}
+
+/// What stands in a store: its X.509 certificates, its SDSI certificate, if any, and its private keys, in order; and whether it
+/// has a MAC.
+#[derive(Clone, Copy)]
+pub struct Held<'a> {
+    pub has_mac: bool,
+    pub certificates: &'a [&'a [u8]],
+    pub sdsi: Option<&'a str>,
+    pub keys: &'a [&'a [u8]],
+}
+
+/// Whether this stands in a store, by each of the calls that collect its certificates and keys.
+fn holds(alloc: Global, store: &PFX, password: &str, held: &Held<'_>) -> bool
     requires fits { OpeningFits store.now }
     requires password { length password.now < 2 ^ 57 }
 {
-    store.verify_mac(alloc, password)
+    are_octets(store.cert_x509_bags(alloc, password), held.certificates)
+        && are_octets(store.cert_bags(alloc, password), held.certificates)
+        && is_sdsi(store.cert_sdsi_bags(alloc, password), held.sdsi)
+        && are_octets(store.key_bags(alloc, password), held.keys)
+}
+
+/// Whether this stands in a store under a password, and its MAC agrees; and under the other password only where it has none.
+pub fn is_filled(
+    alloc: Global,
+    answer: Result<PFX, Error>,
+    password: &str,
+    other: &str,
+    held: &Held<'_>,
+) -> bool
+    requires fits { IfOk answer OpeningFits }
+    requires password { length password.now < 2 ^ 57 }
+    requires other { length other.now < 2 ^ 57 }
+{
+    match answer {
+        Ok(store) => {
+            holds(alloc, &store, password, held)
+                && agrees(alloc, &store, password, true)
+                && agrees(alloc, &store, other, !held.has_mac)
+        }
+        Err(_) => false,
+    }
+}
+
+/// Whether a store answers this, when it is asked whether its MAC agrees.
+fn agrees(alloc: Global, store: &PFX, password: &str, wanted: bool) -> bool
+    requires fits { OpeningFits store.now }
+    requires password { length password.now < 2 ^ 57 }
+{
+    store.verify_mac(alloc, password) == Ok(wanted)
+}
+
+/// Reads a store.
+pub fn store(alloc: Global, text: &[u8]) -> Result<PFX, Error>
+    ensures { IfOk result OpeningFits }
+{
+    PFX::parse(alloc, text)
 }
 
 /// Reads an EncryptedPrivateKeyInfo.
@@ -134,15 +171,6 @@ pub fn is_triple_des(algorithm: &AlgorithmIdentifier, rounds: u64) -> bool
         AlgorithmIdentifier::PbeWithSHAAnd3KeyTripleDESCBC(params) => {
             params.salt.len() == 8 && params.iterations == rounds
         }
-        _ => false,
-    }
-}
-
-/// Whether what was opened is this, if anything.
-pub fn is(opened: &Option<Octets>, wanted: Option<&[u8]>) -> bool {
-    match (opened, wanted) {
-        (Some(opened), Some(wanted)) => opened.as_slice() == wanted,
-        (None, None) => true,
         _ => false,
     }
 }

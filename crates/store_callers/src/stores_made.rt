@@ -3,11 +3,11 @@ ghost use Rattle.std.specs.Prelude.{◌<◌, ◌^◌, length, IfOk};
 ghost use Rattle.p12.specs.Pfx.{OpeningFits};
 
 use crate::calls;
+use crate::calls::Held;
 use asn1_core::{Items, Octets};
 use mac_modes::{Draw, DrawnBytes};
 use p12::{EncryptedContentInfo, EncryptedData, Error, MacData, PFX};
-use std::alloc::Global;
-use std::test::Fail;
+use std::alloc::{AllocError, Global};
 
 /// The octets 00 to 17.
 const SALTS: &[u8] = &[
@@ -40,67 +40,94 @@ const NOTHING_SEALED: &[u8] = b"\x7d\x4a\x15\x45\xd3\x30\x74\xc3";
 
 const NOTHING_SEALED_AGAIN: &[u8] = b"\x84\x58\xde\x90\x99\xe4\xbe\x52";
 
-fn drawn(alloc: Global) -> Result<DrawnBytes, Error> {
-    Ok(DrawnBytes::new(Octets::from_slice(alloc, SALTS)?))
+/// A draw of these octets.
+fn drawn(alloc: Global, octets: &[u8]) -> Result<DrawnBytes, AllocError> {
+    Ok(DrawnBytes::new(Octets::from_slice(alloc, octets)?))
 }
 
-/// Whether the MAC of the empty list under the next octets of the draw is that of the first salt.
-fn is_mac_made(alloc: Global, draw: &mut DrawnBytes) -> bool {
-    match MacData::new(alloc, &[0x30, 0], &[0, 0], draw) {
+/// Whether the answer is the MAC of the empty list under the first salt.
+fn is_mac_of_nothing(answer: Result<MacData, Error>) -> bool {
+    match answer {
         Ok(mac) => mac.mac.digest.as_slice() == MAC_OF_NOTHING && mac.iterations == 2_048,
         Err(_) => false,
     }
 }
 
-#[test]
-fn a_mac_is_made_under_a_drawn_salt(rt: HostRuntime) -> Result<(), Fail> {
-    let alloc = rt.alloc();
-    let mut draw = drawn(alloc)?;
-    assert!(rt; is_mac_made(alloc, &mut draw));
+/// Whether this is the next octet of a draw.
+fn is_next(draw: &mut DrawnBytes, octet: u8) -> bool {
     let mut next = [0; 1];
-    assert!(rt; draw.fill(&mut next).is_ok() && next[0] == 8);
-    Ok(())
+    draw.fill(&mut next).is_ok() && next[0] == octet
 }
 
-/// A draw of the octets from the second salt on.
-fn drawn_from_second(alloc: Global) -> Result<DrawnBytes, Error> {
-    Ok(DrawnBytes::new(Octets::from_slice(alloc, &SALTS[8..])?))
-}
-
-/// Whether this is the ciphertext of the empty list in an EncryptedData.
-fn is_sealed(alloc: Global, draw: &mut DrawnBytes, ciphertext: &[u8]) -> bool {
-    match EncryptedData::from_safe_bags(alloc, &[], &[0, 0], draw) {
-        Ok(sealed) => { sealed.encrypted_content_info.encrypted_content.as_slice() == ciphertext }
+/// Whether the MAC of the empty list is made, and takes 8 octets of the draw for its salt.
+fn is_mac_made(alloc: Global) -> bool {
+    match drawn(alloc, SALTS) {
+        Ok(mut draw) => {
+            is_mac_of_nothing(MacData::new(alloc, &[0x30, 0], &[0, 0], &mut draw))
+                && is_next(&mut draw, 8)
+        }
         Err(_) => false,
     }
 }
 
-/// The same in an EncryptedContentInfo.
-fn is_sealed_inside(alloc: Global, draw: &mut DrawnBytes, ciphertext: &[u8]) -> bool {
-    match EncryptedContentInfo::from_safe_bags(alloc, &[], &[0, 0], draw) {
+#[test]
+fn a_mac_is_made_under_a_drawn_salt(rt: HostRuntime) {
+    assert!(rt; is_mac_made(rt.alloc()));
+}
+
+/// Whether the answer has this ciphertext.
+fn is_sealed(answer: Result<EncryptedData, Error>, ciphertext: &[u8]) -> bool {
+    match answer {
+        Ok(sealed) => sealed.encrypted_content_info.encrypted_content.as_slice() == ciphertext,
+        Err(_) => false,
+    }
+}
+
+/// The same of an EncryptedContentInfo.
+fn is_sealed_inside(answer: Result<EncryptedContentInfo, Error>, ciphertext: &[u8]) -> bool {
+    match answer {
         Ok(sealed) => sealed.encrypted_content.as_slice() == ciphertext,
         Err(_) => false,
     }
 }
 
-#[test]
-fn contents_are_made_under_drawn_salts(rt: HostRuntime) -> Result<(), Fail> {
-    let alloc = rt.alloc();
-    let mut draw = drawn_from_second(alloc)?;
-    assert!(rt; is_sealed(alloc, &mut draw, NOTHING_SEALED));
-    assert!(rt; is_sealed_inside(alloc, &mut draw, NOTHING_SEALED_AGAIN));
-    Ok(())
+/// Whether the empty list is sealed under the second salt, and then under the third.
+fn is_nothing_sealed_twice(alloc: Global) -> bool {
+    match drawn(alloc, &SALTS[8..]) {
+        Ok(mut draw) => {
+            is_sealed(
+                EncryptedData::from_safe_bags(alloc, &[], &[0, 0], &mut draw),
+                NOTHING_SEALED,
+            ) && is_sealed_inside(
+                EncryptedContentInfo::from_safe_bags(alloc, &[], &[0, 0], &mut draw),
+                NOTHING_SEALED_AGAIN,
+            )
+        }
+        Err(_) => false,
+    }
 }
 
 #[test]
-fn no_mac_is_made_where_seven_octets_are_left(rt: HostRuntime) -> Result<(), Fail> {
-    let alloc = rt.alloc();
-    let mut draw = DrawnBytes::new(Octets::from_slice(alloc, &SALTS[..7])?);
-    match MacData::new(alloc, &[0x30, 0], &[0, 0], &mut draw) {
-        Ok(_) => assert!(rt; false),
-        Err(refusal) => assert!(rt; refusal == Error::Rng),
+fn contents_are_made_under_drawn_salts(rt: HostRuntime) {
+    assert!(rt; is_nothing_sealed_twice(rt.alloc()));
+}
+
+/// Whether the answer is that the draw failed.
+fn is_draw_failed(answer: Result<MacData, Error>) -> bool {
+    matches!(answer, Err(Error::Rng))
+}
+
+/// Whether no MAC is made of seven octets.
+fn is_short_draw_refused(alloc: Global) -> bool {
+    match drawn(alloc, &SALTS[..7]) {
+        Ok(mut draw) => is_draw_failed(MacData::new(alloc, &[0x30, 0], &[0, 0], &mut draw)),
+        Err(_) => false,
     }
-    Ok(())
+}
+
+#[test]
+fn no_mac_is_made_where_seven_octets_are_left(rt: HostRuntime) {
+    assert!(rt; is_short_draw_refused(rt.alloc()));
 }
 
 /// A store of the certificate, a key and the authority's certificate.
@@ -109,7 +136,7 @@ fn made(alloc: Global, key: &[u8], password: &str) -> Result<PFX, Error>
     ensures { IfOk result OpeningFits }
 {
     let authority = Some(AUTHORITY);
-    let mut draw = drawn(alloc)?;
+    let mut draw = drawn(alloc, SALTS)?;
     PFX::new(
         alloc,
         CERTIFICATE,
@@ -121,60 +148,58 @@ fn made(alloc: Global, key: &[u8], password: &str) -> Result<PFX, Error>
     )
 }
 
+/// The certificates of both authorities.
+fn authorities(alloc: Global) -> Result<Items<Octets>, AllocError> {
+    let mut others = Items::new(alloc);
+    others.push(Octets::from_slice(alloc, AUTHORITY)?)?;
+    others.push(Octets::from_slice(alloc, OTHER_AUTHORITY)?)?;
+    Ok(others)
+}
+
 /// A store of three certificates and a key under the password `p`.
 fn made_of_three(alloc: Global) -> Result<PFX, Error>
     ensures { IfOk result OpeningFits }
 {
-    let mut draw = drawn(alloc)?;
-    let mut others = Items::new(alloc);
-    others.push(Octets::from_slice(alloc, AUTHORITY)?)?;
-    others.push(Octets::from_slice(alloc, OTHER_AUTHORITY)?)?;
+    let mut draw = drawn(alloc, SALTS)?;
+    let others = authorities(alloc)?;
     let others = others.as_slice();
     PFX::new_with_cas(alloc, CERTIFICATE, KEY, others, "p", "look", &mut draw)
 }
 
-/// Whether a store gives these certificates and this key under its password, and its MAC agrees.
-fn gives(alloc: Global, store: &PFX, password: &str, certificates: &[&[u8]], key: &[u8]) -> bool
-    requires fits { OpeningFits store.now }
-    requires password { length password.now < 2 ^ 57 }
-{
-    calls::are_certificates(alloc, store, password, certificates) == Ok(true)
-        && calls::are_keys(alloc, store, password, &[key]) == Ok(true)
-        && calls::agrees(alloc, store, password) == Ok(true)
-}
+/// What stands in the stores of two certificates: a key, or an empty one; and in the store of three.
+static TWO: Held<'static> = Held {
+    has_mac: true,
+    certificates: &[CERTIFICATE, AUTHORITY],
+    sdsi: None,
+    keys: &[KEY],
+};
 
-/// Whether a store of two certificates gives what it was made of, and its MAC agrees under no other password.
-fn gives_two_certificates(alloc: Global, key: &[u8], password: &str, other: &str) -> bool
-    requires password { length password.now < 2 ^ 57 }
-    requires other { length other.now < 2 ^ 57 }
-{
-    match made(alloc, key, password) {
-        Ok(store) => {
-            gives(alloc, &store, password, &[CERTIFICATE, AUTHORITY], key)
-                && calls::agrees(alloc, &store, other) == Ok(false)
-        }
-        Err(_) => false,
-    }
-}
+static TWO_AND_EMPTY_KEY: Held<'static> = Held {
+    has_mac: true,
+    certificates: &[CERTIFICATE, AUTHORITY],
+    sdsi: None,
+    keys: &[&[]],
+};
+
+static THREE: Held<'static> = Held {
+    has_mac: true,
+    certificates: &[CERTIFICATE, AUTHORITY, OTHER_AUTHORITY],
+    sdsi: None,
+    keys: &[KEY],
+};
 
 #[test]
 fn a_store_gives_what_it_was_made_of(rt: HostRuntime) {
     let alloc = rt.alloc();
-    assert!(rt; gives_two_certificates(alloc, KEY, "changeit", "changed"));
+    let store = made(alloc, KEY, "changeit");
+    assert!(rt; calls::is_filled(alloc, store, "changeit", "changed", &TWO));
     // an empty key under an empty password
-    assert!(rt; gives_two_certificates(alloc, &[], "", "changeit"));
-}
-
-/// Whether a store of three certificates gives them in order, and its key.
-fn gives_three_certificates(alloc: Global) -> bool {
-    let certificates = [CERTIFICATE, AUTHORITY, OTHER_AUTHORITY];
-    match made_of_three(alloc) {
-        Ok(store) => gives(alloc, &store, "p", &certificates, KEY),
-        Err(_) => false,
-    }
+    let store = made(alloc, &[], "");
+    assert!(rt; calls::is_filled(alloc, store, "", "changeit", &TWO_AND_EMPTY_KEY));
 }
 
 #[test]
 fn a_store_gives_further_certificates_in_order(rt: HostRuntime) {
-    assert!(rt; gives_three_certificates(rt.alloc()));
+    let alloc = rt.alloc();
+    assert!(rt; calls::is_filled(alloc, made_of_three(alloc), "p", "q", &THREE));
 }

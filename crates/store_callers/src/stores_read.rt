@@ -3,10 +3,10 @@
 
 ghost use Rattle.std.specs.Prelude.{◌≡◌, ◌<◌, ◌^◌, length, true};
 ghost use Rattle.p12.specs.AlgorithmIdentifier.{salt_of};
-ghost use Rattle.p12.specs.Pfx.{OpeningFits};
 
 use crate::calls;
-use asn1_core::{ObjectIdentifier, Octets, Reader, SliceReader};
+use crate::calls::Held;
+use asn1_core::{Items, ObjectIdentifier, Reader, SliceReader, Text};
 use mac_modes::Sha256;
 use p12::{
     AlgorithmIdentifier, BagView, BagsView, CertBag, ContentInfo, ContentView, ContentsView,
@@ -15,7 +15,6 @@ use p12::{
 };
 use pkcs5::pbes2::EncryptionScheme;
 use std::alloc::Global;
-use std::test::Fail;
 
 /// A store of one X.509 certificate `3000` in a plain content, under the password `p`, one round and the salt 01 to 08.
 const STORE: &[u8] =
@@ -81,36 +80,27 @@ pub const PASSWORD: [u8; 4] = [0, 0x70, 0, 0];
 pub const SALT: [u8; 8] = [1, 2, 3, 4, 5, 6, 7, 8];
 
 #[test]
-fn a_password_is_utf16_and_two_zeros(rt: HostRuntime) -> Result<(), Fail> {
-    let password = bmp_string(rt.alloc(), "\u{1d11e}b")?;
-    assert!(rt; password.as_slice() == b"\xd8\x34\xdd\x1e\x00\x62\x00\x00".as_slice());
-    Ok(())
+fn a_password_is_utf16_and_two_zeros(rt: HostRuntime) {
+    let wanted = b"\xd8\x34\xdd\x1e\x00\x62\x00\x00";
+    assert!(rt; calls::gives(bmp_string(rt.alloc(), "\u{1d11e}b"), wanted));
 }
 
+/// 25 octets for a key under SHA-1 and the empty password, and 32 for the key of a MAC under SHA-256 and `p`.
+const SHA1_KEY: &[u8] =
+    b"\xd7\xfd\x31\x6b\x90\x8c\xe1\xea\x92\x22\x1a\x54\x10\x37\x41\xe0\xd8\xaa\x82\xc6\
+    \x75\x50\xc5\xba\x3b";
+
+const SHA256_KEY: &[u8] =
+    b"\xd0\x4c\x49\x26\x50\xaa\x7f\x7b\xae\xf9\xa5\xd0\x4b\xa4\x61\x32\x71\x47\x09\x38\
+    \x27\xb5\xf7\xc9\x2f\x70\xf7\xae\x62\x99\xe8\xf4";
+
 #[test]
-fn keys_are_derived(rt: HostRuntime) -> Result<(), Fail> {
-    let key = pbepkcs12sha1(
-        rt.alloc(),
-        &[0, 0],
-        b"\x9a\xf4\x70\x29\x58\xa8\xe9\x5c",
-        3,
-        1,
-        25,
-    )?;
-    assert!(rt;
-        key.as_slice()
-            == b"\xd7\xfd\x31\x6b\x90\x8c\xe1\xea\x92\x22\x1a\x54\x10\x37\x41\xe0\xd8\xaa\x82\xc6\
-    \x75\x50\xc5\xba\x3b"
-                .as_slice()
-    );
-    let key = pbepkcs12::<Sha256>(rt.alloc(), &PASSWORD, &SALT, 3, 3, 32)?;
-    assert!(rt;
-        key.as_slice()
-            == b"\xd0\x4c\x49\x26\x50\xaa\x7f\x7b\xae\xf9\xa5\xd0\x4b\xa4\x61\x32\x71\x47\x09\x38\
-    \x27\xb5\xf7\xc9\x2f\x70\xf7\xae\x62\x99\xe8\xf4"
-                .as_slice()
-    );
-    Ok(())
+fn keys_are_derived(rt: HostRuntime) {
+    let alloc = rt.alloc();
+    let salt = b"\x9a\xf4\x70\x29\x58\xa8\xe9\x5c";
+    assert!(rt; calls::gives(pbepkcs12sha1(alloc, &[0, 0], salt, 3, 1, 25), SHA1_KEY));
+    let key = pbepkcs12::<Sha256>(alloc, &PASSWORD, &SALT, 3, 3, 32);
+    assert!(rt; calls::gives(key, SHA256_KEY));
 }
 
 /// The MAC of the empty list under SHA-1 and the empty password.
@@ -118,7 +108,7 @@ pub fn sha1_mac(alloc: Global) -> Result<MacData, Error> {
     MacData::with_salt(alloc, &[0x30, 0], &[0, 0], &SALT, 1)
 }
 
-/// The MAC of `abc` under SHA-256 and `p`.
+/// The MAC of `abc` under SHA-256 and `p`, in a copy.
 fn sha256_mac(alloc: Global) -> Result<MacData, Error> {
     MacData::with_salt_sha256(alloc, b"abc", &PASSWORD, &SALT, 3)?.try_clone(alloc)
 }
@@ -145,12 +135,12 @@ fn is_sha1_mac(alloc: Global, mac: &MacData) -> bool {
         && agrees(alloc, mac, &[0x30, 0], &PASSWORD) == Ok(false)
 }
 
-#[test]
-fn a_mac_under_sha1_is_made(rt: HostRuntime) -> Result<(), Fail> {
-    let alloc = rt.alloc();
-    let mac = sha1_mac(alloc)?;
-    assert!(rt; is_sha1_mac(alloc, &mac));
-    Ok(())
+/// Whether such a MAC is made.
+fn is_sha1_mac_made(alloc: Global) -> bool {
+    match sha1_mac(alloc) {
+        Ok(mac) => is_sha1_mac(alloc, &mac),
+        Err(_) => false,
+    }
 }
 
 /// The digest of the MAC under SHA-256.
@@ -163,17 +153,19 @@ fn is_sha256_mac(alloc: Global, mac: &MacData) -> bool {
     mac.mac.digest.as_slice() == SHA256_DIGEST && agrees(alloc, mac, b"abc", &PASSWORD) == Ok(true)
 }
 
-#[test]
-fn a_mac_under_sha256_is_made(rt: HostRuntime) -> Result<(), Fail> {
-    let alloc = rt.alloc();
-    let mac = sha256_mac(alloc)?;
-    assert!(rt; is_sha256_mac(alloc, &mac));
-    Ok(())
+/// Whether such a MAC is made.
+fn is_sha256_mac_made(alloc: Global) -> bool {
+    match sha256_mac(alloc) {
+        Ok(mac) => is_sha256_mac(alloc, &mac),
+        Err(_) => false,
+    }
 }
 
-/// A copy of a store that is read.
-fn copied_store(alloc: Global, text: &[u8]) -> Result<PFX, Error> {
-    calls::store(alloc, text)?.try_clone(alloc)
+#[test]
+fn macs_are_made(rt: HostRuntime) {
+    let alloc = rt.alloc();
+    assert!(rt; is_sha1_mac_made(alloc));
+    assert!(rt; is_sha256_mac_made(alloc));
 }
 
 /// Whether a store has version 3, a MAC, and `CONTENTS` as its plain content.
@@ -186,110 +178,117 @@ fn is_plain_store(store: &PFX) -> bool {
     }
 }
 
+/// Whether the copy of a store is that.
+fn is_copy_plain(copy: Result<PFX, Error>) -> bool {
+    match copy {
+        Ok(store) => is_plain_store(&store),
+        Err(_) => false,
+    }
+}
+
+/// Whether `STORE` is read as that, and copied.
+fn is_plain_store_copied(alloc: Global) -> bool {
+    match calls::store(alloc, STORE) {
+        Ok(store) => is_copy_plain(store.try_clone(alloc)),
+        Err(_) => false,
+    }
+}
+
 #[test]
-fn a_plain_store_is_read(rt: HostRuntime) -> Result<(), Fail> {
-    let alloc = rt.alloc();
-    let store = copied_store(alloc, STORE)?;
-    assert!(rt; is_plain_store(&store));
-    Ok(())
+fn a_plain_store_is_read(rt: HostRuntime) {
+    assert!(rt; is_plain_store_copied(rt.alloc()));
 }
 
 /// Whether the first of these contents is plain and holds `BAGS`.
-fn is_list_of_contents_read(alloc: Global) -> Result<bool, Error> {
-    match ContentInfo::parse_all(alloc, CONTENTS)?.get(0) {
-        Some(ContentInfo::Data(inner)) => Ok(inner.as_slice() == BAGS),
-        _ => Ok(false),
+fn has_plain_content(answer: Result<Items<ContentInfo>, Error>) -> bool {
+    match answer {
+        Ok(contents) => match contents.get(0) {
+            Some(ContentInfo::Data(inner)) => inner.as_slice() == BAGS,
+            _ => false,
+        },
+        Err(_) => false,
     }
 }
 
 /// Whether the first of these bags has the certificate `3000`.
-fn is_list_of_bags_read(alloc: Global) -> Result<bool, Error> {
-    match SafeBag::parse_all(alloc, BAGS)?.get(0) {
-        Some(bag) => Ok(calls::is(&bag.bag.get_x509_cert(alloc)?, Some(&[0x30, 0]))),
-        None => Ok(false),
+fn has_certificate(alloc: Global, answer: Result<Items<SafeBag>, Error>) -> bool {
+    match answer {
+        Ok(bags) => match bags.get(0) {
+            Some(bag) => calls::opens_to(bag.bag.get_x509_cert(alloc), &[0x30, 0]),
+            None => false,
+        },
+        Err(_) => false,
     }
 }
 
 #[test]
 fn lists_of_contents_and_of_bags_are_read(rt: HostRuntime) {
     let alloc = rt.alloc();
-    assert!(rt; is_list_of_contents_read(alloc) == Ok(true));
-    assert!(rt; is_list_of_bags_read(alloc) == Ok(true));
+    assert!(rt; has_plain_content(ContentInfo::parse_all(alloc, CONTENTS)));
+    assert!(rt; has_certificate(alloc, SafeBag::parse_all(alloc, BAGS)));
 }
 
 /// The content of `SEALED_STORE`.
 pub fn sealed_content(alloc: Global) -> Result<ContentInfo, Error> {
-    let Some(text) = SEALED_STORE.get(25..) else {
-        return Err(Error::Malformed);
-    };
-    Ok(ContentInfo::parse(alloc, &mut SliceReader::new(text))?)
+    ContentInfo::parse(alloc, &mut SliceReader::new(&SEALED_STORE[25..]))
 }
 
-/// Whether the sealed content opens to this, if anything, under a password in UTF-16.
-fn opens_to(alloc: Global, content: &ContentInfo, password: &[u8], wanted: Option<&[u8]>) -> bool
-    requires { length password.now < 2 ^ 59 }
-{
+/// Whether a content has 40 octets under Triple DES in two rounds, which open to `BAGS` under the password in UTF-16, and to
+/// nothing under the empty one.
+fn is_sealed(alloc: Global, content: &ContentInfo) -> bool {
     let ContentInfo::EncryptedData(encrypted) = content else {
         return false;
     };
     let info = &encrypted.encrypted_content_info;
-    if info.encrypted_content.len() != 40
-        || !calls::is_triple_des(&info.content_encryption_algorithm, 2)
-    {
-        return false;
-    }
-    match content.data(alloc, password) {
-        Ok(opened) => calls::is(&opened, wanted),
+    info.encrypted_content.len() == 40
+        && calls::is_triple_des(&info.content_encryption_algorithm, 2)
+        && calls::opens_to(content.data(alloc, &PASSWORD), BAGS)
+        && calls::stays_closed(content.data(alloc, &[0, 0]))
+}
+
+/// Whether the copy of a content is so sealed.
+fn is_copy_sealed(alloc: Global, copy: Result<ContentInfo, Error>) -> bool {
+    match copy {
+        Ok(content) => is_sealed(alloc, &content),
         Err(_) => false,
     }
 }
 
-/// A copy of the sealed content.
-fn copied_content(alloc: Global) -> Result<ContentInfo, Error> {
-    sealed_content(alloc)?.try_clone(alloc)
+/// Whether the content of `SEALED_STORE` is, in a copy.
+fn is_sealed_content_opened(alloc: Global) -> bool {
+    match sealed_content(alloc) {
+        Ok(content) => is_copy_sealed(alloc, content.try_clone(alloc)),
+        Err(_) => false,
+    }
 }
 
 #[test]
-fn a_sealed_content_opens(rt: HostRuntime) -> Result<(), Fail> {
-    let alloc = rt.alloc();
-    let content = copied_content(alloc)?;
-    assert!(rt; opens_to(alloc, &content, &PASSWORD, Some(BAGS)));
-    assert!(rt; opens_to(alloc, &content, &[0, 0], None));
-    Ok(())
+fn a_sealed_content_opens(rt: HostRuntime) {
+    assert!(rt; is_sealed_content_opened(rt.alloc()));
 }
 
-/// Whether a store has one bag under its password, the certificate `3000`.
-fn has_one_certificate(alloc: Global, store: &PFX) -> bool
-    requires { OpeningFits store.now }
+/// One certificate of X.509, `3000`.
+static ONE_CERTIFICATE: Held<'static> = Held {
+    has_mac: true,
+    certificates: &[b"\x30\x00"],
+    sdsi: None,
+    keys: &[],
+};
+
+/// The bags of a store under a password.
+fn bags_of(alloc: Global, text: &[u8], password: &str) -> Result<Items<SafeBag>, Error>
+    requires { length password.now < 2 ^ 57 }
 {
-    calls::bag_count(alloc, store, "p") == Ok(1)
-        && calls::certificate_count(alloc, store, "p") == Ok(1)
-        && calls::are_certificates(alloc, store, "p", &[&[0x30, 0]]) == Ok(true)
-}
-
-/// Whether it has neither an SDSI certificate nor a key.
-fn has_nothing_else(alloc: Global, store: &PFX) -> bool
-    requires { OpeningFits store.now }
-{
-    calls::sdsi_count(alloc, store, "p") == Ok(0)
-        && calls::are_keys(alloc, store, "p", &[]) == Ok(true)
-}
-
-/// Whether its MAC agrees under its password, and not under another.
-fn agrees_under_its_password(alloc: Global, store: &PFX) -> bool
-    requires { OpeningFits store.now }
-{
-    calls::agrees(alloc, store, "p") == Ok(true) && calls::agrees(alloc, store, "q") == Ok(false)
-}
-
-/// Whether a store has that one certificate and nothing else, and its MAC agrees.
-fn is_store_of_one(alloc: Global, text: &[u8]) -> bool {
     match calls::store(alloc, text) {
-        Ok(store) => {
-            has_one_certificate(alloc, &store)
-                && has_nothing_else(alloc, &store)
-                && agrees_under_its_password(alloc, &store)
-        }
+        Ok(store) => store.bags(alloc, password),
+        Err(e) => Err(e),
+    }
+}
+
+/// Whether there is one bag.
+fn is_one_bag(answer: Result<Items<SafeBag>, Error>) -> bool {
+    match answer {
+        Ok(bags) => bags.len() == 1,
         Err(_) => false,
     }
 }
@@ -297,27 +296,27 @@ fn is_store_of_one(alloc: Global, text: &[u8]) -> bool {
 #[test]
 fn the_bags_of_a_store_are_collected_and_its_mac_agrees(rt: HostRuntime) {
     let alloc = rt.alloc();
-    assert!(rt; is_store_of_one(alloc, STORE));
-    assert!(rt; is_store_of_one(alloc, SEALED_STORE));
+    for text in [STORE, SEALED_STORE] {
+        assert!(rt; is_one_bag(bags_of(alloc, text, "p")));
+        let store = calls::store(alloc, text);
+        assert!(rt; calls::is_filled(alloc, store, "p", "q", &ONE_CERTIFICATE));
+    }
 }
 
-/// Whether the sealed store is refused under another password.
-fn is_sealed_store_closed(alloc: Global) -> bool {
-    match calls::store(alloc, SEALED_STORE) {
-        Ok(store) => calls::bag_count(alloc, &store, "q") == Err(Error::Invalid),
-        Err(_) => false,
-    }
+/// Whether a content gave no plain octets.
+fn is_invalid(answer: Result<Items<SafeBag>, Error>) -> bool {
+    matches!(answer, Err(Error::Invalid))
 }
 
 #[test]
 fn a_sealed_store_opens_under_no_other_password(rt: HostRuntime) {
-    assert!(rt; is_sealed_store_closed(rt.alloc()));
+    assert!(rt; is_invalid(bags_of(rt.alloc(), SEALED_STORE, "q")));
 }
 
 /// The bag of `ENCRYPTED_KEY`.
 fn key_bag(alloc: Global) -> Result<SafeBagKind, Error> {
     let identifier = ObjectIdentifier::from_bytes(b"\x2a\x86\x48\x86\xf7\x0d\x01\x0c\x0a\x01\x02")?;
-    Ok(SafeBagKind::parse(alloc, &mut SliceReader::new(ENCRYPTED_KEY), identifier)?)
+    SafeBagKind::parse(alloc, &mut SliceReader::new(ENCRYPTED_KEY), identifier)
 }
 
 /// Whether a key of 56 octets is under Triple DES in one round with a salt of 8 octets.
@@ -328,36 +327,28 @@ fn is_triple_des_key(key: &EncryptedPrivateKeyInfo) -> bool
     key.encrypted_data.len() == 56 && calls::is_triple_des(&key.encryption_algorithm, 1)
 }
 
-/// Whether a bag gives its key under `p`.
+/// Whether a bag has such a key, which opens to `KEY` under `p`, and to nothing under the empty password.
 fn gives_its_key(alloc: Global, bag: &SafeBagKind) -> bool {
     match bag {
         SafeBagKind::Pkcs8ShroudedKeyBag(key) if is_triple_des_key(key) => {
-            match bag.get_key(alloc, &PASSWORD) {
-                Ok(opened) => calls::is(&opened, Some(KEY)),
-                Err(_) => false,
-            }
+            calls::opens_to(bag.get_key(alloc, &PASSWORD), KEY)
+                && calls::stays_closed(key.decrypt(alloc, &[0, 0]))
         }
         _ => false,
     }
 }
 
-/// Whether the key of a bag opens to nothing under the empty password.
-fn stays_closed(alloc: Global, bag: &SafeBagKind) -> bool {
-    match bag {
-        SafeBagKind::Pkcs8ShroudedKeyBag(key) if is_triple_des_key(key) => {
-            key.decrypt(alloc, &[0, 0]) == Ok(None)
-        }
-        _ => false,
+/// Whether the bag of `ENCRYPTED_KEY` does.
+fn is_key_opened(alloc: Global) -> bool {
+    match key_bag(alloc) {
+        Ok(bag) => gives_its_key(alloc, &bag),
+        Err(_) => false,
     }
 }
 
 #[test]
-fn an_encrypted_key_opens(rt: HostRuntime) -> Result<(), Fail> {
-    let alloc = rt.alloc();
-    let bag = key_bag(alloc)?;
-    assert!(rt; gives_its_key(alloc, &bag));
-    assert!(rt; stays_closed(alloc, &bag));
-    Ok(())
+fn an_encrypted_key_opens(rt: HostRuntime) {
+    assert!(rt; is_key_opened(rt.alloc()));
 }
 
 /// Whether Triple DES, in one round under a salt of 8 octets, seals `KEY` to the ciphertext of this key.
@@ -366,10 +357,10 @@ fn is_sealed_under_triple_des(alloc: Global, key: &EncryptedPrivateKeyInfo) -> b
     match algorithm {
         AlgorithmIdentifier::PbeWithSHAAnd3KeyTripleDESCBC(params)
             if params.salt.len() == 8 && params.iterations == 1 => {
-            match algorithm.encrypt_pbe(alloc, KEY, &PASSWORD) {
-                Ok(sealed) => sealed == key.encrypted_data,
-                Err(_) => false,
-            }
+            calls::gives(
+                algorithm.encrypt_pbe(alloc, KEY, &PASSWORD),
+                key.encrypted_data.as_slice(),
+            )
         }
         _ => false,
     }
@@ -387,26 +378,25 @@ fn is_sealed_under_pbes2(alloc: Global, key: &EncryptedPrivateKeyInfo) -> bool {
     if !algorithm.is_openable() || algorithm.count() != 3 || algorithm.cost() != 3 {
         return false;
     }
-    match algorithm.encrypt_text(alloc, KEY, "p\u{e4}") {
-        Ok(sealed) => sealed == key.encrypted_data,
+    calls::gives(
+        algorithm.encrypt_text(alloc, KEY, "p\u{e4}"),
+        key.encrypted_data.as_slice(),
+    )
+}
+
+/// Whether `KEY` is sealed to this text, under either.
+fn is_key_sealed(alloc: Global, text: &[u8]) -> bool {
+    match calls::encrypted_key(alloc, text) {
+        Ok(key) => is_sealed_under_triple_des(alloc, &key) || is_sealed_under_pbes2(alloc, &key),
         Err(_) => false,
     }
 }
 
 #[test]
-fn a_key_is_sealed_under_triple_des(rt: HostRuntime) -> Result<(), Fail> {
+fn a_key_is_sealed_under_triple_des_and_pbes2(rt: HostRuntime) {
     let alloc = rt.alloc();
-    let key = calls::encrypted_key(alloc, ENCRYPTED_KEY)?;
-    assert!(rt; is_sealed_under_triple_des(alloc, &key));
-    Ok(())
-}
-
-#[test]
-fn a_key_is_sealed_under_pbes2(rt: HostRuntime) -> Result<(), Fail> {
-    let alloc = rt.alloc();
-    let key = calls::encrypted_key(alloc, PBES2_KEY)?;
-    assert!(rt; is_sealed_under_pbes2(alloc, &key));
-    Ok(())
+    assert!(rt; is_key_sealed(alloc, ENCRYPTED_KEY));
+    assert!(rt; is_key_sealed(alloc, PBES2_KEY));
 }
 
 /// An algorithm under RC2 with 40 bits, and its parameters.
@@ -419,32 +409,44 @@ fn copied_algorithm(alloc: Global, text: &[u8]) -> Result<AlgorithmIdentifier, E
     calls::algorithm(alloc, text)?.try_clone(alloc)
 }
 
+/// Whether parameters are those of `RC2`.
+fn are_rc2_params(params: &Pkcs12PbeParams) -> bool {
+    params.salt.as_slice() == &RC2[18..26] && params.iterations == 2048
+}
+
 /// Whether an algorithm is that under RC2, which opens nothing.
 fn is_rc2(alloc: Global, algorithm: &AlgorithmIdentifier) -> bool {
-    let AlgorithmIdentifier::PbewithSHAAnd40BitRC2CBC(params) = algorithm else {
-        return false;
-    };
-    params.salt.len() == 8
-        && params.salt.as_slice() == &RC2[18..26]
-        && params.iterations == 2048
-        && algorithm.decrypt_pbe(alloc, &[0; 8], &[0, 0]) == Ok(None)
+    match algorithm {
+        AlgorithmIdentifier::PbewithSHAAnd40BitRC2CBC(params) if params.salt.len() == 8 => {
+            are_rc2_params(params)
+                && calls::stays_closed(algorithm.decrypt_pbe(alloc, &[0; 8], &[0, 0]))
+        }
+        _ => false,
+    }
+}
+
+/// Whether a copy of `RC2` is that.
+fn is_rc2_read(alloc: Global) -> bool {
+    match copied_algorithm(alloc, RC2) {
+        Ok(algorithm) => is_rc2(alloc, &algorithm),
+        Err(_) => false,
+    }
 }
 
 #[test]
-fn rc2_is_read_and_not_opened(rt: HostRuntime) -> Result<(), Fail> {
-    let alloc = rt.alloc();
-    let rc2 = copied_algorithm(alloc, RC2)?;
-    assert!(rt; is_rc2(alloc, &rc2));
-    Ok(())
+fn rc2_is_read_and_not_opened(rt: HostRuntime) {
+    assert!(rt; is_rc2_read(rt.alloc()));
 }
 
-#[test]
-fn the_parameters_of_an_algorithm_are_read(rt: HostRuntime) -> Result<(), Fail> {
-    let alloc = rt.alloc();
+/// Whether parameters alone are read as those of `RC2`, and a copy is equal.
+fn are_parameters_read(alloc: Global) -> Result<bool, Error> {
     let params = Pkcs12PbeParams::parse(alloc, &mut SliceReader::new(&RC2[14..]))?;
-    assert!(rt; params.salt.as_slice() == &RC2[18..26] && params.iterations == 2048);
-    assert!(rt; params == params.try_clone(alloc)?);
-    Ok(())
+    Ok(are_rc2_params(&params) && params == params.try_clone(alloc)?)
+}
+
+#[test]
+fn the_parameters_of_an_algorithm_are_read(rt: HostRuntime) {
+    assert!(rt; are_parameters_read(rt.alloc()) == Ok(true));
 }
 
 /// Whether a text is read as SHA-1; none where it is refused.
@@ -456,85 +458,93 @@ fn is_sha1(alloc: Global, text: &[u8]) -> Option<bool> {
 }
 
 /// Whether an algorithm is none of those that have names here.
-fn is_other(algorithm: &AlgorithmIdentifier) -> bool {
-    matches!(algorithm, AlgorithmIdentifier::OtherAlg(_))
+fn is_other(answer: Result<AlgorithmIdentifier, Error>) -> bool {
+    matches!(answer, Ok(AlgorithmIdentifier::OtherAlg(_)))
 }
+
+/// Texts, and whether they are SHA-1: without NULL and with it, another algorithm; and texts that are refused: a NULL more, an
+/// OCTET STRING for the NULL, a length in too many octets.
+static DIGESTS: [(&[u8], Option<bool>); 6] = [
+    (b"\x30\x07\x06\x05\x2b\x0e\x03\x02\x1a", Some(true)),
+    (b"\x30\x09\x06\x05\x2b\x0e\x03\x02\x1a\x05\x00", Some(true)),
+    (b"\x30\x05\x06\x01\x2a\x05\x00", Some(false)),
+    (
+        b"\x30\x0b\x06\x05\x2b\x0e\x03\x02\x1a\x05\x00\x05\x00",
+        None,
+    ),
+    (b"\x30\x09\x06\x05\x2b\x0e\x03\x02\x1a\x04\x00", None),
+    (b"\x30\x81\x07\x06\x05\x2b\x0e\x03\x02\x1a", None),
+];
 
 #[test]
-fn digests_are_read(rt: HostRuntime) -> Result<(), Fail> {
+fn digests_are_read(rt: HostRuntime) {
     let alloc = rt.alloc();
-    // without NULL and with it, another algorithm; a NULL more, an OCTET STRING for the NULL, a length in too many octets
-    for (text, wanted) in [
-        (
-            b"\x30\x07\x06\x05\x2b\x0e\x03\x02\x1a".as_slice(),
-            Some(true),
-        ),
-        (
-            b"\x30\x09\x06\x05\x2b\x0e\x03\x02\x1a\x05\x00".as_slice(),
-            Some(true),
-        ),
-        (b"\x30\x05\x06\x01\x2a\x05\x00".as_slice(), Some(false)),
-        (
-            b"\x30\x0b\x06\x05\x2b\x0e\x03\x02\x1a\x05\x00\x05\x00".as_slice(),
-            None,
-        ),
-        (
-            b"\x30\x09\x06\x05\x2b\x0e\x03\x02\x1a\x04\x00".as_slice(),
-            None,
-        ),
-        (b"\x30\x81\x07\x06\x05\x2b\x0e\x03\x02\x1a".as_slice(), None),
-    ] {
-        assert!(rt; is_sha1(alloc, text) == wanted);
+    for (text, wanted) in &DIGESTS {
+        assert!(rt; is_sha1(alloc, text) == *wanted);
     }
-    let other = copied_algorithm(alloc, b"\x30\x05\x06\x01\x2a\x05\x00")?;
-    assert!(rt; is_other(&other));
-    Ok(())
+    assert!(rt; is_other(copied_algorithm(alloc, b"\x30\x05\x06\x01\x2a\x05\x00")));
 }
 
+/// A copy of the attribute that a text is read as.
 fn attribute(alloc: Global, text: &[u8]) -> Result<PKCS12Attribute, Error> {
     PKCS12Attribute::parse(alloc, &mut SliceReader::new(text))?.try_clone(alloc)
 }
 
-#[test]
-fn the_last_name_of_a_set_counts(rt: HostRuntime) -> Result<(), Fail> {
-    let alloc = rt.alloc();
-    let two = attribute(
-        alloc,
-        b"\x30\x15\x06\x09\x2a\x86\x48\x86\xf7\x0d\x01\x09\x14\x31\x08\x1e\x02\x00\x61\x1e\
-    \x02\x00\x62",
-    )?;
-    let PKCS12Attribute::FriendlyName(text) = &two else {
-        panic!(rt; "another variant");
-    };
-    assert!(rt; text.as_str() == "b");
-    // an empty set, an odd number of octets, a lone surrogate
-    for bad in [
-        b"\x30\x0d\x06\x09\x2a\x86\x48\x86\xf7\x0d\x01\x09\x14\x31\x00".as_slice(),
-        b"\x30\x12\x06\x09\x2a\x86\x48\x86\xf7\x0d\x01\x09\x14\x31\x05\x1e\x03\x00\x61\x00".as_slice(),
-        b"\x30\x11\x06\x09\x2a\x86\x48\x86\xf7\x0d\x01\x09\x14\x31\x04\x1e\x02\xd8\x34".as_slice(),
-    ] {
-        assert!(rt; attribute(alloc, bad).is_err());
+/// Whether an attribute is this name.
+fn is_name(answer: Result<PKCS12Attribute, Error>, name: &str) -> bool {
+    match answer {
+        Ok(PKCS12Attribute::FriendlyName(text)) => text.as_str() == name,
+        _ => false,
     }
-    Ok(())
+}
+
+/// Whether a text is no attribute.
+fn is_no_attribute(alloc: Global, text: &[u8]) -> bool {
+    attribute(alloc, text).is_err()
+}
+
+/// Names without a value, of an odd number of octets, and with a lone surrogate.
+static BAD_NAMES: [&[u8]; 3] = [
+    b"\x30\x0d\x06\x09\x2a\x86\x48\x86\xf7\x0d\x01\x09\x14\x31\x00",
+    b"\x30\x12\x06\x09\x2a\x86\x48\x86\xf7\x0d\x01\x09\x14\x31\x05\x1e\x03\x00\x61\x00",
+    b"\x30\x11\x06\x09\x2a\x86\x48\x86\xf7\x0d\x01\x09\x14\x31\x04\x1e\x02\xd8\x34",
+];
+
+#[test]
+fn the_last_name_of_a_set_counts(rt: HostRuntime) {
+    let alloc = rt.alloc();
+    let two = b"\x30\x15\x06\x09\x2a\x86\x48\x86\xf7\x0d\x01\x09\x14\x31\x08\x1e\x02\x00\x61\x1e\
+    \x02\x00\x62";
+    assert!(rt; is_name(attribute(alloc, two), "b"));
+    for bad in &BAD_NAMES {
+        assert!(rt; is_no_attribute(alloc, bad));
+    }
+}
+
+/// Whether an attribute is this key id.
+fn is_key_id(answer: Result<PKCS12Attribute, Error>, key_id: &[u8]) -> bool {
+    match answer {
+        Ok(PKCS12Attribute::LocalKeyId(octets)) => octets.as_slice() == key_id,
+        _ => false,
+    }
+}
+
+/// Whether an attribute is of another kind, with one value.
+fn is_other_attribute(answer: Result<PKCS12Attribute, Error>) -> bool {
+    match answer {
+        Ok(PKCS12Attribute::Other(other)) => other.values.len() == 1,
+        _ => false,
+    }
 }
 
 #[test]
-fn a_key_id_and_other_attributes_are_read(rt: HostRuntime) -> Result<(), Fail> {
+fn a_key_id_and_other_attributes_are_read(rt: HostRuntime) {
     let alloc = rt.alloc();
-    let key_id = attribute(
-        alloc,
-        b"\x30\x12\x06\x09\x2a\x86\x48\x86\xf7\x0d\x01\x09\x15\x31\x05\x04\x03\x0a\x0b\x0c",
-    )?;
-    let PKCS12Attribute::LocalKeyId(octets) = &key_id else {
-        panic!(rt; "another variant");
-    };
-    assert!(rt; octets.as_slice() == &[10, 11, 12][..]);
-    let other = attribute(alloc, b"\x30\x07\x06\x01\x2a\x31\x02\x05\x00")?;
-    let PKCS12Attribute::Other(other) = &other else {
-        panic!(rt; "another variant");
-    };
-    assert!(rt; other.values.len() == 1);
-    Ok(())
+    let key_id =
+        b"\x30\x12\x06\x09\x2a\x86\x48\x86\xf7\x0d\x01\x09\x15\x31\x05\x04\x03\x0a\x0b\x0c";
+    assert!(rt; is_key_id(attribute(alloc, key_id), &[10, 11, 12]));
+    let other = b"\x30\x07\x06\x01\x2a\x31\x02\x05\x00";
+    assert!(rt; is_other_attribute(attribute(alloc, other)));
 }
 
 /// A certificate bag with the name `b` and the key id 7.
@@ -549,36 +559,35 @@ fn copied_bag(alloc: Global, text: &[u8]) -> Result<SafeBag, Error> {
     SafeBag::parse(alloc, &mut SliceReader::new(text))?.try_clone(alloc)
 }
 
-/// Whether a bag has the name `b`.
-fn is_named(alloc: Global, bag: &SafeBag) -> bool {
-    match bag.friendly_name(alloc) {
-        Ok(Some(name)) => name.as_str() == "b",
-        _ => false,
-    }
+/// Whether there is no text.
+fn is_no_text(answer: Result<Option<Text>, Error>) -> bool {
+    matches!(answer, Ok(None))
 }
 
-/// Whether it has the key id 7.
-fn has_key_id(alloc: Global, bag: &SafeBag) -> bool {
-    match bag.local_key_id(alloc) {
-        Ok(key_id) => calls::is(&key_id, Some(&[7])),
+/// Whether a bag has the identifier of a certificate bag, and no SDSI text.
+fn is_x509_bag(alloc: Global, bag: &SafeBagKind) -> bool {
+    bag.oid().as_bytes() == b"\x2a\x86\x48\x86\xf7\x0d\x01\x0c\x0a\x01\x03".as_slice()
+        && is_no_text(bag.get_sdsi_cert(alloc))
+}
+
+/// Whether a bag is such a bag, with the name `b` and the key id 7.
+fn is_named_bag(alloc: Global, bag: &SafeBag) -> bool {
+    calls::is_text(bag.friendly_name(alloc), "b")
+        && calls::opens_to(bag.local_key_id(alloc), &[7])
+        && is_x509_bag(alloc, &bag.bag)
+}
+
+/// Whether a copy of `NAMED_BAG` is.
+fn is_named_bag_read(alloc: Global) -> bool {
+    match copied_bag(alloc, NAMED_BAG) {
+        Ok(bag) => is_named_bag(alloc, &bag),
         Err(_) => false,
     }
 }
 
-/// Whether it has the identifier of a certificate bag, and no SDSI text.
-fn is_x509_bag(alloc: Global, bag: &SafeBagKind) -> bool {
-    bag.oid().as_bytes() == b"\x2a\x86\x48\x86\xf7\x0d\x01\x0c\x0a\x01\x03".as_slice()
-        && matches!(bag.get_sdsi_cert(alloc), Ok(None))
-}
-
 #[test]
-fn bags_are_read_with_their_attributes(rt: HostRuntime) -> Result<(), Fail> {
-    let alloc = rt.alloc();
-    let bag = copied_bag(alloc, NAMED_BAG)?;
-    assert!(rt; is_named(alloc, &bag));
-    assert!(rt; has_key_id(alloc, &bag));
-    assert!(rt; is_x509_bag(alloc, &bag.bag));
-    Ok(())
+fn bags_are_read_with_their_attributes(rt: HostRuntime) {
+    assert!(rt; is_named_bag_read(rt.alloc()));
 }
 
 /// A store without a MAC, of one SDSI certificate, `ab`.
@@ -588,44 +597,26 @@ const SDSI_STORE: &[u8] =
     \x30\x25\x30\x23\x06\x0b\x2a\x86\x48\x86\xf7\x0d\x01\x0c\x0a\x01\x03\xa0\x14\x30\x12\
     \x06\x0a\x2a\x86\x48\x86\xf7\x0d\x01\x09\x16\x02\xa0\x04\x16\x02\x61\x62";
 
-/// Whether a store has one SDSI certificate, `ab`, and no other certificate.
-fn has_one_sdsi_certificate(alloc: Global, store: &PFX) -> bool
-    requires { OpeningFits store.now }
-{
-    calls::sdsi_count(alloc, store, "p") == Ok(1)
-        && calls::is_first_sdsi(alloc, store, "p", "ab") == Ok(true)
-        && calls::are_certificates(alloc, store, "p", &[]) == Ok(true)
-}
+/// One SDSI certificate, and no MAC.
+static ONE_SDSI: Held<'static> = Held {
+    has_mac: false,
+    certificates: &[],
+    sdsi: Some("ab"),
+    keys: &[],
+};
 
 /// Whether the SDSI certificate of a bag is `ab`.
 fn is_ab(alloc: Global, bag: &SafeBagKind) -> bool {
-    match bag.get_sdsi_cert(alloc) {
-        Ok(Some(text)) => text.as_str() == "ab",
-        _ => false,
-    }
+    calls::is_text(bag.get_sdsi_cert(alloc), "ab")
 }
 
-/// Whether that of the first bag of a store is.
-fn is_first_bag_ab(alloc: Global, store: &PFX) -> bool
-    requires { OpeningFits store.now }
-{
-    let Ok(bags) = store.bags(alloc, "p") else {
-        return false;
-    };
-    match bags.get(0) {
-        Some(bag) => is_ab(alloc, &bag.bag),
-        None => false,
-    }
-}
-
-/// Whether the store has that one SDSI certificate, and its MAC agrees, since it has none.
-fn is_sdsi_store_read(alloc: Global) -> bool {
-    match calls::store(alloc, SDSI_STORE) {
-        Ok(store) => {
-            has_one_sdsi_certificate(alloc, &store)
-                && is_first_bag_ab(alloc, &store)
-                && calls::agrees(alloc, &store, "p") == Ok(true)
-        }
+/// Whether that of the first of these bags is.
+fn has_ab(alloc: Global, answer: Result<Items<SafeBag>, Error>) -> bool {
+    match answer {
+        Ok(bags) => match bags.get(0) {
+            Some(bag) => is_ab(alloc, &bag.bag),
+            None => false,
+        },
         Err(_) => false,
     }
 }
@@ -633,109 +624,148 @@ fn is_sdsi_store_read(alloc: Global) -> bool {
 #[test]
 fn the_sdsi_certificates_of_a_store_are_collected(rt: HostRuntime) {
     let alloc = rt.alloc();
-    assert!(rt; is_sdsi_store_read(alloc));
+    assert!(rt; has_ab(alloc, bags_of(alloc, SDSI_STORE, "p")));
+    let store = calls::store(alloc, SDSI_STORE);
+    assert!(rt; calls::is_filled(alloc, store, "p", "q", &ONE_SDSI));
 }
 
 /// The SDSI certificate `ab`.
 const SDSI: &[u8] =
     b"\x30\x12\x06\x0a\x2a\x86\x48\x86\xf7\x0d\x01\x09\x16\x02\xa0\x04\x16\x02\x61\x62";
 
-/// A copy of the certificate of a text, in a copy of its bag.
-fn copied_certificate(alloc: Global, text: &[u8]) -> Result<SafeBagKind, Error> {
+/// A copy of the certificate of a text, in a bag.
+fn certificate_bag(alloc: Global, text: &[u8]) -> Result<SafeBagKind, Error> {
     let certificate = CertBag::parse(alloc, &mut SliceReader::new(text))?;
-    SafeBagKind::CertBag(certificate.try_clone(alloc)?).try_clone(alloc)
+    Ok(SafeBagKind::CertBag(certificate.try_clone(alloc)?))
 }
 
-#[test]
-fn sdsi_certificates_are_read(rt: HostRuntime) -> Result<(), Fail> {
-    let alloc = rt.alloc();
-    let bag = copied_certificate(alloc, SDSI)?;
-    assert!(rt; is_ab(alloc, &bag));
-    Ok(())
-}
-
-#[test]
-fn other_certificates_are_refused(rt: HostRuntime) {
-    // a character over 127, a third kind
-    for bad in [
-        b"\x30\x12\x06\x0a\x2a\x86\x48\x86\xf7\x0d\x01\x09\x16\x02\xa0\x04\x16\x02\x61\xff".as_slice(),
-        b"\x30\x12\x06\x0a\x2a\x86\x48\x86\xf7\x0d\x01\x09\x16\x03\xa0\x04\x16\x02\x61\x62".as_slice(),
-    ] {
-        let mut r = SliceReader::new(bad);
-        assert!(rt; CertBag::parse(rt.alloc(), &mut r).is_err());
-        assert!(rt; r.position() == 0);
+/// Whether the SDSI certificate of the copy of a bag is `ab`.
+fn is_sdsi_bag(alloc: Global, copy: Result<SafeBagKind, Error>) -> bool {
+    match copy {
+        Ok(bag) => is_ab(alloc, &bag),
+        Err(_) => false,
     }
 }
 
-/// Whether a text is no store, whether it is read into memory or lent.
-fn is_no_store(alloc: Global, text: &[u8]) -> bool {
-    calls::store(alloc, text).is_err() && StoreView::parse(text).is_err()
-}
-
-/// Whether a text is a store that has no MAC.
-fn has_no_mac(alloc: Global, text: &[u8]) -> bool {
-    match calls::store(alloc, text) {
-        Ok(store) => store.mac_data.is_none(),
+/// Whether the certificate of `SDSI` is read, and copied in its bag.
+fn is_sdsi_read(alloc: Global) -> bool {
+    match certificate_bag(alloc, SDSI) {
+        Ok(bag) => is_sdsi_bag(alloc, bag.try_clone(alloc)),
         Err(_) => false,
     }
 }
 
 #[test]
+fn sdsi_certificates_are_read(rt: HostRuntime) {
+    assert!(rt; is_sdsi_read(rt.alloc()));
+}
+
+/// SDSI with a character over 127, and a certificate of a third kind.
+static BAD_CERTIFICATES: [&[u8]; 2] = [
+    b"\x30\x12\x06\x0a\x2a\x86\x48\x86\xf7\x0d\x01\x09\x16\x02\xa0\x04\x16\x02\x61\xff",
+    b"\x30\x12\x06\x0a\x2a\x86\x48\x86\xf7\x0d\x01\x09\x16\x03\xa0\x04\x16\x02\x61\x62",
+];
+
+/// Whether a text is no certificate, and the reader stays in front of it.
+fn is_no_certificate(alloc: Global, text: &[u8]) -> bool {
+    let mut r = SliceReader::new(text);
+    CertBag::parse(alloc, &mut r).is_err() && r.position() == 0
+}
+
+#[test]
+fn other_certificates_are_refused(rt: HostRuntime) {
+    for bad in &BAD_CERTIFICATES {
+        assert!(rt; is_no_certificate(rt.alloc(), bad));
+    }
+}
+
+/// Whether a text is a store that has no MAC; none where it is refused.
+fn has_no_mac(alloc: Global, text: &[u8]) -> Option<bool> {
+    match calls::store(alloc, text) {
+        Ok(store) => Some(store.mac_data.is_none()),
+        Err(_) => None,
+    }
+}
+
+/// Whether a text is no store, whether it is read into memory or lent.
+fn is_no_store(alloc: Global, text: &[u8]) -> bool {
+    has_no_mac(alloc, text).is_none() && StoreView::parse(text).is_err()
+}
+
+/// A store of no contents, without a MAC.
+const EMPTY_STORE: &[u8] =
+    b"\x30\x16\x02\x01\x03\x30\x11\x06\x09\x2a\x86\x48\x86\xf7\x0d\x01\x07\x01\xa0\x04\
+    \x04\x02\x30\x00";
+
+/// No octets; that store with one octet more, one less, a long length, an indefinite one, a version of 256.
+static FAULTY_STORES: [&[u8]; 6] = [
+    b"",
+    b"\x30\x16\x02\x01\x03\x30\x11\x06\x09\x2a\x86\x48\x86\xf7\x0d\x01\x07\x01\xa0\x04\
+    \x04\x02\x30\x00\x00",
+    b"\x30\x16\x02\x01\x03\x30\x11\x06\x09\x2a\x86\x48\x86\xf7\x0d\x01\x07\x01\xa0\x04\
+    \x04\x02\x30",
+    b"\x30\x81\x16\x02\x01\x03\x30\x11\x06\x09\x2a\x86\x48\x86\xf7\x0d\x01\x07\x01\xa0\
+    \x04\x04\x02\x30\x00",
+    b"\x30\x80\x02\x01\x03\x30\x11\x06\x09\x2a\x86\x48\x86\xf7\x0d\x01\x07\x01\xa0\x04\
+    \x04\x02\x30\x00\x00\x00",
+    b"\x30\x17\x02\x02\x01\x00\x30\x11\x06\x09\x2a\x86\x48\x86\xf7\x0d\x01\x07\x01\xa0\
+    \x04\x04\x02\x30\x00",
+];
+
+#[test]
 fn faulty_stores_are_refused(rt: HostRuntime) {
     let alloc = rt.alloc();
-    // no octets, one octet more, one less, a long length, an indefinite one, a version of 256
-    for bad in [
-        b"".as_slice(),
-        b"\x30\x16\x02\x01\x03\x30\x11\x06\x09\x2a\x86\x48\x86\xf7\x0d\x01\x07\x01\xa0\x04\
-    \x04\x02\x30\x00\x00"
-            .as_slice(),
-        b"\x30\x16\x02\x01\x03\x30\x11\x06\x09\x2a\x86\x48\x86\xf7\x0d\x01\x07\x01\xa0\x04\
-    \x04\x02\x30"
-            .as_slice(),
-        b"\x30\x81\x16\x02\x01\x03\x30\x11\x06\x09\x2a\x86\x48\x86\xf7\x0d\x01\x07\x01\xa0\
-    \x04\x04\x02\x30\x00"
-            .as_slice(),
-        b"\x30\x80\x02\x01\x03\x30\x11\x06\x09\x2a\x86\x48\x86\xf7\x0d\x01\x07\x01\xa0\x04\
-    \x04\x02\x30\x00\x00\x00"
-            .as_slice(),
-        b"\x30\x17\x02\x02\x01\x00\x30\x11\x06\x09\x2a\x86\x48\x86\xf7\x0d\x01\x07\x01\xa0\
-    \x04\x04\x02\x30\x00"
-            .as_slice(),
-    ] {
+    for bad in &FAULTY_STORES {
         assert!(rt; is_no_store(alloc, bad));
     }
-    let without_mac =
-        b"\x30\x16\x02\x01\x03\x30\x11\x06\x09\x2a\x86\x48\x86\xf7\x0d\x01\x07\x01\xa0\x04\
-    \x04\x02\x30\x00";
-    assert!(rt; has_no_mac(alloc, without_mac));
+    assert!(rt; has_no_mac(alloc, EMPTY_STORE) == Some(true));
+}
+
+/// Whether these contents are one encrypted content, whose octets stand at their place in `SEALED_STORE`.
+fn lends_encrypted_content(contents: &[u8]) -> bool {
+    let Ok(mut contents) = ContentsView::parse(contents) else {
+        return false;
+    };
+    match contents.next() {
+        Some(ContentView::Encrypted { at, .. }) => {
+            at.start == 66 && at.len == 40 && contents.next().is_none()
+        }
+        _ => false,
+    }
+}
+
+/// Whether `SEALED_STORE` lends its contents, which stand at their place, and have that encrypted content.
+fn lends_contents() -> bool {
+    match StoreView::parse(SEALED_STORE) {
+        Ok(
+            StoreView {
+                auth_safe: ContentView::Plain { content, at },
+                ..
+            },
+        ) => at.start == 23 && at.len == 106 && lends_encrypted_content(content),
+        _ => false,
+    }
 }
 
 #[test]
-fn a_store_lends_its_contents(rt: HostRuntime) -> Result<(), Fail> {
-    let Ok(store) = StoreView::parse(SEALED_STORE) else {
-        panic!(rt; "no store");
+fn a_store_lends_its_contents(rt: HostRuntime) {
+    assert!(rt; lends_contents());
+}
+
+/// Whether `BAGS` lends one bag, that of the certificate `3000`, and then no bag however often it is asked.
+fn lends_one_bag() -> bool {
+    let Ok(mut bags) = BagsView::parse(BAGS) else {
+        return false;
     };
-    let ContentView::Plain { content, at } = &store.auth_safe else {
-        panic!(rt; "another variant");
-    };
-    assert!(rt; at.start == 23 && at.len == 106);
-    let mut contents = ContentsView::parse(content)?;
-    let Some(ContentView::Encrypted { at, .. }) = contents.next() else {
-        panic!(rt; "another variant");
-    };
-    assert!(rt; at.start == 66 && at.len == 40);
-    assert!(rt; contents.next().is_none());
-    Ok(())
+    match bags.next() {
+        Some(BagView::X509(certificate)) => {
+            certificate == b"\x30\x00".as_slice() && bags.next().is_none() && bags.next().is_none()
+        }
+        _ => false,
+    }
 }
 
 #[test]
-fn a_list_lends_its_bags(rt: HostRuntime) -> Result<(), Fail> {
-    let mut bags = BagsView::parse(BAGS)?;
-    let Some(BagView::X509(certificate)) = bags.next() else {
-        panic!(rt; "another variant");
-    };
-    assert!(rt; certificate == b"\x30\x00".as_slice());
-    assert!(rt; bags.next().is_none());
-    assert!(rt; bags.next().is_none());
-    Ok(())
+fn a_list_lends_its_bags(rt: HostRuntime) {
+    assert!(rt; lends_one_bag());
 }

@@ -11,7 +11,7 @@ use steps::Steps;
 use transfer::{Opened, TransferError, Transferred, open_store, transfer};
 
 /// A store in today's format of `tests/vectors/transferred_keys.txt`: its three counts are 2,048.
-const TODAY: [u8; 477] = [
+const TODAY: &[u8] = &[
     0x30, 0x82, 0x01, 0xd9, 0x02, 0x01, 0x03, 0x30, 0x82, 0x01, 0x8f, 0x06, 0x09, 0x2a, 0x86, 0x48,
     0x86, 0xf7, 0x0d, 0x01, 0x07, 0x01, 0xa0, 0x82, 0x01, 0x80, 0x04, 0x82, 0x01, 0x7c, 0x30, 0x82,
     0x01, 0x78, 0x30, 0x81, 0xad, 0x06, 0x09, 0x2a, 0x86, 0x48, 0x86, 0xf7, 0x0d, 0x01, 0x07, 0x06,
@@ -45,20 +45,20 @@ const TODAY: [u8; 477] = [
 ];
 
 /// Its private key.
-const KEY: [u8; 48] = [
+const KEY: &[u8] = &[
     0x30, 0x2e, 0x02, 0x01, 0x00, 0x30, 0x05, 0x06, 0x03, 0x2b, 0x65, 0x70, 0x04, 0x22, 0x04, 0x20,
     0x17, 0xed, 0x9c, 0x73, 0xe9, 0xdb, 0x64, 0x9e, 0xc1, 0x89, 0xa6, 0x12, 0x83, 0x1c, 0x5f, 0xc5,
     0x70, 0x23, 0x82, 0x07, 0xc1, 0xaa, 0x9d, 0xfb, 0xd2, 0xc5, 0x3e, 0x3f, 0xf5, 0xe5, 0xea, 0x85,
 ];
 
 /// A store of no contents, without MAC data.
-const NO_MAC: [u8; 24] = [
+const NO_MAC: &[u8] = &[
     0x30, 0x16, 0x02, 0x01, 0x03, 0x30, 0x11, 0x06, 0x09, 0x2a, 0x86, 0x48, 0x86, 0xf7, 0x0d, 0x01,
     0x07, 0x01, 0xa0, 0x04, 0x04, 0x02, 0x30, 0x00,
 ];
 
 /// The same under a MAC of 20 zeros, with one round and no salt.
-const ZERO_MAC: [u8; 66] = [
+const ZERO_MAC: &[u8] = &[
     0x30, 0x40, 0x02, 0x01, 0x03, 0x30, 0x11, 0x06, 0x09, 0x2a, 0x86, 0x48, 0x86, 0xf7, 0x0d, 0x01,
     0x07, 0x01, 0xa0, 0x04, 0x04, 0x02, 0x30, 0x00, 0x30, 0x28, 0x30, 0x21, 0x30, 0x09, 0x06, 0x05,
     0x2b, 0x0e, 0x03, 0x02, 0x1a, 0x05, 0x00, 0x04, 0x14, 0x00, 0x00, 0x00, 0x00, 0x00, 0x00, 0x00,
@@ -67,7 +67,7 @@ const ZERO_MAC: [u8; 66] = [
 ];
 
 /// Opens a store under the password `changeit`.
-fn opened<L: Ledger>(
+fn opened_counted<L: Ledger>(
     alloc: Global,
     store: &[u8],
     limit: u64,
@@ -81,96 +81,67 @@ fn opened<L: Ledger>(
     open_store(alloc, store, "changeit", limit, &mut steps)
 }
 
+/// The same with a counter of its own.
+fn opened(alloc: Global, store: &[u8], limit: u64) -> Result<Opened, TransferError> {
+    opened_counted::<Brand>(alloc, store, limit, Blank::new(1))
+}
+
 /// Whether a store was opened to two contents and `KEY`.
 fn has_the_key(store: &Opened) -> bool {
     match store.keys.get(0) {
-        Some(key) => {
-            store.contents.len() == 2 && store.keys.len() == 1 && key.as_slice() == KEY.as_slice()
-        }
+        Some(key) => store.contents.len() == 2 && store.keys.len() == 1 && key.as_slice() == KEY,
         None => false,
     }
 }
 
-/// Whether the store is opened to them.
-fn opens_to_the_key<L: Ledger>(alloc: Global, store: &[u8], limit: u64, blank: Blank) -> bool
-    requires name { blank.name ≡ L.name }
-    requires parts { blank.parts ≡ L.parts }
-    requires some { 0 < blank.parts }
-{
-    match opened::<L>(alloc, store, limit, blank) {
+/// Whether the answer is that.
+fn is_opened(answer: Result<Opened, TransferError>) -> bool {
+    match answer {
         Ok(store) => has_the_key(&store),
         Err(_) => false,
     }
 }
 
-#[test]
-fn a_store_of_today_is_opened(rt: HostRuntime) {
-    assert!(rt; opens_to_the_key::<Brand>(rt.alloc(), &TODAY, 6144, Blank::new(1)));
-}
-
-/// Whether the store is opened to them, and a copy of what it was opened to has them too.
-fn copies_the_key<L: Ledger>(alloc: Global, store: &[u8], limit: u64, blank: Blank) -> bool
-    requires name { blank.name ≡ L.name }
-    requires parts { blank.parts ≡ L.parts }
-    requires some { 0 < blank.parts }
-{
-    match opened::<L>(alloc, store, limit, blank) {
-        Ok(store) => match store.try_clone(alloc) {
-            Ok(copy) => has_the_key(&copy) && has_the_key(&store),
-            Err(_) => false,
-        },
+/// Whether it is, and a copy of it has them too.
+fn is_opened_and_copied(alloc: Global, answer: Result<Opened, TransferError>) -> bool {
+    match answer {
+        Ok(store) => has_the_key(&store) && is_opened(store.try_clone(alloc)),
         Err(_) => false,
     }
 }
 
 #[test]
-fn an_opened_store_is_copied(rt: HostRuntime) {
-    assert!(rt; copies_the_key::<Brand>(rt.alloc(), &TODAY, 6144, Blank::new(1)));
+fn a_store_of_today_is_opened_and_copied(rt: HostRuntime) {
+    let alloc = rt.alloc();
+    assert!(rt; is_opened_and_copied(alloc, opened(alloc, TODAY, 6144)));
 }
 
-/// Why the store is not opened; None where it is.
-fn refusal<L: Ledger>(
-    alloc: Global,
-    store: &[u8],
-    limit: u64,
-    blank: Blank,
-) -> Option<TransferError>
-    requires name { blank.name ≡ L.name }
-    requires parts { blank.parts ≡ L.parts }
-    requires some { 0 < blank.parts }
-{
-    match opened::<L>(alloc, store, limit, blank) {
-        Ok(_) => None,
-        Err(e) => Some(e),
+/// Stores that are not opened within a limit, and why: the limit is passed; there is no MAC; the limit is tested before the
+/// MAC; and the MAC is wrong.
+static REFUSED: [(&[u8], u64, TransferError); 4] = [
+    (TODAY, 6143, TransferError::WorkLimit),
+    (NO_MAC, 9, TransferError::MacMissing),
+    (ZERO_MAC, 0, TransferError::WorkLimit),
+    (ZERO_MAC, 1, TransferError::MacMismatch),
+];
+
+/// Whether the answer is this refusal.
+fn is_refused(answer: Result<Opened, TransferError>, cause: TransferError) -> bool {
+    match answer {
+        Ok(_) => false,
+        Err(e) => e == cause,
     }
 }
 
 #[test]
-fn a_store_beyond_the_limit_is_not_opened(rt: HostRuntime) {
-    let answer = refusal::<Brand>(rt.alloc(), &TODAY, 6143, Blank::new(1));
-    assert_eq!(rt; answer, Some(TransferError::WorkLimit));
-}
-
-#[test]
-fn a_store_without_a_mac_is_not_opened(rt: HostRuntime) {
-    let answer = refusal::<Brand>(rt.alloc(), &NO_MAC, 9, Blank::new(1));
-    assert_eq!(rt; answer, Some(TransferError::MacMissing));
-}
-
-#[test]
-fn the_limit_is_tested_before_the_mac(rt: HostRuntime) {
-    let answer = refusal::<Brand>(rt.alloc(), &ZERO_MAC, 0, Blank::new(1));
-    assert_eq!(rt; answer, Some(TransferError::WorkLimit));
-}
-
-#[test]
-fn a_store_under_a_wrong_mac_is_not_opened(rt: HostRuntime) {
-    let answer = refusal::<Brand>(rt.alloc(), &ZERO_MAC, 1, Blank::new(1));
-    assert_eq!(rt; answer, Some(TransferError::MacMismatch));
+fn stores_are_refused_for_the_first_cause(rt: HostRuntime) {
+    for (store, limit, cause) in &REFUSED {
+        assert!(rt; is_refused(opened(rt.alloc(), store, *limit), *cause));
+    }
 }
 
 /// Transfers a store under the password `changeit`, with a new password, one round and 32 zeros to be drawn.
-fn transferred<L: Ledger>(
+fn transferred_counted<L: Ledger>(
     alloc: Global,
     store: &[u8],
     blank: Blank,
@@ -186,6 +157,11 @@ fn transferred<L: Ledger>(
     )
 }
 
+/// The same with a counter of its own.
+fn transferred(alloc: Global, store: &[u8]) -> Result<Transferred, TransferError> {
+    transferred_counted::<Brand>(alloc, store, Blank::new(1))
+}
+
 /// Whether both have the one certificate and the one document.
 fn are_alike(one: &Transferred, other: &Transferred) -> bool {
     one.certificates.len() == 1
@@ -194,47 +170,63 @@ fn are_alike(one: &Transferred, other: &Transferred) -> bool {
         && one.documents.get(0) == other.documents.get(0)
 }
 
-/// Whether a copy of what a store was transferred to is like it.
-fn copies_what_it_gives<L: Ledger>(alloc: Global, store: &[u8], blank: Blank) -> bool
-    requires name { blank.name ≡ L.name }
-    requires parts { blank.parts ≡ L.parts }
-    requires some { 0 < blank.parts }
-{
-    match transferred::<L>(alloc, store, blank) {
-        Ok(found) => match found.try_clone(alloc) {
-            Ok(copy) => are_alike(&found, &copy),
-            Err(_) => false,
-        },
+/// Whether the copy is like what a store was transferred to.
+fn is_copy(found: &Transferred, copy: Result<Transferred, TransferError>) -> bool {
+    match copy {
+        Ok(copy) => are_alike(found, &copy),
+        Err(_) => false,
+    }
+}
+
+/// Whether what a store was transferred to is copied.
+fn is_copied(alloc: Global, answer: Result<Transferred, TransferError>) -> bool {
+    match answer {
+        Ok(found) => is_copy(&found, found.try_clone(alloc)),
         Err(_) => false,
     }
 }
 
 #[test]
 fn what_a_store_gives_is_copied(rt: HostRuntime) {
-    assert!(rt; copies_what_it_gives::<Brand>(rt.alloc(), &TODAY, Blank::new(1)));
+    let alloc = rt.alloc();
+    assert!(rt; is_copied(alloc, transferred(alloc, TODAY)));
 }
 
-/// Whether a store is transferred, under the password `p` and within one step, and has no certificate. This asks for no
-/// memory beyond what `transfer` asks for.
-fn has_no_certificate<L: Ledger>(alloc: Global, store: &[u8], blank: Blank) -> bool
+/// Whether a store was transferred, and has no certificate.
+fn has_no_certificate(answer: Result<Transferred, TransferError>) -> bool {
+    match answer {
+        Ok(transferred) => transferred.certificates.is_empty(),
+        Err(_) => false,
+    }
+}
+
+/// Transfers a store under the password `p`, within one step and with nothing to be drawn. This asks for no memory beyond what
+/// `transfer` asks for.
+fn undrawn_counted<L: Ledger>(
+    alloc: Global,
+    store: &[u8],
+    blank: Blank,
+) -> Result<Transferred, TransferError>
     requires name { blank.name ≡ L.name }
     requires parts { blank.parts ≡ L.parts }
     requires some { 0 < blank.parts }
 {
     let mut steps = Steps::<L>::open(blank);
     let mut draw = DrawnBytes::new(Octets::new(alloc));
-    match transfer(alloc, store, "p", b"q", 1, &mut draw, 1, &mut steps) {
-        Ok(transferred) => transferred.certificates.is_empty(),
-        Err(_) => false,
-    }
+    transfer(alloc, store, "p", b"q", 1, &mut draw, 1, &mut steps)
+}
+
+/// The same with a counter of its own.
+fn undrawn(alloc: Global, store: &[u8]) -> Result<Transferred, TransferError> {
+    undrawn_counted::<Brand>(alloc, store, Blank::new(1))
 }
 
 #[test]
 fn four_bags_are_transferred(rt: HostRuntime) {
-    assert!(rt; has_no_certificate::<Brand>(rt.alloc(), &FOUR_BAGS, Blank::new(1)));
+    assert!(rt; has_no_certificate(undrawn(rt.alloc(), FOUR_BAGS)));
 }
 
 #[test]
 fn one_bag_is_transferred(rt: HostRuntime) {
-    assert!(rt; has_no_certificate::<Brand>(rt.alloc(), &ONE_BAG, Blank::new(1)));
+    assert!(rt; has_no_certificate(undrawn(rt.alloc(), ONE_BAG)));
 }

@@ -1,4 +1,0 @@
-use Rattle.store_callers.proofs.ciphertexts_opened.a_key_of_another_length_is_not_opened.Given as goal
-
-abbrev pub ghosts-opens_by_either_call : goal.ghosts-opens_by_either_call
-ghosts-opens_by_either_call g a = record { name = a.blank.name; parts = a.blank.parts }
