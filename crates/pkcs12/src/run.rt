@@ -422,6 +422,7 @@ pub fn explain<R: Runtime + AllocGlobal>(rt: &R, failure: &Failure) -> io::Resul
     }
     let code = ending.code();
     let message = failure.message.as_str();
+    let name = ending.name();
     let advice = advice(ending);
-    eprintln!(rt; "pkcs12: {ending} ({code}): {message}\n{advice}")
+    eprintln!(rt; "pkcs12: {name} ({code}): {message}\n{advice}")
 }
