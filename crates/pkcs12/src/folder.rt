@@ -12,7 +12,7 @@ use std::{fs, io};
 use transfer::Transferred;
 
 /// Where the answer goes: a folder that is not there yet, is empty, or is to be replaced.
-#[derive(Drop)]
+#[derive(Clone, Copy)]
 pub struct Folder<'a> {
     /// Its path, without slashes behind it.
     path: &'a str,

@@ -11,6 +11,7 @@ use crate::refusal::with_detail;
 use crate::request::{Check, Export, Request, request_of};
 use crate::self_test::self_test;
 use crate::summary::{Counts, summary};
+use clap::ArgMatches;
 use clap::error::ErrorKind;
 use std::alloc::{AllocError, Global};
 use std::rt::{Env, Files, Runtime};
@@ -373,14 +374,15 @@ fn arguments<R: Env + AllocGlobal>(rt: &R) -> Result<Vec<String>, Failure> {
     }
 }
 
+/// Does what these matches ask for.
 fn answer<R: Runtime + AllocGlobal>(
     rt: &R,
     around: Surroundings,
-    request: &Request<'_>,
+    matches: &ArgMatches<'_>,
 ) -> Result<(), Failure> {
-    match request {
-        Request::Check(asked) => run_check(rt, around, asked),
-        Request::Export(asked) => run_export(rt, around, asked),
+    match request_of(rt.alloc(), matches)? {
+        Request::Check(asked) => run_check(rt, around, &asked),
+        Request::Export(asked) => run_export(rt, around, &asked),
         Request::SelfTest => run_self_test(rt),
     }
 }
@@ -390,7 +392,7 @@ pub fn run<R: Runtime + AllocGlobal>(rt: &R, around: Surroundings) -> Result<(),
     let words = arguments(rt)?;
     let command = command(rt.alloc())?;
     match command.try_get_matches_from(words.as_slice()) {
-        Ok(matches) => answer(rt, around, &request_of(rt.alloc(), &matches)?),
+        Ok(matches) => answer(rt, around, &matches),
         Err(error) => shown(rt, error),
     }
 }
