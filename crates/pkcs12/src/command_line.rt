@@ -44,15 +44,16 @@ Exit numbers:
   23  OutputExists        the output folder is there and not empty, or is no folder
   24  SelfTestFailed      the self-test gave a wrong result";
 
-/// How an argument is given. The first text stands for its value in the help, the second is its default.
+/// How an argument is given. The first text stands for its value in the help; the second, where there is one, is its default.
 #[derive(Clone, Copy)]
 enum Form {
     /// By its place, and never left out.
     Place(&'static str),
     /// As an option that is never left out.
     Required(&'static str),
-    /// As an option.
+    /// As an option that may be left out.
     Optional(&'static str),
+    /// As an option that has a default.
     Text(&'static str, &'static str),
     /// The same of a number; one below zero is read too, so that its refusal says which numbers there are.
     Number(&'static str, &'static str),
@@ -202,7 +203,7 @@ fn described<'a>(alloc: Global, argument: &Argument) -> Arg<'a> {
     }
 }
 
-/// The same, in its group.
+/// The same, in its group where it has one.
 fn grouped<'a>(alloc: Global, argument: &Argument) -> Result<Arg<'a>, AllocError> {
     let arg = described(alloc, argument);
     match argument.group {
