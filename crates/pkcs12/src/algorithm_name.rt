@@ -67,7 +67,7 @@ impl fmt::Display for Named {
     fn fmt<W: fmt::Write>(&self, f: &mut fmt::Formatter<W>) -> fmt::Result {
         match name_of(self.0) {
             Some(name) => write!(f, "{name} ({})", self.0),
-            None => write!(f, "{}", self.0),
+            None => self.0.fmt(f),
         }
     }
 }
@@ -127,7 +127,7 @@ struct Pbes2Named<'a>(&'a [u8]);
 impl fmt::Display for Pbes2Named<'_> {
     fn fmt<W: fmt::Write>(&self, f: &mut fmt::Formatter<W>) -> fmt::Result {
         let Ok(found) = pbes2_of(self.0) else {
-            return write!(f, "{}", Named(PBES2_OID));
+            return Named(PBES2_OID).fmt(f);
         };
         let cipher = Named(found.cipher);
         if found.derivation != PBKDF2_OID {
@@ -173,12 +173,12 @@ impl fmt::Display for AlgorithmName<'_> {
             AlgorithmView::TripleDes { .. } => {
                 f.write_str("pbeWithSHAAnd3-KeyTripleDES-CBC (1.2.840.113549.1.12.1.3)")
             }
-            AlgorithmView::Pbes2(parameters) => write!(f, "{}", Pbes2NotOpened(parameters)),
+            AlgorithmView::Pbes2(parameters) => Pbes2NotOpened(parameters).fmt(f),
             AlgorithmView::Other {
                 algorithm_type,
                 params: Some(params),
-            } if *algorithm_type == PBES2_OID => write!(f, "{}", Pbes2Named(params)),
-            AlgorithmView::Other { algorithm_type, .. } => write!(f, "{}", Named(*algorithm_type)),
+            } if *algorithm_type == PBES2_OID => Pbes2Named(params).fmt(f),
+            AlgorithmView::Other { algorithm_type, .. } => Named(*algorithm_type).fmt(f),
         }
     }
 }

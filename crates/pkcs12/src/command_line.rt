@@ -44,138 +44,197 @@ Exit numbers:
   23  OutputExists        the output folder is there and not empty, or is no folder
   24  SelfTestFailed      the self-test gave a wrong result";
 
-fn store<'a>(alloc: Global) -> Arg<'a> {
-    Arg::new(alloc, "store")
-        .value_name("STORE")
-        .required(true)
-        .help("The store (.p12, .pfx); - is the standard input")
+/// How an argument is given. The first text stands for its value in the help; the second, where there is one, is its default.
+#[derive(Clone, Copy)]
+enum Form {
+    /// By its place, and never left out.
+    Place(&'static str),
+    /// As an option that is never left out.
+    Required(&'static str),
+    /// As an option that may be left out.
+    Optional(&'static str),
+    /// As an option that has a default.
+    Text(&'static str, &'static str),
+    /// The same of a number; one below zero is read too, so that its refusal says which numbers there are.
+    Number(&'static str, &'static str),
+    /// As an option without a value.
+    Flag,
 }
 
-fn limit<'a>(alloc: Global) -> Arg<'a> {
-    Arg::new(alloc, "limit")
-        .long("limit")
-        .value_name("STEPS")
-        .allow_negative_numbers(true)
-        .default_value("100000000")
-        .help(
-            "Refuse a store that takes more than this many steps (hash computations of key derivation) to open: 0 to 18446744073709551615",
-        )
+/// An argument of a subcommand.
+struct Argument {
+    /// Its name, which is that of its option too.
+    name: &'static str,
+    form: Form,
+    /// The group of which at most one is given.
+    group: Option<&'static str>,
+    help: &'static str,
 }
 
-fn out<'a>(alloc: Global) -> Arg<'a> {
-    Arg::new(alloc, "out")
-        .long("out")
-        .value_name("DIR")
-        .required(true)
-        .help("The folder that is made: cert-0.pem, .. and key-0.pem, ..")
+const STORE: Argument = Argument {
+    name: "store",
+    form: Form::Place("STORE"),
+    group: None,
+    help: "The store (.p12, .pfx); - is the standard input",
+};
+
+const OUT: Argument = Argument {
+    name: "out",
+    form: Form::Required("DIR"),
+    group: None,
+    help: "The folder that is made: cert-0.pem, .. and key-0.pem, ..",
+};
+
+const FORMAT: Argument = Argument {
+    name: "format",
+    form: Form::Text("FORMAT", "pem"),
+    group: None,
+    help: "How the files are written: pem or der",
+};
+
+const FORCE: Argument = Argument {
+    name: "force",
+    form: Form::Flag,
+    group: None,
+    help: "Replace DIR, with all that is in it, where it is not empty; no file that is read may be in it",
+};
+
+const PASSWORD_FILE: Argument = Argument {
+    name: "password-file",
+    form: Form::Optional("FILE"),
+    group: Some("password"),
+    help: "The store's password is the first line of FILE",
+};
+
+const PASSWORD_ENV: Argument = Argument {
+    name: "password-env",
+    form: Form::Optional("NAME"),
+    group: Some("password"),
+    help: "The store's password is the environment variable NAME",
+};
+
+const PASSWORD_STDIN: Argument = Argument {
+    name: "password-stdin",
+    form: Form::Flag,
+    group: Some("password"),
+    help: "The store's password is the first line of the standard input",
+};
+
+const NEW_PASSWORD_FILE: Argument = Argument {
+    name: "new-password-file",
+    form: Form::Optional("FILE"),
+    group: Some("new-password"),
+    help: "The new password is the first line of FILE",
+};
+
+const NEW_PASSWORD_ENV: Argument = Argument {
+    name: "new-password-env",
+    form: Form::Optional("NAME"),
+    group: Some("new-password"),
+    help: "The new password is the environment variable NAME",
+};
+
+const NEW_PASSWORD_STDIN: Argument = Argument {
+    name: "new-password-stdin",
+    form: Form::Flag,
+    group: Some("new-password"),
+    help: "The new password is the first line of the standard input",
+};
+
+const EMPTY_PASSWORD: Argument = Argument {
+    name: "allow-empty-password",
+    form: Form::Flag,
+    group: None,
+    help: "Let the new password be empty: the keys are then not protected",
+};
+
+const ROUNDS: Argument = Argument {
+    name: "rounds",
+    form: Form::Number("ROUNDS", "600000"),
+    group: None,
+    help: "Rounds of PBKDF2 for each exported key; more make a password harder to guess: 1 to 100000000",
+};
+
+const LIMIT: Argument = Argument {
+    name: "limit",
+    form: Form::Number("STEPS", "100000000"),
+    group: None,
+    help: "Refuse a store that takes more than this many steps (hash computations of key derivation) to open: 0 to 18446744073709551615",
+};
+
+/// Those of `export`, in the order of the help.
+static OF_EXPORT: [Argument; 13] = [
+    STORE,
+    OUT,
+    FORMAT,
+    FORCE,
+    PASSWORD_FILE,
+    PASSWORD_ENV,
+    PASSWORD_STDIN,
+    NEW_PASSWORD_FILE,
+    NEW_PASSWORD_ENV,
+    NEW_PASSWORD_STDIN,
+    EMPTY_PASSWORD,
+    ROUNDS,
+    LIMIT,
+];
+
+/// Those of `check`.
+static OF_CHECK: [Argument; 5] = [STORE, PASSWORD_FILE, PASSWORD_ENV, PASSWORD_STDIN, LIMIT];
+
+/// An option that takes a value.
+fn option<'a>(arg: Arg<'a>, name: &'a str, value: &'a str) -> Arg<'a> {
+    arg.long(name).value_name(value)
 }
 
-fn format<'a>(alloc: Global) -> Arg<'a> {
-    Arg::new(alloc, "format")
-        .long("format")
-        .value_name("FORMAT")
-        .default_value("pem")
-        .help("How the files are written: pem or der")
+/// The argument, for clap.
+fn described<'a>(alloc: Global, argument: &Argument) -> Arg<'a> {
+    let name = argument.name;
+    let arg = Arg::new(alloc, name).help(argument.help);
+    match argument.form {
+        Form::Place(value) => arg.value_name(value).required(true),
+        Form::Required(value) => option(arg, name, value).required(true),
+        Form::Optional(value) => option(arg, name, value),
+        Form::Text(value, default) => option(arg, name, value).default_value(default),
+        Form::Number(value, default) => option(arg, name, value)
+            .allow_negative_numbers(true)
+            .default_value(default),
+        Form::Flag => arg.long(name).action(ArgAction::SetTrue),
+    }
 }
 
-fn force<'a>(alloc: Global) -> Arg<'a> {
-    Arg::new(alloc, "force")
-        .long("force")
-        .action(ArgAction::SetTrue)
-        .help(
-            "Replace DIR, with all that is in it, where it is not empty; no file that is read may be in it",
-        )
+/// The same, in its group where it has one.
+fn grouped<'a>(alloc: Global, argument: &Argument) -> Result<Arg<'a>, AllocError> {
+    let arg = described(alloc, argument);
+    match argument.group {
+        Some(group) => arg.group(group),
+        None => Ok(arg),
+    }
 }
 
-fn rounds<'a>(alloc: Global) -> Arg<'a> {
-    Arg::new(alloc, "rounds")
-        .long("rounds")
-        .value_name("ROUNDS")
-        .allow_negative_numbers(true)
-        .default_value("600000")
-        .help(
-            "Rounds of PBKDF2 for each exported key; more make a password harder to guess: 1 to 100000000",
-        )
-}
-
-fn empty_password<'a>(alloc: Global) -> Arg<'a> {
-    Arg::new(alloc, "allow-empty-password")
-        .long("allow-empty-password")
-        .action(ArgAction::SetTrue)
-        .help("Let the new password be empty: the keys are then not protected")
-}
-
-/// The command with these options as a group, of which at most one is given.
-fn with_one_of<'a>(
+/// The command with these arguments.
+fn with_arguments<'a>(
+    alloc: Global,
     command: Command<'a>,
-    group: &'a str,
-    options: Vec<Arg<'a>>,
+    arguments: &[Argument],
 ) -> Result<Command<'a>, AllocError> {
     let mut command = command;
-    for option in options {
-        command = command.arg(option.group(group)?)?;
+    for argument in arguments {
+        command = command.arg(grouped(alloc, argument)?)?;
     }
     Ok(command)
 }
 
-/// The command with the three options for the store's password.
-fn with_password<'a>(alloc: Global, command: Command<'a>) -> Result<Command<'a>, AllocError> {
-    let file = Arg::new(alloc, "password-file")
-        .long("password-file")
-        .value_name("FILE")
-        .help("The store's password is the first line of FILE");
-    let variable = Arg::new(alloc, "password-env")
-        .long("password-env")
-        .value_name("NAME")
-        .help("The store's password is the environment variable NAME");
-    let standard = Arg::new(alloc, "password-stdin")
-        .long("password-stdin")
-        .action(ArgAction::SetTrue)
-        .help("The store's password is the first line of the standard input");
-    let options = Vec::from_array(alloc, [file, variable, standard])?;
-    with_one_of(command, "password", options)
-}
-
-/// The same for the new password.
-fn with_new_password<'a>(alloc: Global, command: Command<'a>) -> Result<Command<'a>, AllocError> {
-    let file = Arg::new(alloc, "new-password-file")
-        .long("new-password-file")
-        .value_name("FILE")
-        .help("The new password is the first line of FILE");
-    let variable = Arg::new(alloc, "new-password-env")
-        .long("new-password-env")
-        .value_name("NAME")
-        .help("The new password is the environment variable NAME");
-    let standard = Arg::new(alloc, "new-password-stdin")
-        .long("new-password-stdin")
-        .action(ArgAction::SetTrue)
-        .help("The new password is the first line of the standard input");
-    let options = Vec::from_array(alloc, [file, variable, standard])?;
-    with_one_of(command, "new-password", options)
-}
-
-fn export<'a>(alloc: Global) -> Result<Command<'a>, AllocError> {
-    let command = Command::new(alloc, "export")
-        .about(
-            "Write the certificates, and the private keys sealed under a new password, into a new folder",
-        )
-        .after_help(NOTES);
-    let places = Vec::from_array(
-        alloc,
-        [store(alloc), out(alloc), format(alloc), force(alloc)],
-    )?;
-    let command = with_password(alloc, command.args(places)?)?;
-    let command = with_new_password(alloc, command)?;
-    let bounds = Vec::from_array(alloc, [empty_password(alloc), rounds(alloc), limit(alloc)])?;
-    command.args(bounds)
-}
-
-fn check<'a>(alloc: Global) -> Result<Command<'a>, AllocError> {
-    let command = Command::new(alloc, "check")
-        .about("Open the store, write nothing, and say what is in it")
-        .after_help(NOTES)
-        .arg(store(alloc))?;
-    with_password(alloc, command)?.arg(limit(alloc))
+/// The command with one subcommand more.
+fn with_subcommand<'a>(
+    alloc: Global,
+    command: Command<'a>,
+    name: &'a str,
+    about: &'a str,
+    arguments: &[Argument],
+) -> Result<Command<'a>, AllocError> {
+    let subcommand = Command::new(alloc, name).about(about).after_help(NOTES);
+    command.subcommand(with_arguments(alloc, subcommand, arguments)?)
 }
 
 fn self_test<'a>(alloc: Global) -> Command<'a> {
@@ -184,22 +243,34 @@ fn self_test<'a>(alloc: Global) -> Command<'a> {
     )
 }
 
-fn subcommands<'a>(alloc: Global) -> Result<Vec<Command<'a>>, AllocError> {
-    let export = export(alloc)?;
-    let check = check(alloc)?;
-    Ok(Vec::from_array(alloc, [export, check, self_test(alloc)])?)
+/// The command with its subcommands.
+fn with_subcommands<'a>(alloc: Global, command: Command<'a>) -> Result<Command<'a>, AllocError> {
+    let command = with_subcommand(
+        alloc,
+        command,
+        "export",
+        "Write the certificates, and the private keys sealed under a new password, into a new folder",
+        &OF_EXPORT,
+    )?;
+    let command = with_subcommand(
+        alloc,
+        command,
+        "check",
+        "Open the store, write nothing, and say what is in it",
+        &OF_CHECK,
+    )?;
+    command.subcommand(self_test(alloc))
 }
 
 /// The whole command.
 pub fn command<'a>(alloc: Global) -> Result<Command<'a>, AllocError> {
-    let subcommands = subcommands(alloc)?;
-    Command::new(alloc, "pkcs12")
+    let command = Command::new(alloc, "pkcs12")
         .bin_name("pkcs12")?
         .version("0.1.0")
         .about("Open a PKCS#12 store, and take out its certificates and private keys")
         .after_help(AFTER)
         .subcommand_required(true)
         .arg_required_else_help(true)
-        .disable_help_subcommand(true)
-        .subcommands(subcommands)
+        .disable_help_subcommand(true);
+    with_subcommands(alloc, command)
 }

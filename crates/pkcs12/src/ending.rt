@@ -3,11 +3,11 @@ ghost use Rattle.std.specs.Prelude.{◌≡◌};
 ghost use Rattle.pkcs12.specs.Ending.{code_of};
 
 use std::alloc::{AllocError, AllocFailed, Global};
-use std::{fmt, io};
+use std::io;
 use transfer::{Status, TransferError};
 
 /// The kinds of failure. The text of `--help` has them in a table, with their numbers.
-#[derive(Clone, Copy, Debug, PartialEq, Eq)]
+#[derive(Clone, Copy)]
 pub enum Ending {
     /// The arguments are not those of a subcommand, or one of them is outside its bounds.
     Usage,
@@ -50,27 +50,26 @@ impl Ending {
             Ending::Refused(refusal) => Status::from(refusal).code(),
         }
     }
-}
 
-impl fmt::Display for Ending {
-    fn fmt<W: fmt::Write>(&self, f: &mut fmt::Formatter<W>) -> fmt::Result {
+    /// The name that the table has beside the number.
+    pub fn name(self) -> &'static str {
         match self {
-            Ending::Usage => f.write_str("Usage"),
-            Ending::ReadFault => f.write_str("ReadFault"),
-            Ending::WriteFault => f.write_str("WriteFault"),
-            Ending::Memory => f.write_str("Memory"),
-            Ending::PasswordMissing => f.write_str("PasswordMissing"),
-            Ending::NewPasswordMissing => f.write_str("NewPasswordMissing"),
-            Ending::PasswordUnusable => f.write_str("PasswordUnusable"),
-            Ending::OutputExists => f.write_str("OutputExists"),
-            Ending::SelfTestFailed => f.write_str("SelfTestFailed"),
-            Ending::Refused(refusal) => write!(f, "{refusal}"),
+            Ending::Usage => "Usage",
+            Ending::ReadFault => "ReadFault",
+            Ending::WriteFault => "WriteFault",
+            Ending::Memory => "Memory",
+            Ending::PasswordMissing => "PasswordMissing",
+            Ending::NewPasswordMissing => "NewPasswordMissing",
+            Ending::PasswordUnusable => "PasswordUnusable",
+            Ending::OutputExists => "OutputExists",
+            Ending::SelfTestFailed => "SelfTestFailed",
+            Ending::Refused(refusal) => Status::from(refusal).name(),
         }
     }
 }
 
 /// Text for the user.
-#[derive(Debug, Drop)]
+#[derive(Drop)]
 pub enum Message {
     Fixed(&'static str),
     Made(String),
@@ -86,7 +85,7 @@ impl Message {
 }
 
 /// A failure: its kind, and what exactly was wrong.
-#[derive(Debug, Drop)]
+#[derive(Drop)]
 pub struct Failure {
     pub ending: Ending,
     pub message: Message,
@@ -111,6 +110,14 @@ impl Failure {
         }
     }
 
+    /// The failure with a text that was made for it; `Memory` where there was none for the text.
+    pub fn told(ending: Ending, text: Result<String, AllocError>) -> Failure {
+        match text {
+            Ok(text) => Failure::with(ending, text),
+            Err(refused) => Failure::from(refused),
+        }
+    }
+
     /// The failure of a call on the system, for this purpose and at this path.
     pub fn io(
         alloc: Global,
@@ -122,10 +129,7 @@ impl Failure {
         if error.kind() == io::ErrorKind::OutOfMemory {
             return Failure::from(AllocError);
         }
-        match format!(in alloc; "{purpose} {path}: {error}") {
-            Ok(text) => Failure::with(ending, text),
-            Err(_) => Failure::from(AllocError),
-        }
+        Failure::told(ending, format!(in alloc; "{purpose} {path}: {error}"))
     }
 }
 

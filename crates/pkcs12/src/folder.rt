@@ -4,7 +4,7 @@ use crate::request::Format;
 use asn1_core::Octets;
 use pem_text::pem_of;
 use std::alloc::{AllocError, Global};
-use std::fs::{DirBuilder, OpenFile, OpenOptions};
+use std::fs::{DirBuilder, Metadata, OpenFile, OpenOptions};
 use std::io::Write;
 use std::os::unix::fs::{DirBuilderExt, OpenOptionsExt};
 use std::rt::Files;
@@ -56,10 +56,7 @@ fn is_empty<R: Files + AllocGlobal + Clone + Drop>(rt: &R, path: &str) -> io::Re
 }
 
 fn in_the_way(alloc: Global, path: &str, what: &str) -> Failure {
-    match format!(in alloc; "{path} {what}") {
-        Ok(text) => Failure::with(Ending::OutputExists, text),
-        Err(refused) => Failure::from(refused),
-    }
+    Failure::told(Ending::OutputExists, format!(in alloc; "{path} {what}"))
 }
 
 fn write_fault(alloc: Global, purpose: &str, path: &str, error: io::Error) -> Failure {
@@ -70,24 +67,20 @@ fn write_fault(alloc: Global, purpose: &str, path: &str, error: io::Error) -> Fa
 /// number left it.
 fn not_made(alloc: Global, part: &str, error: io::Error) -> Failure {
     if error.kind() == io::ErrorKind::AlreadyExists {
-        return match format!(in alloc;
+        let text = format!(in alloc;
             "{part} is left of a run that was killed; remove it: rm -r {part}"
-        ) {
-            Ok(text) => Failure::with(Ending::WriteFault, text),
-            Err(refused) => Failure::from(refused),
-        };
+        );
+        return Failure::told(Ending::WriteFault, text);
     }
     write_fault(alloc, "the folder", part, error)
 }
 
 /// The failure where the folder that stood at the path could not be given its name back.
 fn not_put_back(alloc: Global, path: &str, old: &str, error: io::Error) -> Failure {
-    match format!(in alloc;
+    let text = format!(in alloc;
         "the output folder {path}: {error}; the folder that stood there is now at {old}"
-    ) {
-        Ok(text) => Failure::with(Ending::WriteFault, text),
-        Err(refused) => Failure::from(refused),
-    }
+    );
+    Failure::told(Ending::WriteFault, text)
 }
 
 /// Removes a folder. Where that fails, a line on the standard error says so.
@@ -121,6 +114,45 @@ fn new_folder<'a, R: Files + AllocGlobal>(rt: &R, path: &'a str) -> Result<Folde
     }
 }
 
+/// Where something stands at the path: a folder is taken where it is empty, or `force` is set.
+fn found<'a, R: Files + AllocGlobal + Clone + Drop>(
+    rt: &R,
+    path: &'a str,
+    there: &Metadata,
+    force: bool,
+) -> Result<Folder<'a>, Failure> {
+    if there.is_symlink() {
+        return Err(in_the_way(rt.alloc(), path, "is a link, and not a folder"));
+    }
+    if !there.is_dir() {
+        return Err(in_the_way(rt.alloc(), path, "is there already, and is not a folder"));
+    }
+    match is_empty(rt, path) {
+        Ok(empty) if empty || force => Ok(Folder {
+            path,
+            replaces: !empty,
+        }),
+        Ok(_) => Err(in_the_way(rt.alloc(), path, "is there already, and is not empty")),
+        Err(error) => Err(write_fault(rt.alloc(), "the output folder", path, error)),
+    }
+}
+
+/// The failure where `--force` would remove this file.
+fn would_go(alloc: Global, file: &str, path: &str) -> Failure {
+    let text = format!(in alloc;
+        "{file} lies in {path}, and --force would remove it with all that is there"
+    );
+    Failure::told(Ending::Usage, text)
+}
+
+/// Makes the folder in which the answer is begun, which only its owner may read.
+fn make<R: Files + AllocGlobal>(rt: &R, part: &str) -> Result<(), Failure> {
+    match DirBuilder::new().mode(0o700).create(rt, part) {
+        Ok(()) => Ok(()),
+        Err(error) => Err(not_made(rt.alloc(), part, error)),
+    }
+}
+
 impl<'a> Folder<'a> {
     /// The folder at this path. `OutputExists` where something is there other than an empty folder, unless it is a folder
     /// and `force` is set.
@@ -130,29 +162,9 @@ impl<'a> Folder<'a> {
         force: bool,
     ) -> Result<Folder<'a>, Failure> {
         let path = named_folder(out)?;
-        let there = match fs::symlink_metadata(rt, path) {
-            Ok(there) => there,
-            Err(error) if error.kind() == io::ErrorKind::NotFound => return new_folder(rt, path),
-            Err(error) => {
-                return Err(write_fault(rt.alloc(), "the output folder", path, error));
-            }
-        };
-        if there.is_symlink() {
-            return Err(in_the_way(rt.alloc(), path, "is a link, and not a folder"));
-        }
-        if !there.is_dir() {
-            return Err(in_the_way(rt.alloc(), path, "is there already, and is not a folder"));
-        }
-        match is_empty(rt, path) {
-            Ok(true) => Ok(Folder {
-                path,
-                replaces: false,
-            }),
-            Ok(false) if force => Ok(Folder {
-                path,
-                replaces: true,
-            }),
-            Ok(false) => Err(in_the_way(rt.alloc(), path, "is there already, and is not empty")),
+        match fs::symlink_metadata(rt, path) {
+            Ok(there) => found(rt, path, &there, force),
+            Err(error) if error.kind() == io::ErrorKind::NotFound => new_folder(rt, path),
             Err(error) => Err(write_fault(rt.alloc(), "the output folder", path, error)),
         }
     }
@@ -163,15 +175,7 @@ impl<'a> Folder<'a> {
             return Ok(());
         }
         match lies_in(rt, file, self.path) {
-            Ok(true) => {
-                let path = self.path;
-                Err(Failure::with(
-                    Ending::Usage,
-                    format!(in rt.alloc();
-                        "{file} lies in {path}, and --force would remove it with all that is there"
-                    )?,
-                ))
-            }
+            Ok(true) => Err(would_go(rt.alloc(), file, self.path)),
             Ok(false) => Ok(()),
             Err(error) if error.kind() == io::ErrorKind::OutOfMemory => {
                 Err(Failure::from(AllocError))
@@ -194,19 +198,26 @@ impl<'a> Folder<'a> {
         let path = self.path;
         let part = format!(in rt.alloc(); "{path}.part-{process}")?;
         let old = format!(in rt.alloc(); "{path}.old-{process}")?;
-        if let Err(error) = DirBuilder::new().mode(0o700).create(rt, &part) {
-            return Err(not_made(rt.alloc(), part.as_str(), error));
+        make(rt, part.as_str())?;
+        let written = self.fill_and_place(rt, part.as_str(), old.as_str(), format, transferred);
+        if written.is_err() {
+            remove_or_tell(rt, part.as_str(), "the new folder");
         }
-        let written = match fill(rt, part.as_str(), format, transferred) {
-            Ok(()) => self.place(rt, part.as_str(), old.as_str()),
-            Err(error) => Err(write_fault(rt.alloc(), "the output folder", path, error)),
-        };
-        match written {
-            Ok(()) => Ok(()),
-            Err(failure) => {
-                remove_or_tell(rt, part.as_str(), "the new folder");
-                Err(failure)
-            }
+        written
+    }
+
+    /// Writes all of it into the folder in which the answer is begun, and puts that in its place.
+    fn fill_and_place<R: Files + Eprint + AllocGlobal>(
+        &self,
+        rt: &R,
+        part: &str,
+        old: &str,
+        format: Format,
+        transferred: &Transferred,
+    ) -> Result<(), Failure> {
+        match fill(rt, part, format, transferred) {
+            Ok(()) => self.place(rt, part, old),
+            Err(error) => Err(write_fault(rt.alloc(), "the output folder", self.path, error)),
         }
     }
 
@@ -261,35 +272,41 @@ fn write_new<R: Files>(rt: &R, path: &str, octets: &[u8]) -> io::Result<()> {
     file.write_all(octets)
 }
 
-/// Writes a file's octets in this format, under this label.
+/// The files of one kind.
+#[derive(Clone, Copy)]
+struct Kind<'a> {
+    folder: &'a str,
+    /// How their names begin.
+    name: &'static str,
+    /// What stands in the boundaries of their PEM text.
+    label: &'static str,
+    format: Format,
+}
+
+/// Writes one of them under its number.
 fn write_one<R: Files + AllocGlobal>(
     rt: &R,
-    path: &str,
-    format: Format,
-    label: &str,
+    kind: &Kind<'_>,
+    number: usize,
     octets: &[u8],
 ) -> io::Result<()> {
-    match format {
-        Format::Der => write_new(rt, path, octets),
-        Format::Pem => match pem_of(rt.alloc(), label, octets) {
-            Ok(text) => write_new(rt, path, text.as_slice()),
+    let folder = kind.folder;
+    let name = kind.name;
+    let suffix = kind.format.suffix();
+    let path = format!(in rt.alloc(); "{folder}/{name}-{number}.{suffix}")?;
+    match kind.format {
+        Format::Der => write_new(rt, path.as_str(), octets),
+        Format::Pem => match pem_of(rt.alloc(), kind.label, octets) {
+            Ok(text) => write_new(rt, path.as_str(), text.as_slice()),
             Err(_) => Err(io::Error::from(io::ErrorKind::OutOfMemory)),
         },
     }
 }
 
-/// Writes each of these under its number.
-fn write_each<R: Files + AllocGlobal>(
-    rt: &R,
-    name: &str,
-    format: Format,
-    label: &str,
-    each: &[Octets],
-) -> io::Result<()> {
-    let suffix = format.suffix();
+/// Writes each of these.
+fn write_each<R: Files + AllocGlobal>(rt: &R, kind: &Kind<'_>, each: &[Octets]) -> io::Result<()> {
     for (i, octets) in each.iter().enumerate() {
-        let path = format!(in rt.alloc(); "{name}-{i}.{suffix}")?;
-        write_one(rt, path.as_str(), format, label, octets.as_slice())?;
+        write_one(rt, kind, i, octets.as_slice())?;
     }
     Ok(())
 }
@@ -301,20 +318,18 @@ fn fill<R: Files + AllocGlobal>(
     format: Format,
     transferred: &Transferred,
 ) -> io::Result<()> {
-    let certificate = format!(in rt.alloc(); "{folder}/cert")?;
-    let key = format!(in rt.alloc(); "{folder}/key")?;
-    write_each(
-        rt,
-        certificate.as_str(),
+    let certificates = Kind {
+        folder,
+        name: "cert",
+        label: "CERTIFICATE",
         format,
-        "CERTIFICATE",
-        transferred.certificates.as_slice(),
-    )?;
-    write_each(
-        rt,
-        key.as_str(),
+    };
+    let documents = Kind {
+        folder,
+        name: "key",
+        label: "ENCRYPTED PRIVATE KEY",
         format,
-        "ENCRYPTED PRIVATE KEY",
-        transferred.documents.as_slice(),
-    )
+    };
+    write_each(rt, &certificates, transferred.certificates.as_slice())?;
+    write_each(rt, &documents, transferred.documents.as_slice())
 }

@@ -45,7 +45,7 @@ impl fmt::Display for Escaped<'_> {
     fn fmt<W: fmt::Write>(&self, f: &mut fmt::Formatter<W>) -> fmt::Result {
         for c in self.0.chars() {
             if c.is_control() || c == '"' || c == '\\' {
-                write!(f, "\\u{{{:x}}}", u32::from(c))?;
+                c.escape_unicode().fmt(f)?;
             } else {
                 f.write_char(c)?;
             }

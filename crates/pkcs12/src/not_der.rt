@@ -1,28 +1,27 @@
 //! Signs that octets are in BER, which DER does not have (X.690 sections 8.1.3 and 10.1, 10.2).
 ghost use Rattle.std.specs.Prelude.{◌≤◌, IfSome, length};
 
-use std::fmt;
-
 /// What BER has and DER has not.
-#[derive(Clone, Copy, Debug, PartialEq, Eq)]
+#[derive(Clone, Copy)]
 pub enum Form {
     IndefiniteLength,
     StringInParts,
     LongLength,
 }
 
-impl fmt::Display for Form {
-    fn fmt<W: fmt::Write>(&self, f: &mut fmt::Formatter<W>) -> fmt::Result {
+impl Form {
+    /// What it is called.
+    pub fn name(self) -> &'static str {
         match self {
-            Form::IndefiniteLength => f.write_str("an element of indefinite length"),
-            Form::StringInParts => f.write_str("a string in parts"),
-            Form::LongLength => f.write_str("a length in more octets than it takes"),
+            Form::IndefiniteLength => "an element of indefinite length",
+            Form::StringInParts => "a string in parts",
+            Form::LongLength => "a length in more octets than it takes",
         }
     }
 }
 
 /// The first such sign, and the octet at which its element begins, counted from 0.
-#[derive(Clone, Copy, Debug, PartialEq, Eq)]
+#[derive(Clone, Copy)]
 pub struct NotDer {
     pub at: usize,
     pub form: Form,

@@ -63,17 +63,15 @@ fn password_of(alloc: Global, octets: &[u8], purpose: &'static str) -> Result<Pa
     }
     match std::str::from_utf8(line) {
         Ok(text) => Password::new(String::from_str(alloc, text)?),
-        Err(_) => Err(not_utf8(alloc, purpose)?),
+        Err(_) => Err(not_utf8(alloc, purpose)),
     }
 }
 
-fn not_utf8(alloc: Global, purpose: &'static str) -> Result<Failure, AllocError> {
-    Ok(Failure::with(
-        Ending::PasswordUnusable,
-        format!(in alloc;
-            "the {purpose} is not UTF-8; is it in another encoding, such as Latin-1 or UTF-16?"
-        )?,
-    ))
+fn not_utf8(alloc: Global, purpose: &'static str) -> Failure {
+    let text = format!(in alloc;
+        "the {purpose} is not UTF-8; is it in another encoding, such as Latin-1 or UTF-16?"
+    );
+    Failure::told(Ending::PasswordUnusable, text)
 }
 
 /// The octets of a reader to its first LF; no more than 1,027.
@@ -105,11 +103,11 @@ fn variable<R: Env + AllocGlobal>(
 ) -> Result<Password, Failure> {
     match env::var(rt, name) {
         Ok(text) => Password::new(text),
-        Err(VarError::NotUnicode) => Err(not_utf8(rt.alloc(), purpose)?),
+        Err(VarError::NotUnicode) => Err(not_utf8(rt.alloc(), purpose)),
         Err(VarError::OutOfMemory) => Err(Failure::from(AllocError)),
-        Err(VarError::NotPresent) => Err(Failure::with(
+        Err(VarError::NotPresent) => Err(Failure::told(
             Ending::ReadFault,
-            format!(in rt.alloc(); "the {purpose}: there is no environment variable {name}")?,
+            format!(in rt.alloc(); "the {purpose}: there is no environment variable {name}"),
         )),
     }
 }

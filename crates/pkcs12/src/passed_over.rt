@@ -7,7 +7,7 @@ use std::fmt;
 const BAG_TYPES: [u8; 10] = [0x2a, 0x86, 0x48, 0x86, 0xf7, 0x0d, 0x01, 0x0c, 0x0a, 0x01];
 
 /// A bag that is not transferred.
-#[derive(Clone, Copy, Debug, PartialEq, Eq)]
+#[derive(Clone, Copy, PartialEq)]
 pub enum PassedOver {
     /// keyBag: a private key that is not encrypted.
     PlainKey,

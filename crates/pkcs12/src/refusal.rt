@@ -33,7 +33,7 @@ fn malformed(alloc: Global, octets: &[u8]) -> Result<Option<String>, Failure> {
     }
     match not_der(octets) {
         Some(sign) => {
-            let form = sign.form;
+            let form = sign.form.name();
             let at = sign.at;
             Ok(Some(format!(in alloc;
                 "the store is in BER, and only DER is read: {form} begins at octet {at}"

@@ -11,7 +11,7 @@ use std::alloc::Global;
 const MOST_ROUNDS: u32 = 100_000_000;
 
 /// How files are written.
-#[derive(Clone, Copy, Debug, PartialEq, Eq)]
+#[derive(Clone, Copy)]
 pub enum Format {
     Pem,
     Der,
@@ -28,7 +28,7 @@ impl Format {
 }
 
 /// What `check` is asked for.
-#[derive(Clone, Copy)]
+#[derive(Drop)]
 pub struct Check<'a> {
     pub store: &'a str,
     pub password: Option<Origin<'a>>,
@@ -36,7 +36,7 @@ pub struct Check<'a> {
 }
 
 /// What `export` is asked for.
-#[derive(Clone, Copy)]
+#[derive(Drop)]
 pub struct Export<'a> {
     pub store: &'a str,
     pub out: &'a str,
@@ -51,7 +51,7 @@ pub struct Export<'a> {
 }
 
 /// What the command is asked for.
-#[derive(Clone, Copy)]
+#[derive(Drop)]
 pub enum Request<'a> {
     Check(Check<'a>),
     Export(Export<'a>),
@@ -70,34 +70,11 @@ pub fn rounds_of(alloc: Global, text: &str) -> Result<u32, Failure>
 {
     match text.parse::<u32>() {
         Ok(rounds) if rounds >= 1 && rounds <= MOST_ROUNDS => Ok(rounds),
-        _ => Err(Failure::with(
+        _ => Err(Failure::told(
             Ending::Usage,
             format!(in alloc;
                 "--rounds takes a whole number from 1 to 100000000, and not {text:?}"
-            )?,
-        )),
-    }
-}
-
-fn limit_of(alloc: Global, text: &str) -> Result<u64, Failure> {
-    match text.parse::<u64>() {
-        Ok(limit) => Ok(limit),
-        Err(_) => Err(Failure::with(
-            Ending::Usage,
-            format!(in alloc;
-                "--limit takes a whole number from 0 to 18446744073709551615, and not {text:?}"
-            )?,
-        )),
-    }
-}
-
-fn format_of(alloc: Global, text: &str) -> Result<Format, Failure> {
-    match text {
-        "pem" => Ok(Format::Pem),
-        "der" => Ok(Format::Der),
-        _ => Err(Failure::with(
-            Ending::Usage,
-            format!(in alloc; "--format takes pem or der, and not {text:?}")?,
+            ),
         )),
     }
 }
@@ -106,6 +83,31 @@ fn text_of<'a>(matches: &ArgMatches<'a>, name: &str) -> Result<&'a str, Failure>
     match matches.get_str(name) {
         Some(text) => Ok(text),
         None => Err(Failure::new(Ending::Usage, "an argument is missing")),
+    }
+}
+
+fn limit_of(alloc: Global, matches: &ArgMatches<'_>) -> Result<u64, Failure> {
+    let text = text_of(matches, "limit")?;
+    match text.parse::<u64>() {
+        Ok(limit) => Ok(limit),
+        Err(_) => Err(Failure::told(
+            Ending::Usage,
+            format!(in alloc;
+                "--limit takes a whole number from 0 to 18446744073709551615, and not {text:?}"
+            ),
+        )),
+    }
+}
+
+fn format_of(alloc: Global, matches: &ArgMatches<'_>) -> Result<Format, Failure> {
+    let text = text_of(matches, "format")?;
+    match text {
+        "pem" => Ok(Format::Pem),
+        "der" => Ok(Format::Der),
+        _ => Err(Failure::told(
+            Ending::Usage,
+            format!(in alloc; "--format takes pem or der, and not {text:?}"),
+        )),
     }
 }
 
@@ -164,7 +166,7 @@ fn check_asked<'a>(alloc: Global, matches: &ArgMatches<'a>) -> Result<Check<'a>,
     let store = text_of(matches, "store")?;
     let password = password_of(matches);
     takes_input_once(store, password, None)?;
-    let limit = limit_of(alloc, text_of(matches, "limit")?)?;
+    let limit = limit_of(alloc, matches)?;
     Ok(Check {
         store,
         password,
@@ -175,12 +177,12 @@ fn check_asked<'a>(alloc: Global, matches: &ArgMatches<'a>) -> Result<Check<'a>,
 fn export_asked<'a>(alloc: Global, matches: &ArgMatches<'a>) -> Result<Export<'a>, Failure> {
     let store = text_of(matches, "store")?;
     let out = text_of(matches, "out")?;
-    let format = format_of(alloc, text_of(matches, "format")?)?;
+    let format = format_of(alloc, matches)?;
     let password = password_of(matches);
     let new_password = new_password_of(matches);
     takes_input_once(store, password, new_password)?;
     let rounds = rounds_of(alloc, text_of(matches, "rounds")?)?;
-    let limit = limit_of(alloc, text_of(matches, "limit")?)?;
+    let limit = limit_of(alloc, matches)?;
     Ok(Export {
         store,
         out,
@@ -196,10 +198,17 @@ fn export_asked<'a>(alloc: Global, matches: &ArgMatches<'a>) -> Result<Export<'a
 
 /// What these matches ask for.
 pub fn request_of<'a>(alloc: Global, matches: &ArgMatches<'a>) -> Result<Request<'a>, Failure> {
-    match matches.subcommand() {
-        Some(("export", inner)) => Ok(Request::Export(export_asked(alloc, inner)?)),
-        Some(("check", inner)) => Ok(Request::Check(check_asked(alloc, inner)?)),
-        Some(("self-test", _)) => Ok(Request::SelfTest),
-        _ => Err(Failure::new(Ending::Usage, "give export, check or self-test; see --help")),
+    let Some((name, inner)) = matches.subcommand() else {
+        return Err(no_subcommand());
+    };
+    match name {
+        "export" => Ok(Request::Export(export_asked(alloc, inner)?)),
+        "check" => Ok(Request::Check(check_asked(alloc, inner)?)),
+        "self-test" => Ok(Request::SelfTest),
+        _ => Err(no_subcommand()),
     }
+}
+
+fn no_subcommand() -> Failure {
+    Failure::new(Ending::Usage, "give export, check or self-test; see --help")
 }

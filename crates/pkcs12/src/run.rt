@@ -11,6 +11,7 @@ use crate::refusal::with_detail;
 use crate::request::{Check, Export, Request, request_of};
 use crate::self_test::self_test;
 use crate::summary::{Counts, summary};
+use clap::ArgMatches;
 use clap::error::ErrorKind;
 use std::alloc::{AllocError, Global};
 use std::rt::{Env, Files, Runtime};
@@ -86,7 +87,7 @@ fn needs_new_password<R: Files + Env + AllocGlobal>(rt: &R, asked: &Export<'_>) 
 }
 
 /// What refuses a store that has no password yet: its own fault where that needs none, else that the password is missing.
-fn refused_unasked<R: Runtime + AllocGlobal>(rt: &R, store: &[u8], limit: u64) -> Failure {
+fn refused_unasked<R: Files + AllocGlobal>(rt: &R, store: &[u8], limit: u64) -> Failure {
     let empty = match Password::new(String::new(rt.alloc())) {
         Ok(empty) => empty,
         Err(failure) => return failure,
@@ -118,12 +119,7 @@ fn tell_work<R: Eprint>(rt: &R, work: u128, rounds: Option<u32>) -> io::Result<(
 }
 
 /// Says at a terminal that the work takes a while.
-fn tell_long_work<R: Runtime + AllocGlobal>(
-    rt: &R,
-    around: Surroundings,
-    store: &[u8],
-    rounds: Option<u32>,
-) {
+fn tell_long_work<R: Eprint>(rt: &R, around: Surroundings, store: &[u8], rounds: Option<u32>) {
     let work = visible_work(store);
     if around.at_terminal && (work > LONG_WORK || are_many(rounds)) {
         // A terminal that cannot be written to is no failure of the work.
@@ -141,7 +137,7 @@ struct Given {
 }
 
 /// Reads a store and its password.
-fn read_given<R: Runtime + AllocGlobal>(
+fn read_given<R: Files + Env + Input + AllocGlobal>(
     rt: &R,
     path: &str,
     origin: Option<Origin<'_>>,
@@ -165,7 +161,7 @@ fn summary_of(alloc: Global, given: &Given, counts: Counts) -> Result<String, Fa
 }
 
 /// Opens a store and keeps nothing of it.
-fn checked<R: Runtime + AllocGlobal>(rt: &R, given: &Given, limit: u64) -> Result<Counts, Failure> {
+fn checked<R: Files + AllocGlobal>(rt: &R, given: &Given, limit: u64) -> Result<Counts, Failure> {
     match check_store(rt, given.store.as_slice(), &given.password, limit) {
         Ok(counts) => Ok(counts),
         Err(failure) => Err(with_detail(
@@ -178,16 +174,10 @@ fn checked<R: Runtime + AllocGlobal>(rt: &R, given: &Given, limit: u64) -> Resul
 }
 
 /// The failure of a write to the standard output, where it failed.
-fn printed<R: AllocGlobal>(rt: &R, outcome: io::Result<()>) -> Result<(), Failure> {
+fn printed(alloc: Global, outcome: io::Result<()>) -> Result<(), Failure> {
     match outcome {
         Ok(()) => Ok(()),
-        Err(error) => Err(Failure::io(
-            rt.alloc(),
-            Ending::WriteFault,
-            "the",
-            "standard output",
-            error,
-        )),
+        Err(error) => Err(Failure::io(alloc, Ending::WriteFault, "the", "standard output", error)),
     }
 }
 
@@ -200,11 +190,11 @@ fn run_check<R: Runtime + AllocGlobal>(
     tell_long_work(rt, around, given.store.as_slice(), None);
     let counts = checked(rt, &given, asked.limit)?;
     let text = summary_of(rt.alloc(), &given, counts)?;
-    printed(rt, rt.print(text.as_str()))
+    printed(rt.alloc(), rt.print(text.as_str()))
 }
 
 /// The new password, where one is given.
-fn new_password<R: Runtime + AllocGlobal>(
+fn new_password<R: Files + Env + Input + AllocGlobal>(
     rt: &R,
     asked: &Export<'_>,
 ) -> Result<Option<Password>, Failure> {
@@ -218,7 +208,7 @@ fn new_password<R: Runtime + AllocGlobal>(
 }
 
 /// What is written of a store, with the keys under the new password.
-fn sealed<R: Runtime + AllocGlobal>(
+fn sealed<R: Files + Eprint + AllocGlobal>(
     rt: &R,
     around: Surroundings,
     asked: &Export<'_>,
@@ -300,7 +290,7 @@ fn inputs_stay<R: Files + AllocGlobal>(
 }
 
 /// The folder that is to be made, where it may be made and no file that is read would go with it.
-fn free_folder<'a, R: Runtime + AllocGlobal>(
+fn free_folder<'a, R: Files + AllocGlobal + Clone + Drop>(
     rt: &R,
     asked: &Export<'a>,
 ) -> Result<Folder<'a>, Failure> {
@@ -344,9 +334,9 @@ fn run_export<R: Runtime + AllocGlobal>(
     }
 }
 
-fn run_self_test<R: Runtime + AllocGlobal>(rt: &R) -> Result<(), Failure> {
+fn run_self_test<R: Print + AllocGlobal>(rt: &R) -> Result<(), Failure> {
     let lines = self_test(rt.alloc())?;
-    printed(rt, print!(rt; "{lines}"))
+    printed(rt.alloc(), print!(rt; "{lines}"))
 }
 
 /// What clap says of arguments that it refuses.
@@ -361,16 +351,16 @@ fn refused(alloc: Global, error: &clap::Error) -> Result<String, AllocError> {
 }
 
 /// The failure of arguments that clap refuses; none where it shows help or the version, which is printed.
-fn shown<R: Runtime + AllocGlobal>(rt: &R, error: clap::Error) -> Result<(), Failure> {
+fn shown<R: Print + Eprint + AllocGlobal>(rt: &R, error: clap::Error) -> Result<(), Failure> {
     match error.kind() {
         ErrorKind::OutOfMemory => Err(Failure::from(AllocError)),
-        ErrorKind::DisplayHelp | ErrorKind::DisplayVersion => printed(rt, error.print(rt)),
+        ErrorKind::DisplayHelp | ErrorKind::DisplayVersion => printed(rt.alloc(), error.print(rt)),
         _ => Err(Failure::with(Ending::Usage, refused(rt.alloc(), &error)?)),
     }
 }
 
 /// The arguments, the program's name among them.
-fn arguments<R: Runtime + AllocGlobal>(rt: &R) -> Result<Vec<String>, Failure> {
+fn arguments<R: Env + AllocGlobal>(rt: &R) -> Result<Vec<String>, Failure> {
     let mut words = Vec::new(rt.alloc());
     match env::args(rt) {
         Ok(all) => {
@@ -384,14 +374,15 @@ fn arguments<R: Runtime + AllocGlobal>(rt: &R) -> Result<Vec<String>, Failure> {
     }
 }
 
+/// Does what these matches ask for.
 fn answer<R: Runtime + AllocGlobal>(
     rt: &R,
     around: Surroundings,
-    request: &Request<'_>,
+    matches: &ArgMatches<'_>,
 ) -> Result<(), Failure> {
-    match request {
-        Request::Check(asked) => run_check(rt, around, asked),
-        Request::Export(asked) => run_export(rt, around, asked),
+    match request_of(rt.alloc(), matches)? {
+        Request::Check(asked) => run_check(rt, around, &asked),
+        Request::Export(asked) => run_export(rt, around, &asked),
         Request::SelfTest => run_self_test(rt),
     }
 }
@@ -401,13 +392,13 @@ pub fn run<R: Runtime + AllocGlobal>(rt: &R, around: Surroundings) -> Result<(),
     let words = arguments(rt)?;
     let command = command(rt.alloc())?;
     match command.try_get_matches_from(words.as_slice()) {
-        Ok(matches) => answer(rt, around, &request_of(rt.alloc(), &matches)?),
+        Ok(matches) => answer(rt, around, &matches),
         Err(error) => shown(rt, error),
     }
 }
 
 /// Whether the wrapper asks for what is missing.
-fn is_asked_for<R: Runtime + AllocGlobal>(rt: &R, ending: Ending) -> bool {
+fn is_asked_for<R: Env + AllocGlobal>(rt: &R, ending: Ending) -> bool {
     match ending {
         Ending::PasswordMissing | Ending::NewPasswordMissing => env::var(rt, ASKING).is_ok(),
         _ => false,
@@ -415,13 +406,14 @@ fn is_asked_for<R: Runtime + AllocGlobal>(rt: &R, ending: Ending) -> bool {
 }
 
 /// Says on the standard error what failed, and what to do.
-pub fn explain<R: Runtime + AllocGlobal>(rt: &R, failure: &Failure) -> io::Result<()> {
+pub fn explain<R: Env + Eprint + AllocGlobal>(rt: &R, failure: &Failure) -> io::Result<()> {
     let ending = failure.ending;
     if is_asked_for(rt, ending) {
         return Ok(());
     }
     let code = ending.code();
     let message = failure.message.as_str();
+    let name = ending.name();
     let advice = advice(ending);
-    eprintln!(rt; "pkcs12: {ending} ({code}): {message}\n{advice}")
+    eprintln!(rt; "pkcs12: {name} ({code}): {message}\n{advice}")
 }
