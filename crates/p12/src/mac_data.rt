@@ -123,9 +123,10 @@ impl MacData {
         ensures ok { IfOk result (λ v. v ≡ self.now) }
         ensures err { IfErr result (λ e. e ≡ Error.Memory) }
     {
+        let salt = self.salt.try_clone(alloc)?;
         Ok(MacData {
             mac: self.mac.try_clone(alloc)?,
-            salt: self.salt.try_clone(alloc)?,
+            salt,
             iterations: self.iterations,
         })
     }
