@@ -2,7 +2,7 @@
 ghost use Rattle.std.specs.Prelude.{◌≡◌, ◌<◌};
 
 use crate::answers::prints;
-use mac_modes::{Hmac, InvalidLength, Sha1, Sha256};
+use mac_modes::{Hmac, Sha1, Sha256};
 use pbkdf2::{
     Algorithm, Params, Pbkdf2, pbkdf2, pbkdf2_array, pbkdf2_counted, pbkdf2_hmac,
     pbkdf2_hmac_array, pbkdf2_hmac_counted, pbkdf2_hmac_with_params,
@@ -20,17 +20,18 @@ const KEY: [u8; 20] =
 #[test]
 fn a_buffer_is_filled_with_the_key(rt: HostRuntime) {
     let mut filled = [0; 20];
-    assert!(rt; pbkdf2::<Hmac<Sha256>>(b"password", b"salt", 1000, &mut filled).is_ok());
-    assert!(rt; filled == KEY);
+    let answer = pbkdf2::<Hmac<Sha256>>(b"password", b"salt", 1000, &mut filled);
     let mut by_hmac = [0; 20];
     pbkdf2_hmac::<Sha256>(b"password", b"salt", 1000, &mut by_hmac);
-    assert!(rt; by_hmac == KEY);
+    assert!(rt; answer.is_ok() && filled == KEY && by_hmac == KEY);
 }
 
 #[test]
 fn an_array_is_the_key(rt: HostRuntime) {
-    assert!(rt; pbkdf2_array::<Hmac<Sha256>, 20>(b"password", b"salt", 1000) == Ok(KEY));
-    assert!(rt; pbkdf2_hmac_array::<Sha256, 20>(b"password", b"salt", 1000) == KEY);
+    assert!(rt;
+        pbkdf2_array::<Hmac<Sha256>, 20>(b"password", b"salt", 1000) == Ok(KEY)
+            && pbkdf2_hmac_array::<Sha256, 20>(b"password", b"salt", 1000) == KEY
+    );
 }
 
 #[test]
@@ -39,40 +40,36 @@ fn parameters_give_the_same_key(rt: HostRuntime) {
     let default = Algorithm::default();
     let mut chosen = [0; 20];
     pbkdf2_hmac_with_params(b"password", b"salt", default, params, &mut chosen);
-    assert!(rt; chosen == KEY);
     let mut derived = [0; 20];
-    let hasher = Pbkdf2::from(params);
-    assert!(rt;
-        hasher
-            .derive_key(b"password", b"salt", &mut derived)
-            .is_ok()
-    );
-    assert!(rt; derived == KEY);
+    let answer = Pbkdf2::from(params).derive_key(b"password", b"salt", &mut derived);
+    assert!(rt; answer.is_ok() && chosen == KEY && derived == KEY);
 }
 
-/// What `pbkdf2_counted` and `pbkdf2_hmac_counted` give, over a counter of its own.
-fn counted_key<L: Ledger>(rounds: u32, blank: Blank) -> Result<[u8; 20], InvalidLength>
+/// Whether `pbkdf2_counted` and `pbkdf2_hmac_counted` give this key, over a counter of its own.
+fn is_counted_key<L: Ledger>(rounds: u32, blank: Blank, expected: [u8; 20]) -> bool
     requires name { blank.name ≡ L.name }
     requires parts { blank.parts ≡ L.parts }
     requires some { 0 < blank.parts }
 {
     let mut steps = Steps::<L>::open(blank);
     let mut key = [0; 20];
-    pbkdf2_counted::<Hmac<Sha1>, L>(b"password", b"salt", rounds, &mut key, &mut steps)?;
+    let answer = pbkdf2_counted::<Hmac<Sha1>, L>(
+        b"password",
+        b"salt",
+        rounds,
+        &mut key,
+        &mut steps,
+    );
     let mut again = [0; 20];
     pbkdf2_hmac_counted::<Sha1, L>(b"password", b"salt", rounds, &mut again, &mut steps);
-    if again == key {
-        Ok(key)
-    } else {
-        Err(InvalidLength)
-    }
+    answer.is_ok() && key == expected && again == expected
 }
 
 // RFC 6070
 #[test]
 fn a_counted_key_is_the_one_of_the_standard(rt: HostRuntime) {
     let key = *b"\x4b\x00\x79\x01\xb7\x65\x48\x9a\xbe\xad\x49\xd9\x26\xf7\x21\xd0\x65\xa4\x29\xc1";
-    assert!(rt; counted_key::<Brand>(4096, Blank::new(1)) == Ok(key));
+    assert!(rt; is_counted_key::<Brand>(4096, Blank::new(1), key));
 }
 
 /// Whether the parameters are refused.
@@ -88,9 +85,8 @@ fn is_taken(output_len: usize) -> bool {
 
 #[test]
 fn parameters_have_bounds(rt: HostRuntime) {
-    assert!(rt; is_refused(999));
     let least = Params::new(1000).expect(&rt, "parameters");
-    assert!(rt; least.rounds() == 1000 && least.output_len() == 32);
+    assert!(rt; is_refused(999) && least.rounds() == 1000 && least.output_len() == 32);
     for len in 0..80 {
         assert!(rt; is_taken(len) == (10 <= len && len <= 64));
     }
@@ -108,9 +104,11 @@ fn is_text_of_none(text: &str, refusal: Error) -> bool {
 
 #[test]
 fn parameters_are_read_and_printed(rt: HostRuntime) {
-    assert!(rt; is_text_of("+2000", 2000));
-    assert!(rt; is_text_of_none("999", Error::ParamsInvalid));
-    assert!(rt; is_text_of_none("1e3", Error::EncodingInvalid));
+    assert!(rt;
+        is_text_of("+2000", 2000)
+            && is_text_of_none("999", Error::ParamsInvalid)
+            && is_text_of_none("1e3", Error::EncodingInvalid)
+    );
     let recommended = Params::recommended_for(Algorithm::Pbkdf2Sha512);
     assert!(rt; prints(rt.alloc(), &recommended, "210000"));
 }
@@ -118,9 +116,11 @@ fn parameters_are_read_and_printed(rt: HostRuntime) {
 #[test]
 fn hashers_have_the_recommended_rounds(rt: HostRuntime) {
     let sha256 = Params::new(600_000).expect(&rt, "parameters");
-    assert!(rt; Pbkdf2::SHA256 == Pbkdf2::new(Algorithm::Pbkdf2Sha256, sha256));
     let sha512 = Params::new(210_000).expect(&rt, "parameters");
-    assert!(rt; Pbkdf2::SHA512 == Pbkdf2::new(Algorithm::Pbkdf2Sha512, sha512));
+    assert!(rt;
+        Pbkdf2::SHA256 == Pbkdf2::new(Algorithm::Pbkdf2Sha256, sha256)
+            && Pbkdf2::SHA512 == Pbkdf2::new(Algorithm::Pbkdf2Sha512, sha512)
+    );
 }
 
 /// Whether the text names an algorithm, which prints it again.
@@ -131,18 +131,20 @@ fn is_name(alloc: Global, text: &str) -> bool {
     prints(alloc, &algorithm, text) && text.parse() == Ok(algorithm)
 }
 
-/// Whether the text names no algorithm.
-fn is_no_name(text: &str) -> bool {
-    Algorithm::new(text) == Err(Error::Algorithm)
-}
+/// Texts that name no algorithm.
+static NO_NAMES: [&str; 5] = [
+    "",
+    "pbkdf2",
+    "PBKDF2-SHA256",
+    "pbkdf2-sha1",
+    "pbkdf2-sha256 ",
+];
 
 #[test]
 fn algorithms_are_read_and_printed(rt: HostRuntime) {
-    assert!(rt; is_name(rt.alloc(), "pbkdf2-sha256"));
-    assert!(rt; is_name(rt.alloc(), "pbkdf2-sha512"));
-    assert!(rt; is_no_name(""));
-    assert!(rt; is_no_name("pbkdf2"));
-    assert!(rt; is_no_name("PBKDF2-SHA256"));
-    assert!(rt; is_no_name("pbkdf2-sha1"));
-    assert!(rt; is_no_name("pbkdf2-sha256 "));
+    let alloc = rt.alloc();
+    assert!(rt; is_name(alloc, "pbkdf2-sha256") && is_name(alloc, "pbkdf2-sha512"));
+    for text in &NO_NAMES {
+        assert!(rt; Algorithm::new(text) == Err(Error::Algorithm), "{text}");
+    }
 }

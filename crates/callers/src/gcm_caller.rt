@@ -19,5 +19,5 @@ fn open(key: &[u8; 32], nonce: &[u8; 12], buffer: &mut [u8]) -> Result<usize, Mo
 #[test]
 fn an_empty_text_is_opened(rt: HostRuntime) {
     let mut tag = *b"\x53\x0f\x8a\xfb\xc7\x45\x36\xb9\xa9\x63\xb4\xf1\xc4\xcb\x73\x8b";
-    assert_eq!(rt; open(&[0; 32], &[0; 12], &mut tag), Ok(0));
+    assert!(rt; open(&[0; 32], &[0; 12], &mut tag) == Ok(0));
 }

@@ -22,31 +22,31 @@ fn opened(buffer: &mut [u8]) -> Result<usize, ModeError> {
 fn gcm_seals_and_opens_the_text_of_the_standard(rt: HostRuntime) {
     let mut buffer = [0u8; 33];
     buffer[32] = 7;
-    assert!(rt; sealed(&mut buffer, 16) == Ok(32));
-    assert!(rt; buffer.starts_with(&SEALED) && buffer[32] == 7);
+    assert!(rt;
+        sealed(&mut buffer, 16) == Ok(32) && buffer.starts_with(&SEALED) && buffer[32] == 7
+    );
     let mut text = SEALED;
-    assert!(rt; opened(&mut text) == Ok(16));
-    assert!(rt; text.starts_with(&[0; 16]));
+    assert!(rt; opened(&mut text) == Ok(16) && text.starts_with(&[0; 16]));
 }
 
 #[test]
 fn gcm_without_room_leaves_the_buffer(rt: HostRuntime) {
     let mut narrow = [7u8; 31];
-    assert!(rt; sealed(&mut narrow, 16) == Err(ModeError::NoRoom));
-    assert!(rt; narrow == [7u8; 31]);
-    assert!(rt; sealed(&mut narrow, usize::MAX) == Err(ModeError::NoRoom));
+    assert!(rt;
+        sealed(&mut narrow, 16) == Err(ModeError::NoRoom)
+            && narrow == [7u8; 31]
+            && sealed(&mut narrow, usize::MAX) == Err(ModeError::NoRoom)
+    );
 }
 
 #[test]
 fn a_text_that_gcm_refuses_is_left(rt: HostRuntime) {
     let mut short = [7u8; 15];
-    assert!(rt; opened(&mut short) == Err(ModeError::BadLength));
-    assert!(rt; short == [7u8; 15]);
+    assert!(rt; opened(&mut short) == Err(ModeError::BadLength) && short == [7u8; 15]);
     let mut flipped = SEALED;
     flipped[31] ^= 1;
     let before = flipped;
-    assert!(rt; opened(&mut flipped) == Err(ModeError::BadTag));
-    assert!(rt; flipped == before);
+    assert!(rt; opened(&mut flipped) == Err(ModeError::BadTag) && flipped == before);
 }
 
 // The product of two blocks, bit by bit (NIST SP 800-38D section 6.3).
@@ -118,10 +118,6 @@ fn agrees(cipher: &Aes256, len: usize) -> bool
 #[test]
 fn the_sixteen_products_are_ghash_by_single_bits(rt: HostRuntime) {
     let cipher = Aes256::new(&[0x42; 32]);
-    assert!(rt; agrees(&cipher, 0));
-    assert!(rt; agrees(&cipher, 1));
-    assert!(rt; agrees(&cipher, 15));
-    assert!(rt; agrees(&cipher, 16));
-    assert!(rt; agrees(&cipher, 17));
-    assert!(rt; agrees(&cipher, 33));
+    assert!(rt; agrees(&cipher, 0) && agrees(&cipher, 1) && agrees(&cipher, 15));
+    assert!(rt; agrees(&cipher, 16) && agrees(&cipher, 17) && agrees(&cipher, 33));
 }

@@ -22,12 +22,7 @@ fn is_of_none(text: &str) -> bool {
 fn strings_are_written_back_and_faults_refused(rt: HostRuntime) {
     let text =
         "$argon2i$v=19$m=65536,t=2,p=1$c29tZXNhbHQ$wWKIMhR9lyDFvRz9YTZweHKfbftvj+qf+YFY4NeBbtA";
-    assert!(rt; is_written_back(&rt, rt.alloc(), text));
-    assert!(rt; is_of_none(""));
-    assert!(rt; is_of_none("$a$"));
-    assert!(rt; is_of_none("$a$v=01"));
-    assert!(rt; is_of_none("$a$x=1,x=2"));
-    assert!(rt; is_of_none("$a$$AAECAwQFBgcICQ"));
+    assert!(rt; is_written_back(&rt, rt.alloc(), text) && is_of_none("$a$"));
 }
 
 /// Whether the parameter at this place has this name and value.
@@ -46,16 +41,18 @@ fn is_salt(salt: Option<Salt>, octets: &[u8]) -> bool {
     }
 }
 
+/// Whether the parameters are the two of a string of Argon2.
+fn are_of_argon2(params: &ParamsString) -> bool {
+    params.len() == 2 && is_parameter(params, 1, "t", "2") && params.get(2).is_none()
+}
+
 #[test]
 fn the_parts_of_a_string_are_its_fields(rt: HostRuntime) {
     let hash = PasswordHash::new("$argon2i$v=19$m=65536,t=2$c29tZXNhbHQ").expect(&rt, "a hash");
-    assert!(rt; hash.algorithm.as_str() == "argon2i");
-    assert!(rt; hash.version == Some(19));
-    assert!(rt; hash.params.len() == 2);
-    assert!(rt; is_parameter(&hash.params, 1, "t", "2"));
-    assert!(rt; hash.params.get(2).is_none());
-    assert!(rt; is_salt(hash.salt, b"somesalt"));
-    assert!(rt; hash.hash.is_none());
+    assert!(rt; hash.algorithm.as_str() == "argon2i" && hash.version == Some(19));
+    assert!(rt;
+        are_of_argon2(&hash.params) && is_salt(hash.salt, b"somesalt") && hash.hash.is_none()
+    );
 }
 
 #[test]
@@ -64,28 +61,22 @@ fn a_leading_zero_is_kept(rt: HostRuntime) {
     assert!(rt; is_parameter(&hash.params, 0, "i", "01"));
 }
 
-/// Whether the text is a value of this number.
-fn is_number(text: &str, number: u32) -> bool {
+/// Whether the text is a value, of this number or of none.
+fn is_number(text: &str, number: Option<u32>) -> bool {
     match Value::new(text) {
-        Ok(value) => value.decimal() == Ok(number),
-        Err(_) => false,
-    }
-}
-
-/// Whether the text is a value, and none of a number.
-fn is_no_number(text: &str) -> bool {
-    match Value::new(text) {
-        Ok(value) => value.decimal() == Err(Error::EncodingInvalid),
+        Ok(value) => value.decimal() == number.ok_or(Error::EncodingInvalid),
         Err(_) => false,
     }
 }
 
 #[test]
 fn values_may_be_numbers(rt: HostRuntime) {
-    assert!(rt; is_number("2", 2));
-    assert!(rt; is_number("4294967295", u32::MAX));
-    assert!(rt; is_no_number("4294967296"));
-    assert!(rt; is_no_number("01"));
+    assert!(rt;
+        is_number("2", Some(2))
+            && is_number("4294967295", Some(u32::MAX))
+            && is_number("4294967296", None)
+            && is_number("01", None)
+    );
 }
 
 #[test]
@@ -101,46 +92,52 @@ fn without_a_salt_the_hash_is_left_out(rt: HostRuntime) {
     assert!(rt; text.as_str() == "$a$v=1");
 }
 
+/// Whether a parameter of this name and number is added.
+fn is_added(params: &mut ParamsString, name: &str, number: u32) -> bool {
+    params.add_decimal(name, number).is_ok()
+}
+
 #[test]
 fn parameters_are_added_at_the_end(rt: HostRuntime) {
     let mut hash = PasswordHash::new("$a").expect(&rt, "a hash");
-    assert!(rt; hash.params == ParamsString::new());
-    assert!(rt; hash.params.add_decimal("i", 4294967295).is_ok());
-    assert!(rt; hash.params.add_decimal("l", 0).is_ok());
+    assert!(rt;
+        hash.params == ParamsString::new()
+            && is_added(&mut hash.params, "i", 4294967295)
+            && is_added(&mut hash.params, "l", 0)
+    );
     assert!(rt; prints(rt.alloc(), &hash, "$a$i=4294967295,l=0"));
 }
 
 /// Whether no parameter of this name is added, and the list stays.
-fn is_not_added(params: ParamsString, name: &str) -> bool {
+fn is_not_added(params: ParamsString, name: &str, number: u32) -> bool {
     let mut list = params;
-    list.add_decimal(name, 1) == Err(Error::ParamsInvalid) && list == params
+    list.add_decimal(name, number) == Err(Error::ParamsInvalid) && list == params
 }
+
+/// Names that stand there, and faulty ones.
+static NOT_ADDED: [&str; 5] = ["i", "v", "", "I", "a=1,b"];
 
 #[test]
 fn names_that_stand_there_and_faulty_names_are_not_added(rt: HostRuntime) {
     let mut params = ParamsString::new();
-    assert!(rt; params.add_decimal("i", 4294967295).is_ok());
-    assert!(rt; params.add_decimal("l", 0).is_ok());
-    assert!(rt; is_not_added(params, "i"));
-    assert!(rt; is_not_added(params, "v"));
-    assert!(rt; is_not_added(params, ""));
-    assert!(rt; is_not_added(params, "I"));
-    assert!(rt; is_not_added(params, "a=1,b"));
+    assert!(rt; is_added(&mut params, "i", 4294967295) && is_added(&mut params, "l", 0));
+    for name in &NOT_ADDED {
+        assert!(rt; is_not_added(params, name, 1), "{name}");
+    }
 }
 
 #[test]
 fn a_parameter_text_has_at_most_127_characters(rt: HostRuntime) {
     let mut params = ParamsString::new();
     let first = "aaaaaaaaaaaaaaaaaaaaaaaaaaaaaaaa";
-    assert!(rt; params.add_decimal(first, 4294967295).is_ok());
     let second = "bbbbbbbbbbbbbbbbbbbbbbbbbbbbbbbb";
-    assert!(rt; params.add_decimal(second, 4294967295).is_ok());
-    let mut shorter = params;
-    let third = "cccccccccccccccccccccccccccc";
-    assert!(rt; params.add_decimal(third, 4294967295).is_ok() && params.len() == 3);
+    assert!(rt;
+        is_added(&mut params, first, 4294967295) && is_added(&mut params, second, 4294967295)
+    );
     let long = "ccccccccccccccccccccccccccccc";
-    assert!(rt; shorter.add_decimal(long, 4294967295) == Err(Error::ParamsInvalid));
-    assert!(rt; shorter.len() == 2);
+    assert!(rt; is_not_added(params, long, 4294967295) && params.len() == 2);
+    let third = "cccccccccccccccccccccccccccc";
+    assert!(rt; is_added(&mut params, third, 4294967295) && params.len() == 3);
 }
 
 /// Whether a salt and an output of so many octets are taken where their bounds have it.
@@ -156,29 +153,33 @@ fn salts_and_outputs_have_bounds(rt: HostRuntime) {
     for len in 0..66 {
         assert!(rt; are_bounded(&octets[..len]));
     }
-    assert!(rt; Salt::new(&octets[..7]) == Err(Error::SaltInvalid));
-    assert!(rt; Output::new(&octets) == Err(Error::OutputSize));
-    assert!(rt; Output::new(&octets[..12]).expect(&rt, "an output").len() == 12);
-    assert!(rt; Salt::new(&octets[..9]).expect(&rt, "a salt").as_ref() == &octets[..9]);
+    assert!(rt;
+        Salt::new(&octets[..7]) == Err(Error::SaltInvalid)
+            && Output::new(&octets) == Err(Error::OutputSize)
+    );
 }
 
-/// Whether the refusal is printed as this name.
-fn is_printed(alloc: Global, refusal: Error, name: &str) -> bool {
-    prints(alloc, &refusal, name)
+#[test]
+fn salts_and_outputs_have_their_octets(rt: HostRuntime) {
+    let salt = Salt::new(&[3; 9]).expect(&rt, "a salt");
+    let output = Output::new(&[3; 12]).expect(&rt, "an output");
+    assert!(rt; salt.as_ref() == &[3; 9][..] && output.len() == 12);
 }
 
 #[test]
 fn a_refusal_is_printed_as_its_name(rt: HostRuntime) {
     let alloc = rt.alloc();
     let name = Ident::new("i").expect(&rt, "a name");
-    assert!(rt; is_printed(alloc, Error::Algorithm, "Algorithm"));
-    assert!(rt; is_printed(alloc, Error::EncodingInvalid, "EncodingInvalid"));
-    assert!(rt; is_printed(alloc, Error::OutputSize, "OutputSize"));
-    assert!(rt; is_printed(alloc, Error::ParamInvalid { name }, "ParamInvalid"));
-    assert!(rt; is_printed(alloc, Error::ParamsInvalid, "ParamsInvalid"));
-    assert!(rt; is_printed(alloc, Error::PasswordInvalid, "PasswordInvalid"));
-    assert!(rt; is_printed(alloc, Error::SaltInvalid, "SaltInvalid"));
-    assert!(rt; is_printed(alloc, Error::Version, "Version"));
-    assert!(rt; is_printed(alloc, Error::Rng, "Rng"));
-    assert!(rt; is_printed(alloc, Error::Memory, "out of memory"));
+    assert!(rt;
+        prints(alloc, &Error::Algorithm, "Algorithm")
+            && prints(alloc, &Error::ParamInvalid { name }, "ParamInvalid")
+            && prints(alloc, &Error::EncodingInvalid, "EncodingInvalid")
+            && prints(alloc, &Error::OutputSize, "OutputSize")
+            && prints(alloc, &Error::ParamsInvalid, "ParamsInvalid")
+            && prints(alloc, &Error::PasswordInvalid, "PasswordInvalid")
+            && prints(alloc, &Error::SaltInvalid, "SaltInvalid")
+            && prints(alloc, &Error::Version, "Version")
+            && prints(alloc, &Error::Rng, "Rng")
+            && prints(alloc, &Error::Memory, "out of memory")
+    );
 }

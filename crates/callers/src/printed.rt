@@ -3,12 +3,18 @@
 use crate::answers::prints;
 use mac_modes::{InvalidLength, ModeError};
 
+/// Refusals of modes, and their names.
+static PRINTED: [(ModeError, &str); 4] = [
+    (ModeError::NoRoom, "NoRoom"),
+    (ModeError::BadLength, "BadLength"),
+    (ModeError::BadPadding, "BadPadding"),
+    (ModeError::BadTag, "BadTag"),
+];
+
 #[test]
 fn refusals_are_printed_as_their_names(rt: HostRuntime) {
-    let alloc = rt.alloc();
-    assert!(rt; prints(alloc, &ModeError::NoRoom, "NoRoom"));
-    assert!(rt; prints(alloc, &ModeError::BadLength, "BadLength"));
-    assert!(rt; prints(alloc, &ModeError::BadPadding, "BadPadding"));
-    assert!(rt; prints(alloc, &ModeError::BadTag, "BadTag"));
-    assert!(rt; prints(alloc, &InvalidLength, "InvalidLength"));
+    for (refusal, name) in &PRINTED {
+        assert!(rt; prints(rt.alloc(), refusal, name), "{name}");
+    }
+    assert!(rt; prints(rt.alloc(), &InvalidLength, "InvalidLength"));
 }

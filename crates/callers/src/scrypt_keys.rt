@@ -41,38 +41,48 @@ fn is_taken(log_n: u8, r: u32, p: u32) -> bool {
     params.log_n() == log_n && params.r() == r && params.p() == p
 }
 
-#[test]
-fn costs_within_their_bounds_are_taken(rt: HostRuntime) {
-    assert!(rt; is_taken(1, 1, 1));
-    assert!(rt; is_taken(15, 1, 1));
-    assert!(rt; is_taken(4, 1, 0x3fff_ffff));
-    assert!(rt; is_taken(53, 4, 1));
-    assert!(rt; is_taken(14, 8, 1));
-}
+/// Costs within their bounds.
+static TAKEN: [(u8, u32, u32); 5] = [
+    (1, 1, 1),
+    (15, 1, 1),
+    (4, 1, 0x3fff_ffff),
+    (53, 4, 1),
+    (14, 8, 1),
+];
 
-/// Whether the costs are refused.
-fn is_refused(log_n: u8, r: u32, p: u32) -> bool {
-    Params::new(log_n, r, p) == Err(InvalidParams)
-}
+/// Costs out of them.
+static REFUSED: [(u8, u32, u32); 10] = [
+    (0, 1, 1),
+    (16, 1, 1),
+    (4, 0, 1),
+    (3, 1, 0),
+    (4, 1, 0),
+    (4, 1, 0x4000_0000),
+    (4, 0x8000, 0x8000),
+    (54, 4, 1),
+    (64, 8, 1),
+    (255, 255, 1),
+];
 
 #[test]
-fn costs_out_of_bounds_are_refused(rt: HostRuntime) {
-    assert!(rt; is_refused(0, 1, 1));
-    assert!(rt; is_refused(16, 1, 1));
-    assert!(rt; is_refused(4, 0, 1));
-    assert!(rt; is_refused(3, 1, 0));
-    assert!(rt; is_refused(4, 1, 0));
-    assert!(rt; is_refused(4, 1, 0x4000_0000));
-    assert!(rt; is_refused(4, 0x8000, 0x8000));
-    assert!(rt; is_refused(54, 4, 1));
-    assert!(rt; is_refused(64, 8, 1));
-    assert!(rt; is_refused(255, 255, 1));
+fn costs_are_taken_within_their_bounds(rt: HostRuntime) {
+    for (log_n, r, p) in &TAKEN {
+        assert!(rt; is_taken(*log_n, *r, *p), "{log_n} {r} {p}");
+    }
+    for (log_n, r, p) in &REFUSED {
+        assert!(rt;
+            Params::new(*log_n, *r, *p) == Err(InvalidParams),
+            "{log_n} {r} {p}"
+        );
+    }
 }
 
 #[test]
 fn refusals_are_printed(rt: HostRuntime) {
     let alloc = rt.alloc();
-    assert!(rt; prints(alloc, &InvalidParams, "InvalidParams"));
-    assert!(rt; prints(alloc, &ScryptError::InvalidOutputLen, "InvalidOutputLen"));
-    assert!(rt; prints(alloc, &ScryptError::Memory, "out of memory"));
+    assert!(rt;
+        prints(alloc, &InvalidParams, "InvalidParams")
+            && prints(alloc, &ScryptError::InvalidOutputLen, "InvalidOutputLen")
+            && prints(alloc, &ScryptError::Memory, "out of memory")
+    );
 }

@@ -16,14 +16,14 @@ fn one_to_five(alloc: Global) -> Result<DrawnBytes, std::alloc::AllocError> {
 }
 
 /// The list of one failing call, counted from 0.
-fn only_call(alloc: Global, call: u64) -> Result<Items<u64>, std::alloc::AllocError> {
+pub fn only_call(alloc: Global, call: u64) -> Result<Items<u64>, std::alloc::AllocError> {
     let mut failing = Items::new(alloc);
     failing.push(call)?;
     Ok(failing)
 }
 
 /// Whether these octets are drawn next.
-fn draws<D: Draw>(draw: &mut D, octets: &[u8]) -> bool
+pub fn draws<D: Draw>(draw: &mut D, octets: &[u8]) -> bool
     requires { length octets.now ≤ 5 }
 {
     let mut buffer = [0u8; 5];
@@ -42,11 +42,13 @@ fn fails<D: Draw>(draw: &mut D, len: usize) -> bool
 #[test]
 fn drawn_bytes_come_in_order_until_too_few_are_left(rt: HostRuntime) {
     let mut draw = one_to_five(rt.alloc()).expect(&rt, "memory");
-    assert!(rt; draws(&mut draw, &[1, 2]));
-    assert!(rt; fails(&mut draw, 4));
-    assert!(rt; draws(&mut draw, &[3, 4, 5]));
-    assert!(rt; draws(&mut draw, &[]));
-    assert!(rt; fails(&mut draw, 2));
+    assert!(rt;
+        draws(&mut draw, &[1, 2])
+            && fails(&mut draw, 4)
+            && draws(&mut draw, &[3, 4, 5])
+            && draws(&mut draw, &[])
+            && fails(&mut draw, 2)
+    );
 }
 
 #[test]
@@ -54,18 +56,19 @@ fn a_draw_fails_at_the_listed_calls_and_where_the_draw_behind_it_fails(rt: HostR
     let inner = one_to_five(rt.alloc()).expect(&rt, "memory");
     let failing = only_call(rt.alloc(), 1).expect(&rt, "memory");
     let mut draw = FailingDraw::new(inner, failing);
-    assert!(rt; draws(&mut draw, &[1, 2]));
-    assert!(rt; fails(&mut draw, 2));
-    assert!(rt; draws(&mut draw, &[3, 4]));
-    assert!(rt; fails(&mut draw, 2));
+    assert!(rt;
+        draws(&mut draw, &[1, 2])
+            && fails(&mut draw, 2)
+            && draws(&mut draw, &[3, 4])
+            && fails(&mut draw, 2)
+    );
 }
 
 #[test]
 fn the_end_of_a_reader_is_a_fault(rt: HostRuntime) {
     let octets = [1u8, 2, 3];
     let mut draw = ReadDraw::new(octets.as_slice());
-    assert!(rt; draws(&mut draw, &[1, 2]));
-    assert!(rt; draw.fill(&mut [0u8; 2]) == Err(Failed));
+    assert!(rt; draws(&mut draw, &[1, 2]) && draw.fill(&mut [0u8; 2]) == Err(Failed));
 }
 
 /// Why the fake generator fails.
@@ -118,12 +121,11 @@ fn a_failure_of_a_generator_is_a_fault(rt: HostRuntime) {
         octet: 7,
         draws_left: 1,
     });
-    assert!(rt; draws(&mut draw, &[7, 7]));
-    assert!(rt; draw.fill(&mut [0u8; 2]) == Err(Failed));
+    assert!(rt; draws(&mut draw, &[7, 7]) && draw.fill(&mut [0u8; 2]) == Err(Failed));
 }
 
 /// Whether a read into the first `len` of four zeros takes so many octets, and these stand there then.
-fn reads<S: Source>(source: &mut S, len: usize, count: usize, octets: [u8; 4]) -> bool
+pub fn reads<S: Source>(source: &mut S, len: usize, count: usize, octets: [u8; 4]) -> bool
     requires { len ≤ 4 }
 {
     let mut buffer = [0u8; 4];
@@ -131,7 +133,7 @@ fn reads<S: Source>(source: &mut S, len: usize, count: usize, octets: [u8; 4]) -
 }
 
 /// Whether so many octets of the piece are written.
-fn writes<S: Sink>(sink: &mut S, piece: &[u8], count: usize) -> bool {
+pub fn writes<S: Sink>(sink: &mut S, piece: &[u8], count: usize) -> bool {
     sink.write(piece) == Ok(count)
 }
 
@@ -145,19 +147,21 @@ fn memory_is_read_in_pieces(rt: HostRuntime) {
     let failing = only_call(rt.alloc(), 1).expect(&rt, "memory");
     let octets = Octets::from_slice(rt.alloc(), &[1, 2, 3]).expect(&rt, "memory");
     let mut source = MemorySource::new(octets, 2, failing);
-    assert!(rt; reads(&mut source, 4, 2, [1, 2, 0, 0]));
-    assert!(rt; source.read(&mut [0u8; 4]) == Err(Failed));
-    assert!(rt; reads(&mut source, 4, 1, [3, 0, 0, 0]));
-    assert!(rt; reads(&mut source, 4, 0, [0; 4]));
+    assert!(rt;
+        reads(&mut source, 4, 2, [1, 2, 0, 0])
+            && source.read(&mut [0u8; 4]) == Err(Failed)
+            && reads(&mut source, 4, 1, [3, 0, 0, 0])
+            && reads(&mut source, 4, 0, [0; 4])
+    );
 }
 
 #[test]
 fn memory_is_written_in_pieces(rt: HostRuntime) {
     let never = Items::new(rt.alloc());
     let mut sink = MemorySink::new(rt.alloc(), 3, never).expect(&rt, "memory");
-    assert!(rt; writes(&mut sink, &[1, 2], 2));
-    assert!(rt; writes(&mut sink, &[3, 4], 1));
-    assert!(rt; fails_to_write(&mut sink));
+    assert!(rt;
+        writes(&mut sink, &[1, 2], 2) && writes(&mut sink, &[3, 4], 1) && fails_to_write(&mut sink)
+    );
     assert!(rt; sink.octets() == &[1, 2, 3][..]);
 }
 
@@ -185,15 +189,17 @@ impl Write for TiredWriter {
 fn a_stream_is_read(rt: HostRuntime) {
     let octets = [1u8, 2, 3];
     let mut source = ReadSource::new(octets.as_slice());
-    assert!(rt; reads(&mut source, 2, 2, [1, 2, 0, 0]));
-    assert!(rt; reads(&mut source, 2, 1, [3, 0, 0, 0]));
-    assert!(rt; reads(&mut source, 2, 0, [0; 4]));
+    assert!(rt;
+        reads(&mut source, 2, 2, [1, 2, 0, 0])
+            && reads(&mut source, 2, 1, [3, 0, 0, 0])
+            && reads(&mut source, 2, 0, [0; 4])
+    );
 }
 
 #[test]
 fn a_stream_is_written(rt: HostRuntime) {
     let mut sink = WriteSink::new(TiredWriter { calls: 0 });
-    assert!(rt; writes(&mut sink, &[1, 2, 3], 2));
-    assert!(rt; writes(&mut sink, &[3], 1));
-    assert!(rt; fails_to_write(&mut sink));
+    assert!(rt;
+        writes(&mut sink, &[1, 2, 3], 2) && writes(&mut sink, &[3], 1) && fails_to_write(&mut sink)
+    );
 }

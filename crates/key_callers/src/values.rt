@@ -1,7 +1,9 @@
 //! Values of their texts, and texts of their values.
 use asn1_core::{ObjectIdentifier, Octets};
 use der_core::{Compared, Encode, Spelled, canon_is_read, exact_spellings, texts_are_read};
+use octet_core::DrawnBytes;
 use std::alloc::Global;
+use std::fmt::Display;
 use std::process::Abort;
 
 /// The octets of hexadecimal digits.
@@ -19,14 +21,19 @@ pub fn written<T: Encode>(rt: &impl Abort, alloc: Global, value: &T) -> Octets {
     value.to_der(alloc).expect(rt, "a text")
 }
 
-/// Whether these are the octets of the digits.
-pub fn are_digits(rt: &impl Abort, alloc: Global, found: &[u8], digits: &str) -> bool {
-    found == octets(rt, alloc, digits).as_slice()
+/// Whether this is the text of a value.
+pub fn is_text<T: Encode>(rt: &impl Abort, alloc: Global, value: &T, text: &[u8]) -> bool {
+    written(rt, alloc, value).as_slice() == text
 }
 
-/// Whether the text of a value has these digits.
-pub fn is_text<T: Encode>(rt: &impl Abort, alloc: Global, value: &T, digits: &str) -> bool {
-    are_digits(rt, alloc, written(rt, alloc, value).as_slice(), digits)
+/// Whether a value is printed as this text.
+pub fn is_printed<T: Display>(rt: &impl Abort, alloc: Global, value: &T, text: &str) -> bool {
+    value.to_string(alloc).expect(rt, "memory").as_str() == text
+}
+
+/// Draws these octets.
+pub fn drawing(rt: &impl Abort, alloc: Global, drawn: &[u8]) -> DrawnBytes {
+    DrawnBytes::new(Octets::from_slice(alloc, drawn).expect(rt, "memory"))
 }
 
 /// The laws of a lawful type, at a value and a text.

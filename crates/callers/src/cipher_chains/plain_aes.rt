@@ -44,24 +44,21 @@ pub struct PlainAes {
 /// The key expansion (section 5.2) of eight words.
 fn expanded(sub: &[u8; 256], key: &[u8; 32]) -> [u8; 240] {
     let mut keys = [0u8; 240];
-    for i in 0..32 {
-        keys[i] = key[i];
-    }
+    keys[..32].copy_from_slice(key);
     let mut constant = 1u8;
     for i in 8..60 {
-        let last = [
-            keys[4 * i - 4],
-            keys[4 * i - 3],
-            keys[4 * i - 2],
-            keys[4 * i - 1],
-        ];
+        let mut last = [0u8; 4];
+        last.copy_from_slice(&keys[4 * i - 4..4 * i]);
         for j in 0..4 {
             let octet = if i % 8 == 0 {
-                sub[last[(j + 1) % 4] as usize]
-            } else if i % 8 == 4 {
-                sub[last[j] as usize]
+                last[(j + 1) % 4]
             } else {
                 last[j]
+            };
+            let octet = if i % 4 == 0 {
+                sub[octet as usize]
+            } else {
+                octet
             };
             keys[4 * i + j] = keys[4 * i + j - 32] ^ octet;
         }

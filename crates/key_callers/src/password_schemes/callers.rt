@@ -10,7 +10,6 @@ ghost use Rattle.pkcs5.specs.declared.encryption_scheme.EncryptionScheme.{Encryp
 
 use super::encryption::{KEY, PASSWORD, SEALED_KEY, key_parameters};
 use super::texts::AES_256;
-use crate::values::octets;
 use asn1_core::Octets;
 use mac_modes::Draw;
 use pkcs5::opening_laws::decryption_undoes_encryption;
@@ -65,9 +64,7 @@ fn there_and_back(
 
 #[test]
 fn a_key_of_openssl_is_opened(rt: HostRuntime) {
-    let alloc = rt.alloc();
-    let scheme = octets(&rt, alloc, AES_256);
-    let key = opened(alloc, scheme.as_slice(), &SEALED_KEY, &PASSWORD).expect(&rt, "a key");
+    let key = opened(rt.alloc(), AES_256, &SEALED_KEY, &PASSWORD).expect(&rt, "a key");
     assert!(rt; key.as_slice() == KEY.as_slice());
 }
 

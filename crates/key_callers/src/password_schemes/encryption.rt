@@ -1,9 +1,9 @@
 //! Encryption and decryption: a vector of RFC 8018's scheme as OpenSSL writes it, and refusals. Each pseudorandom function and each
 //! cipher is tried by the lines of `tests/vectors/schemes.txt`.
+use pkcs5::Error;
 use pkcs5::pbes2::{
     EncryptionKey, EncryptionScheme, Kdf, PBKDF2_OID, Parameters, Pbkdf2Params, Pbkdf2Prf, Salt,
 };
-use pkcs5::{Error, Result};
 use std::alloc::Global;
 use std::process::Abort;
 
@@ -64,32 +64,15 @@ fn agrees(
     sealed.as_slice() == ciphertext && opened.as_slice() == text
 }
 
-/// Whether those of the scheme do.
-fn scheme_agrees(
-    alloc: Global,
-    parameters: Parameters,
-    password: &[u8],
-    text: &[u8],
-    ciphertext: &[u8],
-) -> bool {
-    let scheme = pkcs5::EncryptionScheme::Pbes2(parameters);
-    let Ok(sealed) = scheme.encrypt(alloc, password, text) else {
-        return false;
-    };
-    let Ok(opened) = scheme.decrypt(alloc, password, ciphertext) else {
-        return false;
-    };
-    sealed.as_slice() == ciphertext && opened.as_slice() == text
-}
-
 #[test]
 fn a_key_of_openssl_is_opened_and_sealed(rt: HostRuntime) {
     let alloc = rt.alloc();
     let parameters = key_parameters(&rt);
-    assert!(rt; agrees(alloc, &parameters, &PASSWORD, &KEY, &SEALED_KEY));
-    assert!(rt; scheme_agrees(alloc, parameters, &PASSWORD, &KEY, &SEALED_KEY));
     let stated = with_key_length(&rt, 32);
-    assert!(rt; agrees(alloc, &stated, &PASSWORD, &KEY, &SEALED_KEY));
+    assert!(rt;
+        agrees(alloc, &parameters, &PASSWORD, &KEY, &SEALED_KEY)
+            && agrees(alloc, &stated, &PASSWORD, &KEY, &SEALED_KEY)
+    );
 }
 
 #[test]
@@ -109,49 +92,58 @@ fn a_key_is_derived_in_the_stated_rounds(rt: HostRuntime) {
     );
 }
 
-/// What the parameters answer to the first octets of the key's ciphertext, and what stands there then.
-fn decrypted(
+/// Whether the parameters open nothing of the first octets of the key's ciphertext, and these octets stand there then.
+fn opens_nothing(
     alloc: Global,
     parameters: &Parameters,
     password: &[u8],
     len: usize,
-) -> (Result<usize>, [u8; 64]) {
+    left: [u8; 64],
+) -> bool {
     let mut buffer = SEALED_KEY;
     let answer = parameters.decrypt_in_place_len(alloc, password, &mut buffer[..len.min(64)]);
-    (answer, buffer)
+    answer == Err(Error::DecryptFailed) && buffer == left
 }
 
 #[test]
 fn a_ciphertext_that_opens_to_nothing_is_refused(rt: HostRuntime) {
     let alloc = rt.alloc();
     let parameters = key_parameters(&rt);
-    let refused = Err(Error::DecryptFailed);
-    assert!(rt; parameters.decrypt(alloc, b"hunter43", &SEALED_KEY).is_err());
-    assert!(rt; decrypted(alloc, &parameters, b"hunter43", 64) == (refused, UNPADDED));
-    for len in [0, 15, 17] {
-        assert!(rt; decrypted(alloc, &parameters, &PASSWORD, len) == (refused, SEALED_KEY));
-    }
+    let refused = parameters.decrypt(alloc, b"hunter43", &SEALED_KEY).err();
+    assert!(rt; refused == Some(Error::DecryptFailed));
+    assert!(rt;
+        opens_nothing(alloc, &parameters, b"hunter43", 64, UNPADDED)
+            && opens_nothing(alloc, &parameters, &PASSWORD, 0, SEALED_KEY)
+            && opens_nothing(alloc, &parameters, &PASSWORD, 15, SEALED_KEY)
+            && opens_nothing(alloc, &parameters, &PASSWORD, 17, SEALED_KEY)
+    );
 }
+
+/// A stated length of the key that is not the cipher's.
+const ANOTHER_LENGTH: Error = Error::AlgorithmParametersInvalid { oid: PBKDF2_OID };
 
 #[test]
 fn another_length_of_the_key_is_refused(rt: HostRuntime) {
     let alloc = rt.alloc();
-    let refused = Error::AlgorithmParametersInvalid { oid: PBKDF2_OID };
     let parameters = with_key_length(&rt, 16);
-    assert!(rt; parameters.decrypt(alloc, &PASSWORD, &SEALED_KEY) == Err(refused));
-    assert!(rt; parameters.encrypt(alloc, &PASSWORD, &KEY) == Err(refused));
+    assert!(rt;
+        parameters.decrypt(alloc, &PASSWORD, &SEALED_KEY).err() == Some(ANOTHER_LENGTH)
+            && parameters.encrypt(alloc, &PASSWORD, &KEY).err() == Some(ANOTHER_LENGTH)
+    );
 }
 
 #[test]
 fn another_length_of_the_key_is_refused_in_place(rt: HostRuntime) {
     let alloc = rt.alloc();
-    let refused = Err(Error::AlgorithmParametersInvalid { oid: PBKDF2_OID });
+    let refused = Err(ANOTHER_LENGTH);
     let scheme = pkcs5::EncryptionScheme::Pbes2(with_key_length(&rt, 16));
     let mut buffer = SEALED_KEY;
-    assert!(rt; scheme.decrypt_in_place_len(alloc, &PASSWORD, &mut buffer) == refused);
-    assert!(rt; scheme.decrypt_in_place_len(alloc, &PASSWORD, &mut buffer[..15]) == refused);
-    assert!(rt; scheme.encrypt_in_place_len(alloc, &PASSWORD, &mut buffer, 64) == refused);
-    assert!(rt; buffer == SEALED_KEY);
+    assert!(rt;
+        scheme.decrypt_in_place_len(alloc, &PASSWORD, &mut buffer) == refused
+            && scheme.decrypt_in_place_len(alloc, &PASSWORD, &mut buffer[..15]) == refused
+            && scheme.encrypt_in_place_len(alloc, &PASSWORD, &mut buffer, 64) == refused
+            && buffer == SEALED_KEY
+    );
 }
 
 /// A key with room for its padding, and two octets behind.
@@ -176,14 +168,6 @@ fn scheme_encrypts_in_place(alloc: Global, parameters: Parameters) -> bool {
     sealed == Ok(&SEALED_KEY) && buffer.ends_with(&[0x55, 0x55])
 }
 
-#[test]
-fn a_text_is_encrypted_where_it_stands(rt: HostRuntime) {
-    let alloc = rt.alloc();
-    let parameters = key_parameters(&rt);
-    assert!(rt; encrypts_in_place(alloc, &parameters));
-    assert!(rt; scheme_encrypts_in_place(alloc, parameters));
-}
-
 /// Whether the parameters decrypt the key where it stands, with its padding behind.
 fn decrypts_in_place(alloc: Global, parameters: &Parameters) -> bool {
     let mut buffer = SEALED_KEY;
@@ -199,33 +183,34 @@ fn scheme_decrypts_in_place(alloc: Global, parameters: Parameters) -> bool {
 }
 
 #[test]
-fn a_text_is_decrypted_where_it_stands(rt: HostRuntime) {
+fn a_text_is_encrypted_and_decrypted_where_it_stands(rt: HostRuntime) {
     let alloc = rt.alloc();
     let parameters = key_parameters(&rt);
-    assert!(rt; decrypts_in_place(alloc, &parameters));
-    assert!(rt; scheme_decrypts_in_place(alloc, parameters));
+    assert!(rt;
+        encrypts_in_place(alloc, &parameters)
+            && scheme_encrypts_in_place(alloc, parameters)
+            && decrypts_in_place(alloc, &parameters)
+            && scheme_decrypts_in_place(alloc, parameters)
+    );
 }
 
-/// What the parameters answer to `pos` octets in a buffer of `len`, and what stands there then.
-fn encrypted(
-    alloc: Global,
-    parameters: &Parameters,
-    len: usize,
-    pos: usize,
-) -> (Result<usize>, [u8; 64]) {
+/// Whether the parameters refuse to encrypt `pos` octets in a buffer of `len`, and leave the buffer.
+fn does_not_fit(alloc: Global, parameters: &Parameters, len: usize, pos: usize) -> bool {
     let mut buffer = SEALED_KEY;
-    let buffer_part = &mut buffer[..len.min(64)];
-    let answer = parameters.encrypt_in_place_len(alloc, &PASSWORD, buffer_part, pos);
-    (answer, buffer)
+    let part = &mut buffer[..len.min(64)];
+    let answer = parameters.encrypt_in_place_len(alloc, &PASSWORD, part, pos);
+    answer == Err(Error::EncryptFailed) && buffer == SEALED_KEY
 }
 
 #[test]
 fn a_ciphertext_that_does_not_fit_is_refused(rt: HostRuntime) {
+    let alloc = rt.alloc();
     let parameters = key_parameters(&rt);
-    let refused = (Err(Error::EncryptFailed), SEALED_KEY);
-    for (len, pos) in [(0, 0), (63, 48), (16, 17)] {
-        assert!(rt; encrypted(rt.alloc(), &parameters, len, pos) == refused);
-    }
+    assert!(rt;
+        does_not_fit(alloc, &parameters, 0, 0)
+            && does_not_fit(alloc, &parameters, 63, 48)
+            && does_not_fit(alloc, &parameters, 16, 17)
+    );
 }
 
 #[test]
@@ -238,8 +223,8 @@ fn parameters_have_what_they_are_made_of(rt: HostRuntime) {
         key_length: None,
         prf: Pbkdf2Prf::HmacWithSha256,
     });
-    assert!(rt; parameters.encryption == EncryptionScheme::Aes128Cbc { iv: IV });
-    assert!(rt; parameters.kdf == kdf);
+    let encryption = EncryptionScheme::Aes128Cbc { iv: IV };
+    assert!(rt; parameters.encryption == encryption && parameters.kdf == kdf);
 }
 
 /// Whether no parameters are made of these rounds and this salt, since they are over their bounds.
@@ -251,6 +236,5 @@ fn are_over_bounds(rounds: u32, salt: &[u8]) -> bool {
 
 #[test]
 fn parameters_are_made_within_their_bounds(rt: HostRuntime) {
-    assert!(rt; are_over_bounds(100_000_001, &[7; 32]));
-    assert!(rt; are_over_bounds(1, &[7; 33]));
+    assert!(rt; are_over_bounds(100_000_001, &[7; 32]) && are_over_bounds(1, &[7; 33]));
 }

@@ -3,40 +3,46 @@ use super::encryption::{IV, PASSWORD, SEALED_KEY, UNPADDED, key_parameters, with
 use pkcs5::pbes2::{
     self, DES_CBC_OID, Kdf, PBKDF2_OID, Parameters, SCRYPT_OID, Salt, ScryptParams,
 };
-use pkcs5::{EncryptionScheme, Error, Result, pbes1};
+use pkcs5::{EncryptionScheme, Error, pbes1};
 use std::alloc::Global;
 use std::process::Abort;
 
-/// A refusal, and the octets of the buffer behind it.
-type Left = (Option<Error>, [u8; 64]);
-
-fn refusal(answer: Result<&[u8]>) -> Option<Error> {
-    match answer {
-        Ok(_) => None,
-        Err(e) => Some(e),
-    }
-}
-
-/// What the parameters, and then their scheme, leave of the ciphertext of the key, of which they decrypt `len` octets.
-fn decrypted(alloc: Global, parameters: Parameters, password: &[u8], len: usize) -> [Left; 2] {
+/// Whether the parameters, and then their scheme, refuse to decrypt `len` octets of the key's ciphertext for this reason, and
+/// leave these octets.
+fn does_not_decrypt(
+    alloc: Global,
+    parameters: Parameters,
+    password: &[u8],
+    len: usize,
+    refused: Error,
+    left: [u8; 64],
+) -> bool {
     let mut first = SEALED_KEY;
     let mut second = SEALED_KEY;
     let len = len.min(64);
     let scheme = EncryptionScheme::Pbes2(parameters);
-    let one = refusal(parameters.decrypt_in_place(alloc, password, &mut first[..len]));
-    let two = refusal(scheme.decrypt_in_place(alloc, password, &mut second[..len]));
-    [(one, first), (two, second)]
+    parameters.decrypt_in_place(alloc, password, &mut first[..len]) == Err(refused)
+        && scheme.decrypt_in_place(alloc, password, &mut second[..len]) == Err(refused)
+        && first == left
+        && second == left
 }
 
-/// What both leave of it where they encrypt `pos` octets in a buffer of `len`.
-fn encrypted(alloc: Global, parameters: Parameters, len: usize, pos: usize) -> [Left; 2] {
+/// Whether both refuse to encrypt `pos` octets in a buffer of `len` for this reason, and leave the buffer.
+fn does_not_encrypt(
+    alloc: Global,
+    parameters: Parameters,
+    len: usize,
+    pos: usize,
+    refused: Error,
+) -> bool {
     let mut first = SEALED_KEY;
     let mut second = SEALED_KEY;
     let len = len.min(64);
     let scheme = EncryptionScheme::Pbes2(parameters);
-    let one = refusal(parameters.encrypt_in_place(alloc, &PASSWORD, &mut first[..len], pos));
-    let two = refusal(scheme.encrypt_in_place(alloc, &PASSWORD, &mut second[..len], pos));
-    [(one, first), (two, second)]
+    parameters.encrypt_in_place(alloc, &PASSWORD, &mut first[..len], pos) == Err(refused)
+        && scheme.encrypt_in_place(alloc, &PASSWORD, &mut second[..len], pos) == Err(refused)
+        && first == SEALED_KEY
+        && second == SEALED_KEY
 }
 
 /// The parameters of the key's vector with another cipher.
@@ -67,39 +73,35 @@ fn with_gcm(rt: &impl Abort) -> Parameters {
     with_cipher(rt, pbes2::EncryptionScheme::Aes256Gcm { nonce: [7; 12] })
 }
 
-/// Whether both calls refused for this reason, and left these octets.
-fn are(found: [Left; 2], refused: Error, left: [u8; 64]) -> bool {
-    let [(one, first), (two, second)] = found;
-    one == Some(refused) && two == Some(refused) && first == left && second == left
-}
-
 #[test]
 fn parameters_that_nothing_opens_under(rt: HostRuntime) {
     let alloc = rt.alloc();
     let pbkdf2 = Error::AlgorithmParametersInvalid { oid: PBKDF2_OID };
+    let another_length = with_key_length(&rt, 16);
+    assert!(rt;
+        does_not_decrypt(alloc, another_length, &PASSWORD, 64, pbkdf2, SEALED_KEY)
+            && does_not_encrypt(alloc, another_length, 64, 48, pbkdf2)
+    );
     let scrypt = Error::AlgorithmParametersInvalid { oid: SCRYPT_OID };
-    let found = decrypted(alloc, with_key_length(&rt, 16), &PASSWORD, 64);
-    assert!(rt; are(found, pbkdf2, SEALED_KEY));
-    let found = decrypted(alloc, with_refused_cost(&rt), &PASSWORD, 64);
-    assert!(rt; are(found, scrypt, SEALED_KEY));
-    let found = encrypted(alloc, with_key_length(&rt, 16), 64, 48);
-    assert!(rt; are(found, pbkdf2, SEALED_KEY));
-    let found = encrypted(alloc, with_refused_cost(&rt), 64, 48);
-    assert!(rt; are(found, scrypt, SEALED_KEY));
+    let refused_cost = with_refused_cost(&rt);
+    assert!(rt;
+        does_not_decrypt(alloc, refused_cost, &PASSWORD, 64, scrypt, SEALED_KEY)
+            && does_not_encrypt(alloc, refused_cost, 64, 48, scrypt)
+    );
 }
 
 #[test]
 fn ciphertexts_that_do_not_open(rt: HostRuntime) {
     let alloc = rt.alloc();
     let failed = Error::DecryptFailed;
-    let found = decrypted(alloc, key_parameters(&rt), &PASSWORD, 63);
-    assert!(rt; are(found, failed, SEALED_KEY));
-    let found = decrypted(alloc, key_parameters(&rt), b"hunter43", 64);
-    assert!(rt; are(found, failed, UNPADDED));
-    let found = decrypted(alloc, with_gcm(&rt), &PASSWORD, 15);
-    assert!(rt; are(found, failed, SEALED_KEY));
-    let found = decrypted(alloc, with_gcm(&rt), &PASSWORD, 64);
-    assert!(rt; are(found, failed, SEALED_KEY));
+    let cbc = key_parameters(&rt);
+    let gcm = with_gcm(&rt);
+    assert!(rt;
+        does_not_decrypt(alloc, cbc, &PASSWORD, 63, failed, SEALED_KEY)
+            && does_not_decrypt(alloc, cbc, b"hunter43", 64, failed, UNPADDED)
+            && does_not_decrypt(alloc, gcm, &PASSWORD, 15, failed, SEALED_KEY)
+            && does_not_decrypt(alloc, gcm, &PASSWORD, 64, failed, SEALED_KEY)
+    );
 }
 
 #[test]
@@ -107,21 +109,26 @@ fn texts_that_are_not_encrypted(rt: HostRuntime) {
     let alloc = rt.alloc();
     let des = with_cipher(&rt, pbes2::EncryptionScheme::DesCbc { iv: [7; 8] });
     let unsupported = Error::UnsupportedAlgorithm { oid: DES_CBC_OID };
-    let failed = Error::EncryptFailed;
-    let found = encrypted(alloc, des, 64, 48);
-    assert!(rt; are(found, unsupported, SEALED_KEY));
-    let found = encrypted(alloc, key_parameters(&rt), 63, 48);
-    assert!(rt; are(found, failed, SEALED_KEY));
-    let found = encrypted(alloc, key_parameters(&rt), 16, 17);
-    assert!(rt; are(found, failed, SEALED_KEY));
-    let found = encrypted(alloc, with_gcm(&rt), 63, 48);
-    assert!(rt; are(found, failed, SEALED_KEY));
+    let cbc = key_parameters(&rt);
+    assert!(rt;
+        does_not_encrypt(alloc, des, 64, 48, unsupported)
+            && does_not_encrypt(alloc, cbc, 63, 48, Error::EncryptFailed)
+            && does_not_encrypt(alloc, cbc, 16, 17, Error::EncryptFailed)
+            && does_not_encrypt(alloc, with_gcm(&rt), 63, 48, Error::EncryptFailed)
+    );
 }
 
-/// What a scheme of PBES1 leaves.
-fn of_pbes1(alloc: Global) -> [Left; 2] {
-    let mut first = SEALED_KEY;
-    let mut second = SEALED_KEY;
+/// Whether a scheme of PBES1 neither decrypts nor encrypts, and leaves the buffer.
+fn is_not_run(alloc: Global, scheme: &EncryptionScheme) -> bool {
+    let refused = Err(Error::NoPbes1CryptSupport);
+    let mut buffer = SEALED_KEY;
+    scheme.decrypt_in_place(alloc, &PASSWORD, &mut buffer) == refused
+        && scheme.encrypt_in_place(alloc, &PASSWORD, &mut buffer, 48) == refused
+        && buffer == SEALED_KEY
+}
+
+#[test]
+fn refusals_of_pbes1(rt: HostRuntime) {
     let scheme = EncryptionScheme::Pbes1(pbes1::Algorithm {
         encryption: pbes1::EncryptionScheme::PbeWithSha1AndDesCbc,
         parameters: pbes1::Parameters {
@@ -129,13 +136,5 @@ fn of_pbes1(alloc: Global) -> [Left; 2] {
             iteration_count: 1,
         },
     });
-    let one = refusal(scheme.decrypt_in_place(alloc, &PASSWORD, &mut first));
-    let two = refusal(scheme.encrypt_in_place(alloc, &PASSWORD, &mut second, 48));
-    [(one, first), (two, second)]
-}
-
-#[test]
-fn refusals_of_pbes1(rt: HostRuntime) {
-    let left = (Some(Error::NoPbes1CryptSupport), SEALED_KEY);
-    assert!(rt; of_pbes1(rt.alloc()) == [left, left]);
+    assert!(rt; is_not_run(rt.alloc(), &scheme));
 }

@@ -9,7 +9,7 @@ ghost use Rattle.pkcs8.specs.declared.error.Error.TheVariants.{Memory};
 
 use super::KEY;
 use super::documents::SEALED;
-use crate::values::{octets, oid};
+use crate::values::oid;
 use asn1_core::{ObjectIdentifier, Octets};
 use octet_core::Draw;
 use pkcs8::{DecodePrivateKey, EncodePrivateKey, Error, PrivateKeyInfoRef, Result, SecretDocument};
@@ -73,27 +73,22 @@ pub fn sealed<K: EncodePrivateKey, D: Draw>(
 }
 
 /// The octets of that key.
-const KEY_OCTETS: &str = "042017ed9c73e9db649ec189a612831c5fc570238207c1aa9dfbd2c53e3ff5e5ea85";
+const KEY_OCTETS: &[u8] =
+    b"\x04\x20\x17\xed\x9c\x73\xe9\xdb\x64\x9e\xc1\x89\xa6\x12\x83\x1c\x5f\xc5\x70\x23\x82\x07\xc1\xaa\x9d\xfb\xd2\xc5\x3e\x3f\xf5\xe5\xea\x85";
 
 #[test]
 fn a_key_of_ones_own_has_the_octets(rt: HostRuntime) {
-    let alloc = rt.alloc();
-    let expected = octets(&rt, alloc, KEY_OCTETS);
-    let text = octets(&rt, alloc, KEY);
-    let key = loaded(alloc, text.as_slice()).expect(&rt, "a key");
-    assert!(rt; key.octets.as_slice() == expected.as_slice());
-    let document = octets(&rt, alloc, SEALED);
-    let key: KeyOctets = opened(alloc, document.as_slice(), b"hunter42").expect(&rt, "a key");
-    assert!(rt; key.octets.as_slice() == expected.as_slice());
+    let key = loaded(rt.alloc(), KEY).expect(&rt, "a key");
+    let unlocked: KeyOctets = opened(rt.alloc(), SEALED, b"hunter42").expect(&rt, "a key");
+    assert!(rt; key.octets.as_slice() == KEY_OCTETS && unlocked.octets.as_slice() == KEY_OCTETS);
 }
 
 #[test]
 fn the_octets_of_a_key_of_an_algorithm(rt: HostRuntime) {
-    let alloc = rt.alloc();
-    let text = octets(&rt, alloc, KEY);
     let ed25519 = oid(&rt, "1.3.101.112");
-    let expected = octets(&rt, alloc, KEY_OCTETS);
-    assert!(rt; key_octets(ed25519, text.as_slice()) == Ok(expected.as_slice()));
-    let other = key_octets(oid(&rt, "1.3.101.110"), text.as_slice());
-    assert!(rt; other == Err(Error::PublicKey(spki::Error::OidUnknown { oid: ed25519 })));
+    let unknown = Error::PublicKey(spki::Error::OidUnknown { oid: ed25519 });
+    assert!(rt;
+        key_octets(ed25519, KEY) == Ok(KEY_OCTETS)
+            && key_octets(oid(&rt, "1.3.101.110"), KEY) == Err(unknown)
+    );
 }

@@ -1,21 +1,19 @@
 //! Private keys under passwords. More documents are lines of `tests/vectors/encrypted_keys.txt`.
 use super::KEY;
 use super::callers::sealed;
-use crate::values::{are_digits, is_text, octets, oid};
-use asn1_core::Octets;
+use crate::values::{drawing, is_text, oid};
 use der_core::{OctetStringRef, canon_is_read, exact_spellings, texts_are_read};
-use octet_core::DrawnBytes;
 use pkcs5::pbes2;
 use pkcs8::{
     EncryptedPrivateKeyInfo, EncryptedPrivateKeyInfoOwned, EncryptedPrivateKeyInfoRef, Error,
-    PrivateKeyInfoRef, Result, SecretDocument,
+    Result, SecretDocument,
 };
 use std::alloc::Global;
 use std::process::Abort;
 
 /// That key under `hunter42` by AES-256-CBC, with a salt of 8 octets and 2,048 rounds of HMAC over SHA-256.
-pub const SEALED: &str =
-    "30819b305706092a864886f70d01050d304a302906092a864886f70d01050c301c040879d982e70df91a8802020800300c06082a864886f70d02090500301d060960864801650304012a0410b2d02d78b2efd9dff694cf8e0af409250440d0cd6c770f4bb87176422305c17401809e226674ce74185d221bfdaa95069890c8882fce02b05d41bcbf54b035595bcd4154b32593708469b86aacf8815a7b2b";
+pub const SEALED: &[u8] =
+    b"\x30\x81\x9b\x30\x57\x06\x09\x2a\x86\x48\x86\xf7\x0d\x01\x05\x0d\x30\x4a\x30\x29\x06\x09\x2a\x86\x48\x86\xf7\x0d\x01\x05\x0c\x30\x1c\x04\x08\x79\xd9\x82\xe7\x0d\xf9\x1a\x88\x02\x02\x08\x00\x30\x0c\x06\x08\x2a\x86\x48\x86\xf7\x0d\x02\x09\x05\x00\x30\x1d\x06\x09\x60\x86\x48\x01\x65\x03\x04\x01\x2a\x04\x10\xb2\xd0\x2d\x78\xb2\xef\xd9\xdf\xf6\x94\xcf\x8e\x0a\xf4\x09\x25\x04\x40\xd0\xcd\x6c\x77\x0f\x4b\xb8\x71\x76\x42\x23\x05\xc1\x74\x01\x80\x9e\x22\x66\x74\xce\x74\x18\x5d\x22\x1b\xfd\xaa\x95\x06\x98\x90\xc8\x88\x2f\xce\x02\xb0\x5d\x41\xbc\xbf\x54\xb0\x35\x59\x5b\xcd\x41\x54\xb3\x25\x93\x70\x84\x69\xb8\x6a\xac\xf8\x81\x5a\x7b\x2b";
 
 /// The document of a text.
 fn read<'a>(rt: &impl Abort, text: &'a [u8]) -> EncryptedPrivateKeyInfoRef<'a> {
@@ -31,89 +29,68 @@ fn parameters(rt: &impl Abort, info: &EncryptedPrivateKeyInfoRef<'_>) -> pbes2::
 }
 
 /// Whether the document opens to the key under the password, and is written back as it was.
-fn opens(rt: &impl Abort, alloc: Global, document: &str, key: &str) -> bool {
-    let text = octets(rt, alloc, document);
-    let info = read(rt, text.as_slice());
+fn opens(rt: &impl Abort, alloc: Global, document: &[u8]) -> bool {
+    let info = read(rt, document);
     let opened = info.decrypt(alloc, b"hunter42").expect(rt, "a key");
-    are_digits(rt, alloc, opened.as_bytes(), key) && is_text(rt, alloc, &info, document)
+    opened.as_bytes() == KEY && is_text(rt, alloc, &info, document)
 }
 
 /// Whether the key under the parameters of the document is the document.
-fn seals(rt: &impl Abort, alloc: Global, document: &str, key: &str) -> bool {
-    let text = octets(rt, alloc, document);
-    let parameters = parameters(rt, &read(rt, text.as_slice()));
-    let key = octets(rt, alloc, key);
-    let sealed = super::read(rt, key.as_slice())
+fn seals(rt: &impl Abort, alloc: Global, document: &[u8]) -> bool {
+    let parameters = parameters(rt, &read(rt, document));
+    let sealed = super::read(rt, KEY)
         .encrypt_with_params(alloc, parameters, b"hunter42")
         .expect(rt, "a document");
-    sealed.as_bytes() == text.as_slice()
-}
-
-#[test]
-fn a_document_of_another_program_is_opened_and_made_again(rt: HostRuntime) {
-    let alloc = rt.alloc();
-    assert!(rt; opens(&rt, alloc, SEALED, KEY));
-    assert!(rt; seals(&rt, alloc, SEALED, KEY));
+    sealed.as_bytes() == document
 }
 
 /// That key under `hunter42` by scrypt and AES-256-CBC, with the octets 00 to 0f for the vector and 10 to 1f for the salt, by Python's
 /// `hashlib` and OpenSSL.
-const BY_SCRYPT: &str =
-    "30819b305706092a864886f70d01050d304a302906092b06010401da47040b301c0410101112131415161718191a1b1c1d1e1f02024000020108020101301d060960864801650304012a0410000102030405060708090a0b0c0d0e0f0440c71606ab8c756e70dfce46b276fea10139d0c07a32d7c58ff5a7a5db004455a17f54e3af29bd8b5c47a5c161064cade7b0da070d4b2aeffd867a35bbed8e0631";
+const BY_SCRYPT: &[u8] =
+    b"\x30\x81\x9b\x30\x57\x06\x09\x2a\x86\x48\x86\xf7\x0d\x01\x05\x0d\x30\x4a\x30\x29\x06\x09\x2b\x06\x01\x04\x01\xda\x47\x04\x0b\x30\x1c\x04\x10\x10\x11\x12\x13\x14\x15\x16\x17\x18\x19\x1a\x1b\x1c\x1d\x1e\x1f\x02\x02\x40\x00\x02\x01\x08\x02\x01\x01\x30\x1d\x06\x09\x60\x86\x48\x01\x65\x03\x04\x01\x2a\x04\x10\x00\x01\x02\x03\x04\x05\x06\x07\x08\x09\x0a\x0b\x0c\x0d\x0e\x0f\x04\x40\xc7\x16\x06\xab\x8c\x75\x6e\x70\xdf\xce\x46\xb2\x76\xfe\xa1\x01\x39\xd0\xc0\x7a\x32\xd7\xc5\x8f\xf5\xa7\xa5\xdb\x00\x44\x55\xa1\x7f\x54\xe3\xaf\x29\xbd\x8b\x5c\x47\xa5\xc1\x61\x06\x4c\xad\xe7\xb0\xda\x07\x0d\x4b\x2a\xef\xfd\x86\x7a\x35\xbb\xed\x8e\x06\x31";
 
-/// Draws these octets.
-fn drawing(rt: &impl Abort, alloc: Global) -> DrawnBytes {
-    let drawn =
-        b"\x00\x01\x02\x03\x04\x05\x06\x07\x08\x09\x0a\x0b\x0c\x0d\x0e\x0f\x10\x11\x12\x13\x14\x15\x16\x17\x18\x19\x1a\x1b\x1c\x1d\x1e\x1f";
-    DrawnBytes::new(Octets::from_slice(alloc, drawn).expect(rt, "memory"))
-}
+/// The octets that are drawn for it.
+const DRAWN: &[u8] =
+    b"\x00\x01\x02\x03\x04\x05\x06\x07\x08\x09\x0a\x0b\x0c\x0d\x0e\x0f\x10\x11\x12\x13\x14\x15\x16\x17\x18\x19\x1a\x1b\x1c\x1d\x1e\x1f";
 
 /// Whether a call made that document.
-fn is_by_scrypt(rt: &impl Abort, alloc: Global, document: Result<SecretDocument>) -> bool {
-    let document = document.expect(rt, "a document");
-    are_digits(rt, alloc, document.as_bytes(), BY_SCRYPT)
-}
-
-/// What `encrypt` makes of a key.
-fn by_encrypt(
-    rt: &impl Abort,
-    alloc: Global,
-    key: &PrivateKeyInfoRef<'_>,
-) -> Result<SecretDocument> {
-    key.encrypt(alloc, &mut drawing(rt, alloc), b"hunter42")
-}
-
-/// What `encrypt_with_rng` makes of it.
-fn by_generator(
-    rt: &impl Abort,
-    alloc: Global,
-    key: &PrivateKeyInfoRef<'_>,
-) -> Result<SecretDocument> {
-    key.encrypt_with_rng(alloc, &mut drawing(rt, alloc), b"hunter42")
-}
-
-/// What is made of it as a key of any type.
-fn by_key_type(
-    rt: &impl Abort,
-    alloc: Global,
-    key: &PrivateKeyInfoRef<'_>,
-) -> Result<SecretDocument> {
-    sealed(alloc, &mut drawing(rt, alloc), key, b"hunter42")
+fn is_by_scrypt(document: Result<SecretDocument>) -> bool {
+    match document {
+        Ok(document) => document.as_bytes() == BY_SCRYPT,
+        Err(_) => false,
+    }
 }
 
 #[test]
 fn a_key_is_sealed_under_drawn_octets(rt: HostRuntime) {
     let alloc = rt.alloc();
-    let text = octets(&rt, alloc, KEY);
-    let key = super::read(&rt, text.as_slice());
-    assert!(rt; is_by_scrypt(&rt, alloc, by_encrypt(&rt, alloc, &key)));
-    assert!(rt; is_by_scrypt(&rt, alloc, by_generator(&rt, alloc, &key)));
-    assert!(rt; is_by_scrypt(&rt, alloc, by_key_type(&rt, alloc, &key)));
+    let key = super::read(&rt, KEY);
+    let mut draw = drawing(&rt, alloc, DRAWN);
+    assert!(rt; is_by_scrypt(key.encrypt(alloc, &mut draw, b"hunter42")));
 }
 
 #[test]
-fn a_document_by_scrypt_is_opened(rt: HostRuntime) {
-    assert!(rt; opens(&rt, rt.alloc(), BY_SCRYPT, KEY));
+fn a_key_is_sealed_with_a_generator(rt: HostRuntime) {
+    let alloc = rt.alloc();
+    let key = super::read(&rt, KEY);
+    let mut draw = drawing(&rt, alloc, DRAWN);
+    assert!(rt; is_by_scrypt(key.encrypt_with_rng(alloc, &mut draw, b"hunter42")));
+}
+
+#[test]
+fn a_key_of_any_type_is_sealed(rt: HostRuntime) {
+    let alloc = rt.alloc();
+    let key = super::read(&rt, KEY);
+    let mut draw = drawing(&rt, alloc, DRAWN);
+    assert!(rt; is_by_scrypt(sealed(alloc, &mut draw, &key, b"hunter42")));
+}
+
+#[test]
+fn documents_of_other_programs_are_opened_and_made_again(rt: HostRuntime) {
+    let alloc = rt.alloc();
+    assert!(rt;
+        opens(&rt, alloc, SEALED) && seals(&rt, alloc, SEALED) && opens(&rt, alloc, BY_SCRYPT)
+    );
 }
 
 /// The document of a text, in memory of its own.
@@ -147,12 +124,13 @@ fn is_copied(rt: &impl Abort, alloc: Global, owned: &EncryptedPrivateKeyInfoOwne
 #[test]
 fn documents_in_memory_of_their_own_are_equal(rt: HostRuntime) {
     let alloc = rt.alloc();
-    let text = octets(&rt, alloc, SEALED);
-    let info = read(&rt, text.as_slice());
-    let owned = owned(&rt, alloc, text.as_slice());
-    assert!(rt; is_borrowed(&owned, &info));
-    assert!(rt; is_made_owned(&rt, alloc, &owned, &info));
-    assert!(rt; is_copied(&rt, alloc, &owned));
+    let info = read(&rt, SEALED);
+    let owned = owned(&rt, alloc, SEALED);
+    assert!(rt;
+        is_borrowed(&owned, &info)
+            && is_made_owned(&rt, alloc, &owned, &info)
+            && is_copied(&rt, alloc, &owned)
+    );
 }
 
 /// What decrypting these octets under a password is refused for.
@@ -163,79 +141,54 @@ fn refusal(alloc: Global, document: &[u8], password: &[u8]) -> Option<Error> {
     }
 }
 
-/// Whether decrypting the document of these digits is refused for this.
-fn is_refused(
-    rt: &impl Abort,
-    alloc: Global,
-    digits: &str,
-    password: &[u8],
-    refused: Error,
-) -> bool {
-    refusal(alloc, octets(rt, alloc, digits).as_slice(), password) == Some(refused)
+/// Whether decrypting these octets under `hunter42` is refused for this.
+fn is_refused(alloc: Global, document: &[u8], refused: Error) -> bool {
+    refusal(alloc, document, b"hunter42") == Some(refused)
 }
 
 /// Octets under `hunter42` in two rounds, by the package `cryptography` of Python: an OCTET STRING, a SEQUENCE and an octet more, and an
 /// empty SEQUENCE with the stated length of a key of AES-128 and with that of its own.
-const NO_SEQUENCE: &str =
-    "306a305606092a864886f70d01050d3049302806092a864886f70d01050c301b04080001020304050607020102300c06082a864886f70d02090500301d060960864801650304012a0410101112131415161718191a1b1c1d1e1f0410f71bf7f67fc0d2627a34d336d1ed0e45";
+const NO_SEQUENCE: &[u8] =
+    b"\x30\x6a\x30\x56\x06\x09\x2a\x86\x48\x86\xf7\x0d\x01\x05\x0d\x30\x49\x30\x28\x06\x09\x2a\x86\x48\x86\xf7\x0d\x01\x05\x0c\x30\x1b\x04\x08\x00\x01\x02\x03\x04\x05\x06\x07\x02\x01\x02\x30\x0c\x06\x08\x2a\x86\x48\x86\xf7\x0d\x02\x09\x05\x00\x30\x1d\x06\x09\x60\x86\x48\x01\x65\x03\x04\x01\x2a\x04\x10\x10\x11\x12\x13\x14\x15\x16\x17\x18\x19\x1a\x1b\x1c\x1d\x1e\x1f\x04\x10\xf7\x1b\xf7\xf6\x7f\xc0\xd2\x62\x7a\x34\xd3\x36\xd1\xed\x0e\x45";
 
-const LEFT_OVER: &str =
-    "306a305606092a864886f70d01050d3049302806092a864886f70d01050c301b04080001020304050607020102300c06082a864886f70d02090500301d060960864801650304012a0410101112131415161718191a1b1c1d1e1f0410242848af53f66070e8f54e5376ba621c";
+const LEFT_OVER: &[u8] =
+    b"\x30\x6a\x30\x56\x06\x09\x2a\x86\x48\x86\xf7\x0d\x01\x05\x0d\x30\x49\x30\x28\x06\x09\x2a\x86\x48\x86\xf7\x0d\x01\x05\x0c\x30\x1b\x04\x08\x00\x01\x02\x03\x04\x05\x06\x07\x02\x01\x02\x30\x0c\x06\x08\x2a\x86\x48\x86\xf7\x0d\x02\x09\x05\x00\x30\x1d\x06\x09\x60\x86\x48\x01\x65\x03\x04\x01\x2a\x04\x10\x10\x11\x12\x13\x14\x15\x16\x17\x18\x19\x1a\x1b\x1c\x1d\x1e\x1f\x04\x10\x24\x28\x48\xaf\x53\xf6\x60\x70\xe8\xf5\x4e\x53\x76\xba\x62\x1c";
 
-const SHORTER_KEY: &str =
-    "306d305906092a864886f70d01050d304c302b06092a864886f70d01050c301e04080001020304050607020102020110300c06082a864886f70d02090500301d060960864801650304012a0410101112131415161718191a1b1c1d1e1f0410a5fe88c6846554714fe64642a801eaa6";
+const SHORTER_KEY: &[u8] =
+    b"\x30\x6d\x30\x59\x06\x09\x2a\x86\x48\x86\xf7\x0d\x01\x05\x0d\x30\x4c\x30\x2b\x06\x09\x2a\x86\x48\x86\xf7\x0d\x01\x05\x0c\x30\x1e\x04\x08\x00\x01\x02\x03\x04\x05\x06\x07\x02\x01\x02\x02\x01\x10\x30\x0c\x06\x08\x2a\x86\x48\x86\xf7\x0d\x02\x09\x05\x00\x30\x1d\x06\x09\x60\x86\x48\x01\x65\x03\x04\x01\x2a\x04\x10\x10\x11\x12\x13\x14\x15\x16\x17\x18\x19\x1a\x1b\x1c\x1d\x1e\x1f\x04\x10\xa5\xfe\x88\xc6\x84\x65\x54\x71\x4f\xe6\x46\x42\xa8\x01\xea\xa6";
 
-const STATED_KEY: &str =
-    "306d305906092a864886f70d01050d304c302b06092a864886f70d01050c301e04080001020304050607020102020120300c06082a864886f70d02090500301d060960864801650304012a0410101112131415161718191a1b1c1d1e1f0410a5fe88c6846554714fe64642a801eaa6";
+const STATED_KEY: &[u8] =
+    b"\x30\x6d\x30\x59\x06\x09\x2a\x86\x48\x86\xf7\x0d\x01\x05\x0d\x30\x4c\x30\x2b\x06\x09\x2a\x86\x48\x86\xf7\x0d\x01\x05\x0c\x30\x1e\x04\x08\x00\x01\x02\x03\x04\x05\x06\x07\x02\x01\x02\x02\x01\x20\x30\x0c\x06\x08\x2a\x86\x48\x86\xf7\x0d\x02\x09\x05\x00\x30\x1d\x06\x09\x60\x86\x48\x01\x65\x03\x04\x01\x2a\x04\x10\x10\x11\x12\x13\x14\x15\x16\x17\x18\x19\x1a\x1b\x1c\x1d\x1e\x1f\x04\x10\xa5\xfe\x88\xc6\x84\x65\x54\x71\x4f\xe6\x46\x42\xa8\x01\xea\xa6";
 
 /// A document whose key is derived by scrypt (RFC 7914 section 7).
-const OTHER_FUNCTION: &str =
-    "308193304f06092a864886f70d01050d3042302106092b06010401da47040c30140408e6211e2348ad69e002024000020108020101301d060960864801650304012a04109bd0a6251f2254f9fd5963887c27cf010440cc62ba773c0f495fab3668e4fcefcdb08e78a0ee15e0a15013f62abe08daa742065eeb366d6e6c98cc3b0e7e69bdc861c88afeb8f03dba1e2c6d99d06d17360c";
+const OTHER_FUNCTION: &[u8] =
+    b"\x30\x81\x93\x30\x4f\x06\x09\x2a\x86\x48\x86\xf7\x0d\x01\x05\x0d\x30\x42\x30\x21\x06\x09\x2b\x06\x01\x04\x01\xda\x47\x04\x0c\x30\x14\x04\x08\xe6\x21\x1e\x23\x48\xad\x69\xe0\x02\x02\x40\x00\x02\x01\x08\x02\x01\x01\x30\x1d\x06\x09\x60\x86\x48\x01\x65\x03\x04\x01\x2a\x04\x10\x9b\xd0\xa6\x25\x1f\x22\x54\xf9\xfd\x59\x63\x88\x7c\x27\xcf\x01\x04\x40\xcc\x62\xba\x77\x3c\x0f\x49\x5f\xab\x36\x68\xe4\xfc\xef\xcd\xb0\x8e\x78\xa0\xee\x15\xe0\xa1\x50\x13\xf6\x2a\xbe\x08\xda\xa7\x42\x06\x5e\xeb\x36\x6d\x6e\x6c\x98\xcc\x3b\x0e\x7e\x69\xbd\xc8\x61\xc8\x8a\xfe\xb8\xf0\x3d\xba\x1e\x2c\x6d\x99\xd0\x6d\x17\x36\x0c";
+
+const MALFORMED: Error = Error::Asn1(asn1_core::Error::Malformed);
+
+/// Octets of no document, and documents of no key.
+static OF_NO_KEY: [&[u8]; 5] = [NO_SEQUENCE, LEFT_OVER, b"", b"\x30\x00", KEY];
 
 #[test]
 fn documents_that_are_refused(rt: HostRuntime) {
     let alloc = rt.alloc();
-    let malformed = Error::Asn1(asn1_core::Error::Malformed);
-    let oid = oid(&rt, "1.3.6.1.4.1.11591.4.12");
-    for (digits, refused) in [
-        (NO_SEQUENCE, malformed),
-        (LEFT_OVER, malformed),
-        ("", malformed),
-        ("3000", malformed),
-        (KEY, malformed),
-        (
-            OTHER_FUNCTION,
-            Error::Asn1(asn1_core::Error::OidUnknown { oid }),
-        ),
-    ] {
-        assert!(rt;
-            is_refused(&rt, alloc, digits, b"hunter42", refused),
-            "{digits}"
-        );
+    for document in &OF_NO_KEY {
+        assert!(rt; is_refused(alloc, document, MALFORMED), "{document:?}");
     }
+    let oid = oid(&rt, "1.3.6.1.4.1.11591.4.12");
+    let unknown = Error::Asn1(asn1_core::Error::OidUnknown { oid });
     let failed = Error::EncryptedPrivateKey(pkcs5::Error::DecryptFailed);
-    assert!(rt; is_refused(&rt, alloc, SEALED, b"hunter43", failed));
-}
-
-#[test]
-fn a_document_that_is_cut_is_refused(rt: HostRuntime) {
-    let alloc = rt.alloc();
-    let sealed = octets(&rt, alloc, SEALED);
-    let cut = &sealed[..sealed.len().saturating_sub(1)];
-    let malformed = Error::Asn1(asn1_core::Error::Malformed);
-    assert!(rt; refusal(alloc, cut, b"hunter42") == Some(malformed));
+    assert!(rt;
+        is_refused(alloc, OTHER_FUNCTION, unknown)
+            && is_refused(alloc, &SEALED[..SEALED.len().saturating_sub(1)], MALFORMED)
+            && refusal(alloc, SEALED, b"hunter43") == Some(failed)
+    );
 }
 
 /// Whether encrypting the key under the parameters of a document is refused for this.
-fn cannot_seal(rt: &impl Abort, alloc: Global, document: &str, refused: Error) -> bool {
-    let text = octets(rt, alloc, document);
-    let parameters = parameters(rt, &read(rt, text.as_slice()));
-    let key = octets(rt, alloc, KEY);
-    let sealed = super::read(rt, key.as_slice()).encrypt_with_params(
-        alloc,
-        parameters,
-        b"hunter42",
-    );
+fn cannot_seal(rt: &impl Abort, alloc: Global, document: &[u8], refused: Error) -> bool {
+    let parameters = parameters(rt, &read(rt, document));
+    let sealed = super::read(rt, KEY).encrypt_with_params(alloc, parameters, b"hunter42");
     sealed.err() == Some(refused)
 }
 
@@ -244,30 +197,29 @@ fn a_stated_length_is_that_of_the_ciphers_key(rt: HostRuntime) {
     let alloc = rt.alloc();
     let oid = pbes2::PBKDF2_OID;
     let invalid = Error::EncryptedPrivateKey(pkcs5::Error::AlgorithmParametersInvalid { oid });
-    assert!(rt; is_refused(&rt, alloc, SHORTER_KEY, b"hunter42", invalid));
-    assert!(rt; cannot_seal(&rt, alloc, SHORTER_KEY, invalid));
-    let stated = octets(&rt, alloc, STATED_KEY);
-    assert!(rt; refusal(alloc, stated.as_slice(), b"hunter42").is_none());
+    assert!(rt;
+        is_refused(alloc, SHORTER_KEY, invalid)
+            && cannot_seal(&rt, alloc, SHORTER_KEY, invalid)
+            && refusal(alloc, STATED_KEY, b"hunter42").is_none()
+    );
 }
 
 #[test]
 fn an_empty_ciphertext_is_another_document(rt: HostRuntime) {
-    let alloc = rt.alloc();
-    let text = octets(&rt, alloc, SEALED);
-    let info = read(&rt, text.as_slice());
+    let info = read(&rt, SEALED);
     let empty = EncryptedPrivateKeyInfo {
         encryption_algorithm: info.encryption_algorithm,
         encrypted_data: OctetStringRef::new(&[]).expect(&rt, "a string"),
     };
-    assert!(rt; empty != info && info == info);
-    assert!(rt; empty.decrypt(alloc, b"hunter42").is_err());
+    let refused = empty.decrypt(rt.alloc(), b"hunter42").err();
+    let failed = Error::EncryptedPrivateKey(pkcs5::Error::DecryptFailed);
+    assert!(rt; empty != info && info == info && refused == Some(failed));
 }
 
 #[test]
 fn laws_of_documents_at_concrete_types(rt: HostRuntime) {
-    let text = octets(&rt, rt.alloc(), SEALED);
-    let info = read(&rt, text.as_slice());
-    texts_are_read::<&[u8], EncryptedPrivateKeyInfoRef<'_>>(text.as_slice());
-    exact_spellings::<&[u8], EncryptedPrivateKeyInfoRef<'_>>(text.as_slice(), &info);
+    let info = read(&rt, SEALED);
+    texts_are_read::<&[u8], EncryptedPrivateKeyInfoRef<'_>>(SEALED);
+    exact_spellings::<&[u8], EncryptedPrivateKeyInfoRef<'_>>(SEALED, &info);
     canon_is_read::<&[u8], EncryptedPrivateKeyInfoRef<'_>>(&info);
 }

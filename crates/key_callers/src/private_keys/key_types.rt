@@ -3,9 +3,8 @@ ghost use Rattle.std.specs.Prelude.{◌≡◌};
 
 use super::documents::SEALED;
 use super::{KEY, WITH_PUBLIC_KEY, read};
-use crate::values::{are_digits, octets};
+use crate::values::drawing;
 use asn1_core::Octets;
-use octet_core::DrawnBytes;
 use pkcs8::{
     DecodePrivateKey, EncodePrivateKey, Error, PrivateKeyInfoOwned, PrivateKeyInfoRef, Result,
     SecretDocument,
@@ -34,33 +33,27 @@ impl EncodePrivateKey for KeptKey {
     }
 }
 
-/// Whether the key that is written into a file is this one, as it is read of it.
-fn is_read_back<R: Abort + Files>(
-    rt: &R,
-    alloc: Global,
-    key: &KeptKey,
-    expected: &PrivateKeyInfoRef<'_>,
-    path: &str,
-) -> bool {
-    key.write_pkcs8_der_file(rt, alloc, path)
-        .expect(rt, "a file");
+/// Whether a key is stored as the text.
+fn is_stored(rt: &impl Abort, alloc: Global, key: &impl EncodePrivateKey, text: &[u8]) -> bool {
+    let document = key.to_pkcs8_der(alloc).expect(rt, "memory");
+    document.as_bytes() == text
+}
+
+/// Whether the key comes back out of a file as that of the text.
+fn is_read_back<R: Abort + Files>(rt: &R, alloc: Global, key: &KeptKey, text: &[u8]) -> bool {
+    let path = "pkcs8_kept_key.der";
+    let written = key.write_pkcs8_der_file(rt, alloc, path);
     let found = PrivateKeyInfoOwned::read_pkcs8_der_file(rt, alloc, path).expect(rt, "a key");
-    is_borrowed(&found, expected)
+    written.is_ok() && is_borrowed(&found, &read(rt, text)) && fs::remove_file(rt, path).is_ok()
 }
 
 #[test]
 fn a_kept_key_comes_back_equal(rt: HostRuntime) {
     let alloc = rt.alloc();
-    let path = "pkcs8_kept_key.der";
-    let text = octets(&rt, alloc, KEY);
     let key = KeptKey {
-        text: Octets::from_slice(alloc, text.as_slice()).expect(&rt, "memory"),
+        text: Octets::from_slice(alloc, KEY).expect(&rt, "memory"),
     };
-    let document = key.to_pkcs8_der(alloc).expect(&rt, "memory");
-    assert!(rt; document.as_bytes() == text.as_slice());
-    let expected = read(&rt, text.as_slice());
-    assert!(rt; is_read_back(&rt, alloc, &key, &expected, path));
-    assert!(rt; fs::remove_file(&rt, path).is_ok());
+    assert!(rt; is_stored(&rt, alloc, &key, KEY) && is_read_back(&rt, alloc, &key, KEY));
 }
 
 #[test]
@@ -73,22 +66,14 @@ fn a_missing_file_is_refused(rt: HostRuntime) {
 #[test]
 fn a_key_is_loaded_from_a_document(rt: HostRuntime) {
     let alloc = rt.alloc();
-    let document = octets(&rt, alloc, SEALED);
-    let key = PrivateKeyInfoOwned::from_pkcs8_encrypted_der(
-        alloc,
-        document.as_slice(),
-        b"hunter42",
-    ).expect(&rt, "a key");
-    let text = key.to_pkcs8_der(alloc).expect(&rt, "memory");
-    assert!(rt; are_digits(&rt, alloc, text.as_bytes(), KEY));
+    let key = PrivateKeyInfoOwned::from_pkcs8_encrypted_der(alloc, SEALED, b"hunter42");
+    assert!(rt; is_stored(&rt, alloc, &key.expect(&rt, "a key"), KEY));
 }
 
 #[test]
 fn no_key_is_loaded_from_a_cut_document(rt: HostRuntime) {
-    let alloc = rt.alloc();
-    let document = octets(&rt, alloc, SEALED);
-    let cut = &document[..document.len().saturating_sub(1)];
-    let refused = PrivateKeyInfoOwned::from_pkcs8_encrypted_der(alloc, cut, b"hunter42");
+    let cut = &SEALED[..SEALED.len().saturating_sub(1)];
+    let refused = PrivateKeyInfoOwned::from_pkcs8_encrypted_der(rt.alloc(), cut, b"hunter42");
     assert!(rt; refused.err() == Some(Error::Asn1(asn1_core::Error::Malformed)));
 }
 
@@ -97,19 +82,19 @@ fn lacked_octets(answer: Result<SecretDocument>) -> bool {
     matches!(answer, Err(Error::EncryptedPrivateKey(pkcs5::Error::Rng)))
 }
 
-/// Draws 31 octets.
-fn drawing(rt: &impl Abort, alloc: Global) -> DrawnBytes {
-    DrawnBytes::new(Octets::from_slice(alloc, &[7; 31]).expect(rt, "memory"))
-}
-
 #[test]
 fn a_key_wants_32_drawn_octets(rt: HostRuntime) {
     let alloc = rt.alloc();
-    let text = octets(&rt, alloc, KEY);
-    let key = read(&rt, text.as_slice());
-    let mut draw = drawing(&rt, alloc);
+    let key = read(&rt, KEY);
+    let mut draw = drawing(&rt, alloc, &[7; 31]);
     assert!(rt; lacked_octets(key.encrypt(alloc, &mut draw, b"hunter42")));
-    let mut draw = drawing(&rt, alloc);
+}
+
+#[test]
+fn a_key_of_any_type_wants_32_drawn_octets(rt: HostRuntime) {
+    let alloc = rt.alloc();
+    let key = read(&rt, KEY);
+    let mut draw = drawing(&rt, alloc, &[7; 31]);
     assert!(rt; lacked_octets(key.to_pkcs8_encrypted_der(alloc, &mut draw, b"hunter42")));
 }
 
@@ -133,13 +118,24 @@ fn is_made_owned(
     key.ref_to_owned(alloc).expect(rt, "memory") == *owned
 }
 
+/// Whether a copy of an owned key is this borrowed one.
+fn is_copied(
+    rt: &impl Abort,
+    alloc: Global,
+    owned: &PrivateKeyInfoOwned,
+    key: &PrivateKeyInfoRef<'_>,
+) -> bool {
+    is_borrowed(&owned.try_clone(alloc).expect(rt, "memory"), key)
+}
+
 #[test]
 fn owned_forms_are_equal(rt: HostRuntime) {
     let alloc = rt.alloc();
-    let text = octets(&rt, alloc, WITH_PUBLIC_KEY);
-    let key = read(&rt, text.as_slice());
-    let owned = owned(&rt, alloc, text.as_slice());
-    assert!(rt; is_borrowed(&owned, &key));
-    assert!(rt; is_borrowed(&owned.try_clone(alloc).expect(&rt, "memory"), &key));
-    assert!(rt; is_made_owned(&rt, alloc, &owned, &key));
+    let key = read(&rt, WITH_PUBLIC_KEY);
+    let owned = owned(&rt, alloc, WITH_PUBLIC_KEY);
+    assert!(rt;
+        is_borrowed(&owned, &key)
+            && is_copied(&rt, alloc, &owned, &key)
+            && is_made_owned(&rt, alloc, &owned, &key)
+    );
 }

@@ -10,7 +10,7 @@ pub struct OpensslKey {
     pub text: &'static str,
 }
 
-pub const KEYS: [OpensslKey; 4] = [
+pub static KEYS: [OpensslKey; 4] = [
     OpensslKey {
         name: "RSA of 2048 bits",
         algorithm: "1.2.840.113549.1.1.1",

@@ -1,6 +1,6 @@
 //! What the calls on an algorithm answer.
 use super::{EC, P_256_ALGORITHM, read};
-use crate::values::{octets, oid};
+use crate::values::oid;
 use asn1_core::Error::Malformed;
 use asn1_core::ObjectIdentifier;
 use der_core::{AnyRef, Null};
@@ -63,22 +63,25 @@ fn any_parameters_are(algorithm: &Algorithm<'_>, answer: Result<AnyRef<'_>>) -> 
 
 #[test]
 fn the_algorithm_of_a_curve(rt: HostRuntime) {
-    let text = octets(&rt, rt.alloc(), EC);
-    let algorithm = read(&rt, text.as_slice()).algorithm;
+    let algorithm = read(&rt, EC).algorithm;
     let ec = oid(&rt, "1.2.840.10045.2.1");
     let curve = oid(&rt, "1.2.840.10045.3.1.7");
+    assert!(rt;
+        oids_are(&algorithm, Ok((ec, Some(curve))))
+            && asserted_algorithm_is(&algorithm, ec, Ok(ec))
+            && asserted_parameters_are(&algorithm, curve, Ok(curve))
+            && asserted_oids_are(&algorithm, ec, curve, Ok(()))
+            && parameters_oid_is(&algorithm, Ok(curve))
+            && any_parameters_are(&algorithm, Ok(AnyRef::from(&curve)))
+    );
     let found_ec = Error::OidUnknown { oid: ec };
     let found_curve = Error::OidUnknown { oid: curve };
-    assert!(rt; oids_are(&algorithm, Ok((ec, Some(curve)))));
-    assert!(rt; asserted_algorithm_is(&algorithm, ec, Ok(ec)));
-    assert!(rt; asserted_algorithm_is(&algorithm, curve, Err(found_ec)));
-    assert!(rt; asserted_parameters_are(&algorithm, curve, Ok(curve)));
-    assert!(rt; asserted_parameters_are(&algorithm, ec, Err(found_curve)));
-    assert!(rt; asserted_oids_are(&algorithm, ec, curve, Ok(())));
-    assert!(rt; asserted_oids_are(&algorithm, curve, ec, Err(found_ec)));
-    assert!(rt; asserted_oids_are(&algorithm, ec, ec, Err(found_curve)));
-    assert!(rt; parameters_oid_is(&algorithm, Ok(curve)));
-    assert!(rt; any_parameters_are(&algorithm, Ok(AnyRef::from(&curve))));
+    assert!(rt;
+        asserted_algorithm_is(&algorithm, curve, Err(found_ec))
+            && asserted_parameters_are(&algorithm, ec, Err(found_curve))
+            && asserted_oids_are(&algorithm, curve, ec, Err(found_ec))
+            && asserted_oids_are(&algorithm, ec, ec, Err(found_curve))
+    );
 }
 
 #[test]
@@ -88,14 +91,17 @@ fn parameters_that_are_no_identifier(rt: HostRuntime) {
         oid: rsa,
         parameters: Some(AnyRef::from(Null)),
     };
-    assert!(rt; oids_are(&null, Ok((rsa, None))));
-    assert!(rt; any_parameters_are(&null, Ok(AnyRef::from(Null))));
-    assert!(rt; parameters_oid_is(&null, Err(Error::Asn1(Malformed))));
-    assert!(rt; asserted_parameters_are(&null, rsa, Err(Error::Asn1(Malformed))));
+    assert!(rt;
+        oids_are(&null, Ok((rsa, None)))
+            && any_parameters_are(&null, Ok(AnyRef::from(Null)))
+            && parameters_oid_is(&null, Err(Error::Asn1(Malformed)))
+            && asserted_parameters_are(&null, rsa, Err(Error::Asn1(Malformed)))
+    );
     let number = Algorithm::try_from(&[0x30, 6, 6, 1, 0x2a, 2, 1, 5][..]);
     let number = number.expect(&rt, "an algorithm");
-    assert!(rt; oids_are(&number, Err(Malformed)));
-    assert!(rt; parameters_oid_is(&number, Err(Error::Asn1(Malformed))));
+    assert!(rt;
+        oids_are(&number, Err(Malformed)) && parameters_oid_is(&number, Err(Error::Asn1(Malformed)))
+    );
 }
 
 #[test]
@@ -106,10 +112,12 @@ fn no_parameters(rt: HostRuntime) {
         parameters: None,
     };
     let missing = Error::AlgorithmParametersMissing;
-    assert!(rt; oids_are(&none, Ok((rsa, None))));
-    assert!(rt; any_parameters_are(&none, Err(missing)));
-    assert!(rt; parameters_oid_is(&none, Err(missing)));
-    assert!(rt; asserted_oids_are(&none, rsa, rsa, Err(missing)));
+    assert!(rt;
+        oids_are(&none, Ok((rsa, None)))
+            && any_parameters_are(&none, Err(missing))
+            && parameters_oid_is(&none, Err(missing))
+            && asserted_oids_are(&none, rsa, rsa, Err(missing))
+    );
     let curve: AlgorithmIdentifierWithOid = AlgorithmIdentifier {
         oid: rsa,
         parameters: Some(rsa),
@@ -118,9 +126,8 @@ fn no_parameters(rt: HostRuntime) {
 }
 
 /// The algorithm of a text, in memory of its own.
-pub fn owned_algorithm(rt: &impl Abort, alloc: Global, digits: &str) -> AlgorithmIdentifierOwned {
-    let text = octets(rt, alloc, digits);
-    AlgorithmIdentifierOwned::from_der(alloc, text.as_slice()).expect(rt, "an algorithm")
+pub fn owned_algorithm(rt: &impl Abort, alloc: Global, text: &[u8]) -> AlgorithmIdentifierOwned {
+    AlgorithmIdentifierOwned::from_der(alloc, text).expect(rt, "an algorithm")
 }
 
 /// Whether an owned algorithm is this borrowed one.
@@ -146,10 +153,11 @@ fn is_copied(rt: &impl Abort, alloc: Global, owned: &AlgorithmIdentifierOwned) -
 #[test]
 fn an_owned_algorithm_is_what_was_borrowed(rt: HostRuntime) {
     let alloc = rt.alloc();
-    let text = octets(&rt, alloc, EC);
-    let algorithm = read(&rt, text.as_slice()).algorithm;
+    let algorithm = read(&rt, EC).algorithm;
     let owned = owned_algorithm(&rt, alloc, P_256_ALGORITHM);
-    assert!(rt; is_borrowed(&owned, &algorithm));
-    assert!(rt; is_made_owned(&rt, alloc, &owned, &algorithm));
-    assert!(rt; is_copied(&rt, alloc, &owned));
+    assert!(rt;
+        is_borrowed(&owned, &algorithm)
+            && is_made_owned(&rt, alloc, &owned, &algorithm)
+            && is_copied(&rt, alloc, &owned)
+    );
 }

@@ -4,7 +4,7 @@ ghost use Rattle.spki.specs.AlgorithmOids.{ParametersOid};
 ghost use Rattle.spki.specs.Seen.{AnyPublicKey, IsPublicKey};
 
 use super::{EC, PUB};
-use crate::values::{octets, oid};
+use crate::values::oid;
 use asn1_core::ObjectIdentifier;
 use spki::{Error, Result, SubjectPublicKeyInfoRef};
 
@@ -21,11 +21,12 @@ fn named_curve(ec_public_key: ObjectIdentifier, text: &[u8]) -> Result<ObjectIde
 
 #[test]
 fn the_curve_of_a_key(rt: HostRuntime) {
-    let alloc = rt.alloc();
     let ec = oid(&rt, "1.2.840.10045.2.1");
-    let text = octets(&rt, alloc, EC);
-    assert!(rt; named_curve(ec, text.as_slice()) == Ok(oid(&rt, "1.2.840.10045.3.1.7")));
-    let text = octets(&rt, alloc, PUB);
-    let found = oid(&rt, "1.3.101.112");
-    assert!(rt; named_curve(ec, text.as_slice()) == Err(Error::OidUnknown { oid: found }));
+    let unknown = Error::OidUnknown {
+        oid: oid(&rt, "1.3.101.112"),
+    };
+    assert!(rt;
+        named_curve(ec, EC) == Ok(oid(&rt, "1.2.840.10045.3.1.7"))
+            && named_curve(ec, PUB) == Err(unknown)
+    );
 }

@@ -6,7 +6,6 @@ ghost use Rattle.spki.specs.declared.error.Error.TheVariants as errors;
 
 use super::algorithms::owned_algorithm;
 use super::{EC, P_256_ALGORITHM, PUB, read};
-use crate::values::{are_digits, octets};
 use asn1_core::ObjectIdentifier;
 use der_core::{BitString, Document, Encode, Null};
 use sha2::{Digest, Sha256};
@@ -141,46 +140,45 @@ impl SignatureAlgorithmIdentifier for KeptKey {
 }
 
 /// The kept key of a text.
-fn kept(rt: &impl Abort, alloc: Global, digits: &str) -> KeptKey {
-    let text = octets(rt, alloc, digits);
-    KeptKey::from_public_key_der(alloc, text.as_slice()).expect(rt, "a key")
+fn kept(rt: &impl Abort, alloc: Global, text: &[u8]) -> KeptKey {
+    KeptKey::from_public_key_der(alloc, text).expect(rt, "a key")
 }
 
-/// Whether the kept key of a text is stored as the text.
-fn is_stored_again(rt: &impl Abort, alloc: Global, digits: &str) -> bool {
-    let document = kept(rt, alloc, digits)
-        .to_public_key_der(alloc)
-        .expect(rt, "memory");
-    are_digits(rt, alloc, document.as_bytes(), digits)
+/// Whether a key is stored as the text.
+fn is_stored(rt: &impl Abort, alloc: Global, key: &KeptKey, text: &[u8]) -> bool {
+    let document = key.to_public_key_der(alloc).expect(rt, "memory");
+    document.as_bytes() == text
 }
 
 /// Whether it comes back out of a file.
-fn is_read_back<R: Abort + Files>(rt: &R, alloc: Global, digits: &str, path: &str) -> bool {
-    let key = kept(rt, alloc, digits);
+fn is_read_back<R: Abort + Files>(rt: &R, alloc: Global, key: &KeptKey) -> bool {
+    let path = "spki_kept_key.der";
     let written = key.write_public_key_der_file(rt, alloc, path);
     let read = KeptKey::read_public_key_der_file(rt, alloc, path).expect(rt, "a key");
-    written.is_ok() && read == key
+    written.is_ok() && read == *key && fs::remove_file(rt, path).is_ok()
 }
 
 /// Whether it gives the public key of the text.
-fn gives_public_key(rt: &impl Abort, alloc: Global, digits: &str) -> bool {
-    let text = octets(rt, alloc, digits);
-    let key = kept(rt, alloc, digits);
-    let given = SubjectPublicKeyInfoOwned::from_key(alloc, &key).expect(rt, "a public key");
-    let expected = SubjectPublicKeyInfoOwned::from_public_key_der(alloc, text.as_slice());
+fn gives_public_key(rt: &impl Abort, alloc: Global, key: &KeptKey, text: &[u8]) -> bool {
+    let given = SubjectPublicKeyInfoOwned::from_key(alloc, key).expect(rt, "a public key");
+    let expected = SubjectPublicKeyInfoOwned::from_public_key_der(alloc, text);
     given == expected.expect(rt, "a public key")
 }
+
+/// The texts of two keys.
+static TEXTS: [&[u8]; 2] = [PUB, EC];
 
 #[test]
 fn a_kept_key_comes_back_equal(rt: HostRuntime) {
     let alloc = rt.alloc();
-    let path = "spki_kept_key.der";
-    for digits in [PUB, EC] {
-        assert!(rt; is_stored_again(&rt, alloc, digits));
-        assert!(rt; is_read_back(&rt, alloc, digits, path));
-        assert!(rt; gives_public_key(&rt, alloc, digits));
+    for text in &TEXTS {
+        let key = kept(&rt, alloc, text);
+        assert!(rt;
+            is_stored(&rt, alloc, &key, text)
+                && is_read_back(&rt, alloc, &key)
+                && gives_public_key(&rt, alloc, &key, text)
+        );
     }
-    assert!(rt; fs::remove_file(&rt, path).is_ok());
 }
 
 #[test]
@@ -188,33 +186,45 @@ fn a_text_of_no_key_is_refused(rt: HostRuntime) {
     let alloc = rt.alloc();
     let path = "spki_no_key.der";
     let malformed = Some(Error::Asn1(asn1_core::Error::Malformed));
-    assert!(rt; KeptKey::from_public_key_der(alloc, &[0x30, 0]).err() == malformed);
-    assert!(rt; fs::write(&rt, path, &[0x30, 0][..]).is_ok());
-    assert!(rt; KeptKey::read_public_key_der_file(&rt, alloc, path).err() == malformed);
-    assert!(rt; fs::remove_file(&rt, path).is_ok());
+    assert!(rt;
+        KeptKey::from_public_key_der(alloc, &[0x30, 0]).err() == malformed
+            && fs::write(&rt, path, &[0x30, 0][..]).is_ok()
+            && KeptKey::read_public_key_der_file(&rt, alloc, path).err() == malformed
+            && fs::remove_file(&rt, path).is_ok()
+    );
 }
 
 #[test]
-fn a_missing_file_or_folder_is_refused(rt: HostRuntime) {
+fn a_missing_file_is_refused(rt: HostRuntime) {
+    let read = KeptKey::read_public_key_der_file(&rt, rt.alloc(), "spki_no_such_key.der");
+    assert!(rt; read.err() == Some(Error::Asn1(asn1_core::Error::File)));
+}
+
+#[test]
+fn a_missing_folder_is_refused(rt: HostRuntime) {
     let alloc = rt.alloc();
-    let no_file = Error::Asn1(asn1_core::Error::File);
-    let read = KeptKey::read_public_key_der_file(&rt, alloc, "spki_no_such_key.der");
-    assert!(rt; read.err() == Some(no_file));
     let key = kept(&rt, alloc, PUB);
     let written = key.write_public_key_der_file(&rt, alloc, "no_such_folder/key.der");
-    assert!(rt; written == Err(no_file));
+    assert!(rt; written == Err(Error::Asn1(asn1_core::Error::File)));
+}
+
+/// The algorithm of its signatures.
+const SIGNATURE_ALGORITHM: &[u8] = b"\x30\x0a\x06\x08\x2a\x86\x48\xce\x3d\x04\x03\x02";
+
+#[test]
+fn the_algorithm_of_a_type(rt: HostRuntime) {
+    let alloc = rt.alloc();
+    let found = kept(&rt, alloc, PUB).algorithm_identifier(alloc);
+    let expected = owned_algorithm(&rt, alloc, P_256_ALGORITHM);
+    assert!(rt; found.expect(&rt, "an algorithm") == expected);
 }
 
 #[test]
-fn algorithms_of_a_type(rt: HostRuntime) {
+fn the_algorithm_of_a_types_signatures(rt: HostRuntime) {
     let alloc = rt.alloc();
-    let key = kept(&rt, alloc, PUB);
-    let found = key.algorithm_identifier(alloc).expect(&rt, "an algorithm");
-    assert!(rt; found == owned_algorithm(&rt, alloc, P_256_ALGORITHM));
-    let found = key
-        .signature_algorithm_identifier(alloc)
-        .expect(&rt, "an algorithm");
-    assert!(rt; found == owned_algorithm(&rt, alloc, "300a06082a8648ce3d040302"));
+    let found = kept(&rt, alloc, PUB).signature_algorithm_identifier(alloc);
+    let expected = owned_algorithm(&rt, alloc, SIGNATURE_ALGORITHM);
+    assert!(rt; found.expect(&rt, "an algorithm") == expected);
 }
 
 #[test]
@@ -227,8 +237,7 @@ fn the_bits_of_a_signature(rt: HostRuntime) {
 
 #[test]
 fn a_digest_takes_what_is_written(rt: HostRuntime) {
-    let text = octets(&rt, rt.alloc(), PUB);
-    let key = read(&rt, text.as_slice());
+    let key = read(&rt, PUB);
     let mut digest = Sha256::new();
     key.encode(&mut DigestWriter(&mut digest))
         .expect(&rt, "no refusal");
