@@ -1,5 +1,5 @@
 use Rattle.std.proofs.Common.{subst, ◌≡◌, ℕ, ◌+◌, ◌-◌, ◌*◌, ◌/◌, ◌++◌, ◌<◌, ◌≤◌, List, take, length, ap, ◌∙◌, sym, arith}
-use Rattle.std.specs.Prelude.{min}
+use Rattle.std.specs.Prelude.{max, min}
 use Rattle.std.proofs.lemmas.List.{drop_all, append-nil}
 use Rattle.pbkdf2.specs.Pbkdf2.{block, blocks, block_count, pbkdf2}
 use Rattle.pbkdf2.proofs.Xors.{blocks_more, length-block, length-blocks}
@@ -46,3 +46,13 @@ returns-clause-value g c =
     c.loop-done.invariant.value
     ∙ (ap (λ t. take (length o) (blocks (g.P.Prf.prf c.args.password.now) c.args.salt.now c.args.rounds c.loop-done.done) ++ t) (drop_all (c.loop-done.done * u) o past)
     ∙ (append-nil _ ∙ ap (λ n. take (length o) (blocks (g.P.Prf.prf c.args.password.now) c.args.salt.now c.args.rounds n)) last))
+
+pub returns-clause-steps : goal.returns-clause-steps
+returns-clause-steps g c =
+    let end : c.loop-done.done ≡ (length c.args.res.now + (c.OUTPUT.result - 1)) / c.OUTPUT-2.result = omega arith in
+    let last : c.loop-done.done ≡ block_count (length c.args.res.now) g.P.Prf.OUTPUT =
+    end ∙ (ap (λ n. (length c.args.res.now + (n - 1)) / c.OUTPUT-2.result) c.OUTPUT.ensures ∙ ap (λ n. (length c.args.res.now + (g.P.Prf.OUTPUT - 1)) / n) c.OUTPUT-2.ensures) in
+    c.loop-done.invariant.steps ∙ ap (λ n. c.args.steps.now + max c.args.rounds 1 * n) last
+
+pub returns-clause-at_most : goal.returns-clause-at_most
+returns-clause-at_most g c = let taken = returns-clause-steps g c in omega (arith, taken)

@@ -1,4 +1,4 @@
-use Rattle.std.proofs.Common.{◌≡◌, ℕ, ◌+◌, ◌-◌, ◌/◌, List, length, take, drop, ◌++◌, sym, ap, ◌∙◌, arith, add-one}
+use Rattle.std.proofs.Common.{◌≡◌, ℕ, ◌+◌, ◌-◌, ◌*◌, ◌/◌, List, length, take, drop, ◌++◌, sym, ap, ◌∙◌, arith, add-one}
 use Rattle.std.proofs.lemmas.List.{take_at}
 use Rattle.std.proofs.lemmas.Slice.{pushed}
 use Rattle.pkcs12_kdf.specs.Numbers.{numbers}
@@ -47,3 +47,13 @@ returns-clause-value g c =
     let last : c.loop-turn.turn ≡ turns c.args.size g.H.HashFn.OUTPUT =
     end ∙ (ap (λ n. (c.args.size + (n - 1)) / c.OUTPUT-2.result) c.OUTPUT.ensures ∙ ap (λ n. (c.args.size + (g.H.HashFn.OUTPUT - 1)) / n) c.OUTPUT-2.ensures) in
     c.from_vec.ensures ∙ c.truncate.ensures.items ∙ ap (take c.args.size) (c.loop-turn.invariant.key ∙ ap (answers (answer g.H.HashFn.digest c.args.self.now.rounds c.args.id) (numbers (fill c.args.self.now.salt.now ++ fill c.args.self.now.password.now))) last)
+
+pub returns-clause-steps : goal.returns-clause-steps
+returns-clause-steps g c =
+    let end : c.loop-turn.turn ≡ (c.args.size + (c.OUTPUT.result - 1)) / c.OUTPUT-2.result = omega arith in
+    let last : c.loop-turn.turn ≡ turns c.args.size g.H.HashFn.OUTPUT =
+    end ∙ (ap (λ n. (c.args.size + (n - 1)) / c.OUTPUT-2.result) c.OUTPUT.ensures ∙ ap (λ n. (c.args.size + (g.H.HashFn.OUTPUT - 1)) / n) c.OUTPUT-2.ensures) in
+    c.loop-turn.invariant.steps ∙ ap (λ n. c.args.steps.now + c.args.self.now.rounds * n) last
+
+pub returns-clause-at_most : goal.returns-clause-at_most
+returns-clause-at_most g c = let taken = returns-clause-steps g c in (omega (arith, taken), omega (arith, taken))
