@@ -1,8 +1,8 @@
 -- When a store is refused that is being made.
-use Rattle.std.proofs.Common.{◌≡◌, ℕ, ◌<◌, ◌^◌, List, [], ◌∷◌, map, length, Ok, Err, ap, subst, inl, inr, arith}
-use Rattle.std.specs.Prelude.{All, IfErr, OnOk, Result}
+use Rattle.std.proofs.Common.{◌≡◌, ◌∙◌, ℕ, ◌<◌, ◌^◌, List, [], ◌∷◌, map, length, Ok, Err, ap, subst, inl, inr, arith}
+use Rattle.std.specs.Prelude.{All, IfErr, IfOk, OnOk, Result}
 use Rattle.std.proofs.lemmas.List.Elements.{All-cons, All-nil}
-use Rattle.p12.specs.Building.{Entry, IsTooLong, IsTooLongStore, RefusesBags, RefusesStore, Salts, certificate_bag, certificate_bags, key_bag, outer_length, own_attributes, sealed_content, two_contents}
+use Rattle.p12.specs.Building.{Entry, IsCiphertext, IsTooLong, IsTooLongStore, RefusesBags, RefusesStore, Salts, certificate_bag, certificate_bags, key_bag, outer_length, own_attributes, sealed_content, two_contents}
 use Rattle.p12.specs.Canonical.{WritableAttribute, WritableBag, WritableContent, bags_canon, contents_canon}
 use Rattle.p12.specs.MacData.{mac_of}
 use Rattle.p12.specs.Writing.{EncodesText}
@@ -46,8 +46,9 @@ certificates_refused e Rng r = r
 certificates_refused e TooLong r = inr (inl r)
 certificates_refused e Memory r = r
 
-pub seal_refused : (e : Entry) (gs : List SafeBag) (f : Error) → gs ≡ certificate_bags e → RefusesBags gs f → RefusesStore e f
-seal_refused e gs f is r = certificates_refused e f (subst (λ (x : List SafeBag). RefusesBags x f) is r)
+pub seal_refused : {V : Type 0} (e : Entry) (gs : List SafeBag) (r : Result V Error) → gs ≡ certificate_bags e → IfErr r (RefusesBags gs) → IfErr r (RefusesStore e)
+seal_refused e gs (Ok v) is h = tt
+seal_refused e gs (Err f) is h = certificates_refused e f (subst (λ (x : List SafeBag). RefusesBags x f) is h)
 
 key_text_refused : (e : Entry) (salt v : List ℕ) → length salt ≡ 8 → Seals e.key v → (f : Error) → EncodesText (All WritableBag (key_bag e salt v ∷ [])) (bags_canon (key_bag e salt v ∷ [])) (Err f) → RefusesStore e f
 key_text_refused e salt v h g Malformed r = absurd (r (key_writable e salt v))
@@ -56,8 +57,16 @@ key_text_refused e salt v h g Rng r = r
 key_text_refused e salt v h g TooLong r = inr (inr (omega (arith, r, key_size e salt v h g)))
 key_text_refused e salt v h g Memory r = r
 
-pub key_refused : (e : Entry) (salt v : List ℕ) (k : SafeBag) (f : Error) → length salt ≡ 8 → Seals e.key v → k ≡ key_bag e salt v → EncodesText (All WritableBag (k ∷ [])) (bags_canon (k ∷ [])) (Err f) → RefusesStore e f
-key_refused e salt v k f h g is r = key_text_refused e salt v h g f (subst (λ (x : SafeBag). EncodesText (All WritableBag (x ∷ [])) (bags_canon (x ∷ [])) (Err f)) is r)
+-- the text of the key's bag was made, or why not
+module _ (e : Entry) (salt v : List ℕ) (k : SafeBag) (is : k ≡ key_bag e salt v) where
+  pub key_made : (q : List ℕ) → IsCiphertext q salt e.key v → (r : Result (List ℕ) Error) → EncodesText (All WritableBag (k ∷ [])) (bags_canon (k ∷ [])) r
+      → IfOk r (λ t. (c : List ℕ) × IsCiphertext q salt e.key c × (t ≡ bags_canon (key_bag e salt c ∷ [])))
+  key_made q c (Ok t) m = (v, c, m.0 ∙ ap (λ (x : SafeBag). bags_canon (x ∷ [])) is)
+  key_made q c (Err f) m = tt
+
+  pub key_refused : length salt ≡ 8 → Seals e.key v → (r : Result (List ℕ) Error) → EncodesText (All WritableBag (k ∷ [])) (bags_canon (k ∷ [])) r → IfErr r (RefusesStore e)
+  key_refused h g (Ok t) m = tt
+  key_refused h g (Err f) m = key_text_refused e salt v h g f (subst (λ (x : SafeBag). EncodesText (All WritableBag (x ∷ [])) (bags_canon (x ∷ [])) (Err f)) is m)
 
 outer_text_refused : (e : Entry) (s : Salts) (c v : List ℕ) → length (contents_canon (two_contents e s c v)) ≡ outer_length e → (f : Error)
     → EncodesText (All WritableContent (two_contents e s c v)) (contents_canon (two_contents e s c v)) (Err f) → RefusesStore e f

@@ -18,6 +18,15 @@ refused exact old new asn1.NoRoom h = absurd h.1
 refused exact old new asn1.File h = absurd h.1
 refused exact old new asn1.Memory h = (h.0, tt)
 
+-- the same of a call that takes no memory
+pub refused_free : {A : Type 0} {R : List ℕ → A → Type 0} {at : Front A} → Exact R at → (old : List ℕ) (e : Asn1Error) → Fails ⊥ e (at old) → MalformedOnly (refusal_of e) (NoneStands R old)
+refused_free {R = R} {at = at} exact old asn1.Malformed h = none_stands R at exact old Bad h
+refused_free {R = R} {at = at} exact old (asn1.OidUnknown o) h = none_stands R at exact old (UnknownOid o) h
+refused_free exact old asn1.Overlength h = absurd h
+refused_free exact old asn1.NoRoom h = absurd h
+refused_free exact old asn1.File h = absurd h
+refused_free exact old asn1.Memory h = absurd h
+
 pub not_whole : {A : Type 0} {R : List ℕ → A → Type 0} {at : Front A} → Exact R at → (b : List ℕ) (e : Asn1Error) → Fails (Unit {0}) e (whole at b) → MalformedOnly (refusal_of e) ((v : A) → R b v × IsShort b → ⊥)
 not_whole {R = R} {at = at} exact b asn1.Malformed h = whole_none R at exact b Bad h
 not_whole {R = R} {at = at} exact b (asn1.OidUnknown o) h = whole_none R at exact b (UnknownOid o) h

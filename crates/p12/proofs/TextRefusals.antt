@@ -95,11 +95,11 @@ module _ {A : Type 0} (canon : A → List ℕ) (can : A → Type 0) (rows : List
       part_refused (can x) (All can rows) (canon x) (joined (map canon rows)) can_one
       (omega (arith, ap length more, length-append (all ++ canon x) (joined (map canon (drop (i + 1) rows))), length-append all (canon x))) e c
 
-  pub join_refused : (all : List ℕ) → joined (map canon rows) ≡ all ++ joined (map canon (drop i rows)) → (e : Error) → RefusesText (Unit {0}) (all ++ canon x) e → RefusesText (All can rows) (joined (map canon rows)) e
-  join_refused all is e c =
+  pub join_refused : (all t : List ℕ) → joined (map canon rows) ≡ all ++ joined (map canon (drop i rows)) → t ≡ canon x → (e : Error) → RefusesText (Unit {0}) (all ++ t) e → RefusesText (All can rows) (joined (map canon rows)) e
+  join_refused all t is of e c =
       let more = each_more all is in
-      part_refused (Unit {0}) (All can rows) (all ++ canon x) (joined (map canon rows)) (λ a. tt)
-      (omega (arith, ap length more, length-append (all ++ canon x) (joined (map canon (drop (i + 1) rows))))) e c
+      part_refused (Unit {0}) (All can rows) (all ++ t) (joined (map canon rows)) (λ a. tt)
+      (omega (arith, ap length more, ap length of, length-append (all ++ canon x) (joined (map canon (drop (i + 1) rows))), length-append all (canon x), length-append all t)) e c
 
 -- a row in a list, where what stands before it is not told
 module _ {A : Type 0} (canon : A → List ℕ) (can : A → Type 0) (rows : List A) (i : ℕ) (x : A) (lt : i < length rows) (at : x ≡ get_or rows i x) where

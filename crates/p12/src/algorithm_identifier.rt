@@ -1,6 +1,6 @@
 //! Algorithms of PKCS#12.
 ghost use Rattle.std.specs.Prelude.{◌+◌, ◌*◌, ◌≡◌, ◌<◌, ◌≤◌, ◌^◌, length, take, OnOk, IfOk, IfErr, IfSome, IfNone, Some, None, true};
-ghost use Rattle.asn1_core.specs.Gives.{Gives, ReadsAs, ReadsIn};
+ghost use Rattle.asn1_core.specs.Gives.{Gives, ReadsAs};
 ghost use Rattle.p12.specs.AlgorithmView.{LeftUnopened, left_pbe, seen_algorithm};
 ghost use Rattle.asn1_core.specs.declared.error.Error.TheVariants as asn1;
 ghost use Rattle.p12.specs.AlgorithmIdentifier.{IsUnderDes, AlgorithmText, IsSealed, RefusesToSeal, ciphertext_length, cost, count, is_triple_des, openable, salt_of, taken, taken_pbe, unlock, unlock_pbe};
@@ -234,30 +234,20 @@ impl<'a> AlgorithmView<'a> {
     }
 }
 
-fn algorithm_in_front(
-    alloc: Global,
-    r: &mut SliceReader<'_>,
-) -> Result<AlgorithmIdentifier, asn1_core::Error>
-    ensures exact { ReadsIn algorithm_at (λ x. x) r.old.rest.now r.new.rest.now result }
-    ensures place { r.new.read + length r.new.rest.now ≡ r.old.read + length r.old.rest.now }
-{
-    let mut ahead = *r;
-    let view = match algorithm_view(&mut ahead) {
-        Ok(view) => view,
-        Err(error) => return Err(error),
-    };
-    let algorithm = view.owned(alloc)?;
-    *r = ahead;
-    Ok(algorithm)
-}
-
 impl AlgorithmIdentifier {
     /// The algorithm that stands next. `Malformed` exactly where none does; a refusal does not move the reader.
     pub fn parse(alloc: Global, r: &mut SliceReader<'_>) -> Result<AlgorithmIdentifier, Error>
         ensures stands { Reads AlgorithmText r.old.rest.now r.new.rest.now result }
         ensures place { r.new.read + length r.new.rest.now ≡ r.old.read + length r.old.rest.now }
     {
-        Ok(algorithm_in_front(alloc, r)?)
+        let mut ahead = *r;
+        let view = match algorithm_view(&mut ahead) {
+            Ok(view) => view,
+            Err(error) => return Err(error.into()),
+        };
+        let algorithm = view.owned(alloc)?;
+        *r = ahead;
+        Ok(algorithm)
     }
 }
 

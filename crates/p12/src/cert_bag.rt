@@ -1,6 +1,6 @@
 //! Certificate bags.
 ghost use Rattle.std.specs.Prelude.{◌+◌, ◌≡◌, ◌<◌, length, true, OnOk, IfOk, IfErr};
-ghost use Rattle.asn1_core.specs.Gives.{Gives, ReadsAs, ReadsIn};
+ghost use Rattle.asn1_core.specs.Gives.{Gives, ReadsAs};
 ghost use Rattle.p12.specs.CertBag.{CertBagText};
 ghost use Rattle.asn1_core.specs.Unicode.{ia5_at, is_ascii_text};
 ghost use Rattle.p12.specs.BagView.{IsCert, seen_cert};
@@ -137,24 +137,17 @@ impl<'a> CertView<'a> {
     }
 }
 
-fn certificate_in_front(alloc: Global, r: &mut SliceReader<'_>) -> Result<CertBag, asn1_core::Error>
-    ensures exact { ReadsIn cert_bag_at (λ x. x) r.old.rest.now r.new.rest.now result }
-    ensures place { r.new.read + length r.new.rest.now ≡ r.old.read + length r.old.rest.now }
-{
-    let mut ahead = *r;
-    let view = certificate_view(&mut ahead)?;
-    let certificate = view.owned(alloc)?;
-    *r = ahead;
-    Ok(certificate)
-}
-
 impl CertBag {
     /// The certificate that stands next. `Malformed` exactly where none does; a refusal does not move the reader.
     pub fn parse(alloc: Global, r: &mut SliceReader<'_>) -> Result<CertBag, Error>
         ensures stands { Reads CertBagText r.old.rest.now r.new.rest.now result }
         ensures place { r.new.read + length r.new.rest.now ≡ r.old.read + length r.old.rest.now }
     {
-        Ok(certificate_in_front(alloc, r)?)
+        let mut ahead = *r;
+        let view = certificate_view(&mut ahead)?;
+        let certificate = view.owned(alloc)?;
+        *r = ahead;
+        Ok(certificate)
     }
 }
 

@@ -173,8 +173,8 @@ impl<'a> ContentView<'a> {
                 ..
             } => ContentInfo::EncryptedData(EncryptedData {
                 encrypted_content_info: EncryptedContentInfo {
-                    content_encryption_algorithm: algorithm.owned(alloc)?,
                     encrypted_content: Octets::from_slice(alloc, content)?,
+                    content_encryption_algorithm: algorithm.owned(alloc)?,
                 },
             }),
             ContentView::Other {

@@ -1,6 +1,6 @@
 //! A digest and its algorithm.
 ghost use Rattle.std.specs.Prelude.{◌+◌, ◌≡◌, ◌<◌, length, OnOk, IfOk, IfErr};
-ghost use Rattle.asn1_core.specs.Gives.{ReadsAs, ReadsIn};
+ghost use Rattle.asn1_core.specs.Gives.{ReadsAs};
 ghost use Rattle.p12.specs.DigestInfo.{DigestText};
 ghost use Rattle.p12.specs.MacView.{seen_digest};
 ghost use Rattle.p12.specs.Error.{Reads};
@@ -54,24 +54,10 @@ impl<'a> DigestView<'a> {
         ensures err { IfErr result (λ e. e ≡ asn1.Memory) }
     {
         Ok(DigestInfo {
-            digest_algorithm: self.algorithm.owned(alloc)?,
             digest: Octets::from_slice(alloc, self.digest)?,
+            digest_algorithm: self.algorithm.owned(alloc)?,
         })
     }
-}
-
-fn digest_in_front(alloc: Global, r: &mut SliceReader<'_>) -> Result<DigestInfo, asn1_core::Error>
-    ensures exact { ReadsIn digest_at (λ x. x) r.old.rest.now r.new.rest.now result }
-    ensures place { r.new.read + length r.new.rest.now ≡ r.old.read + length r.old.rest.now }
-{
-    let mut ahead = *r;
-    let view = match digest_view(&mut ahead) {
-        Ok(view) => view,
-        Err(error) => return Err(error),
-    };
-    let digest = view.owned(alloc)?;
-    *r = ahead;
-    Ok(digest)
 }
 
 impl DigestInfo {
@@ -80,7 +66,14 @@ impl DigestInfo {
         ensures stands { Reads DigestText r.old.rest.now r.new.rest.now result }
         ensures place { r.new.read + length r.new.rest.now ≡ r.old.read + length r.old.rest.now }
     {
-        Ok(digest_in_front(alloc, r)?)
+        let mut ahead = *r;
+        let view = match digest_view(&mut ahead) {
+            Ok(view) => view,
+            Err(error) => return Err(error.into()),
+        };
+        let digest = view.owned(alloc)?;
+        *r = ahead;
+        Ok(digest)
     }
 }
 
@@ -91,8 +84,8 @@ impl DigestInfo {
         ensures err { IfErr result (λ e. e ≡ Error.Memory) }
     {
         Ok(DigestInfo {
-            digest_algorithm: self.digest_algorithm.try_clone(alloc)?,
             digest: self.digest.try_clone(alloc)?,
+            digest_algorithm: self.digest_algorithm.try_clone(alloc)?,
         })
     }
 }

@@ -1,6 +1,6 @@
 //! Encrypted contents.
 ghost use Rattle.std.specs.Prelude.{◌+◌, ◌≡◌, ◌<◌, ◌^◌, length, OnOk, IfOk, IfErr};
-ghost use Rattle.asn1_core.specs.Gives.{ReadsAs, ReadsIn};
+ghost use Rattle.asn1_core.specs.Gives.{ReadsAs};
 ghost use Rattle.p12.specs.EncryptedData.{EncryptedContentText, EncryptedDataText};
 ghost use Rattle.p12.specs.ContentView.{seen_encrypted, seen_encrypted_data};
 ghost use Rattle.p12.specs.Error.{Reads};
@@ -95,46 +95,10 @@ impl<'a> EncryptedView<'a> {
         ensures err { IfErr result (λ e. e ≡ asn1.Memory) }
     {
         Ok(EncryptedContentInfo {
-            content_encryption_algorithm: self.algorithm.owned(alloc)?,
             encrypted_content: Octets::from_slice(alloc, self.content)?,
+            content_encryption_algorithm: self.algorithm.owned(alloc)?,
         })
     }
-}
-
-fn encrypted_content_in_front(
-    alloc: Global,
-    r: &mut SliceReader<'_>,
-) -> Result<EncryptedContentInfo, asn1_core::Error>
-    ensures exact { ReadsIn encrypted_content_at (λ x. x) r.old.rest.now r.new.rest.now result }
-    ensures place { r.new.read + length r.new.rest.now ≡ r.old.read + length r.old.rest.now }
-{
-    let mut ahead = *r;
-    let view = match encrypted_content_view(&mut ahead) {
-        Ok(view) => view,
-        Err(error) => return Err(error),
-    };
-    let encrypted = view.owned(alloc)?;
-    *r = ahead;
-    Ok(encrypted)
-}
-
-fn encrypted_data_in_front(
-    alloc: Global,
-    r: &mut SliceReader<'_>,
-) -> Result<EncryptedData, asn1_core::Error>
-    ensures exact { ReadsIn encrypted_data_at (λ x. x) r.old.rest.now r.new.rest.now result }
-    ensures place { r.new.read + length r.new.rest.now ≡ r.old.read + length r.old.rest.now }
-{
-    let mut ahead = *r;
-    let view = match encrypted_data_view(&mut ahead) {
-        Ok(view) => view,
-        Err(error) => return Err(error),
-    };
-    let encrypted_content_info = view.owned(alloc)?;
-    *r = ahead;
-    Ok(EncryptedData {
-        encrypted_content_info,
-    })
 }
 
 impl EncryptedContentInfo {
@@ -143,7 +107,14 @@ impl EncryptedContentInfo {
         ensures stands { Reads EncryptedContentText r.old.rest.now r.new.rest.now result }
         ensures place { r.new.read + length r.new.rest.now ≡ r.old.read + length r.old.rest.now }
     {
-        Ok(encrypted_content_in_front(alloc, r)?)
+        let mut ahead = *r;
+        let view = match encrypted_content_view(&mut ahead) {
+            Ok(view) => view,
+            Err(error) => return Err(error.into()),
+        };
+        let encrypted = view.owned(alloc)?;
+        *r = ahead;
+        Ok(encrypted)
     }
 }
 
@@ -153,7 +124,16 @@ impl EncryptedData {
         ensures stands { Reads EncryptedDataText r.old.rest.now r.new.rest.now result }
         ensures place { r.new.read + length r.new.rest.now ≡ r.old.read + length r.old.rest.now }
     {
-        Ok(encrypted_data_in_front(alloc, r)?)
+        let mut ahead = *r;
+        let view = match encrypted_data_view(&mut ahead) {
+            Ok(view) => view,
+            Err(error) => return Err(error.into()),
+        };
+        let encrypted_content_info = view.owned(alloc)?;
+        *r = ahead;
+        Ok(EncryptedData {
+            encrypted_content_info,
+        })
     }
 }
 
@@ -164,8 +144,8 @@ impl EncryptedContentInfo {
         ensures err { IfErr result (λ e. e ≡ Error.Memory) }
     {
         Ok(EncryptedContentInfo {
-            content_encryption_algorithm: self.content_encryption_algorithm.try_clone(alloc)?,
             encrypted_content: self.encrypted_content.try_clone(alloc)?,
+            content_encryption_algorithm: self.content_encryption_algorithm.try_clone(alloc)?,
         })
     }
 }

@@ -1,6 +1,6 @@
 //! Encrypted private keys of a store.
 ghost use Rattle.std.specs.Prelude.{◌+◌, ◌≡◌, ◌<◌, ◌^◌, length, OnOk, IfOk, IfErr};
-ghost use Rattle.asn1_core.specs.Gives.{ReadsAs, ReadsIn};
+ghost use Rattle.asn1_core.specs.Gives.{ReadsAs};
 ghost use Rattle.p12.specs.AlgorithmIdentifier.{salt_of, unlock_pbe};
 ghost use Rattle.p12.specs.EncryptedPrivateKeyInfo.{EncryptedKeyText};
 ghost use Rattle.p12.specs.BagView.{seen_key};
@@ -43,34 +43,24 @@ pub(crate) fn encrypted_key_view<'a>(
     Ok(EncryptedView { algorithm, content })
 }
 
-fn encrypted_key_in_front(
-    alloc: Global,
-    r: &mut SliceReader<'_>,
-) -> Result<EncryptedPrivateKeyInfo, asn1_core::Error>
-    ensures exact { ReadsIn encrypted_key_at (λ x. x) r.old.rest.now r.new.rest.now result }
-    ensures place { r.new.read + length r.new.rest.now ≡ r.old.read + length r.old.rest.now }
-{
-    let mut ahead = *r;
-    let view = match encrypted_key_view(&mut ahead) {
-        Ok(view) => view,
-        Err(error) => return Err(error),
-    };
-    let encryption_algorithm = view.algorithm.owned(alloc)?;
-    let encrypted_data = Octets::from_slice(alloc, view.content)?;
-    *r = ahead;
-    Ok(EncryptedPrivateKeyInfo {
-        encryption_algorithm,
-        encrypted_data,
-    })
-}
-
 impl EncryptedPrivateKeyInfo {
     /// The encrypted key that stands next. `Malformed` exactly where none does; a refusal does not move the reader.
     pub fn parse(alloc: Global, r: &mut SliceReader<'_>) -> Result<EncryptedPrivateKeyInfo, Error>
         ensures stands { Reads EncryptedKeyText r.old.rest.now r.new.rest.now result }
         ensures place { r.new.read + length r.new.rest.now ≡ r.old.read + length r.old.rest.now }
     {
-        Ok(encrypted_key_in_front(alloc, r)?)
+        let mut ahead = *r;
+        let view = match encrypted_key_view(&mut ahead) {
+            Ok(view) => view,
+            Err(error) => return Err(error.into()),
+        };
+        let encrypted_data = Octets::from_slice(alloc, view.content)?;
+        let encryption_algorithm = view.algorithm.owned(alloc)?;
+        *r = ahead;
+        Ok(EncryptedPrivateKeyInfo {
+            encryption_algorithm,
+            encrypted_data,
+        })
     }
 }
 

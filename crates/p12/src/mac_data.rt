@@ -1,6 +1,6 @@
 //! The MAC of a store.
 ghost use Rattle.std.specs.Prelude.{◌+◌, ◌≡◌, ◌<◌, ◌≤◌, ◌^◌, length, OnOk, IfOk, IfErr, true};
-ghost use Rattle.asn1_core.specs.Gives.{Gives, ReadsAs, ReadsIn};
+ghost use Rattle.asn1_core.specs.Gives.{Gives, ReadsAs};
 ghost use Rattle.p12.specs.MacData.{MacText, mac_agrees, mac_of, mac_steps};
 ghost use Rattle.pkcs12_kdf.specs.Password.{bmp_password};
 ghost use Rattle.p12.specs.declared.algorithm_identifier.AlgorithmIdentifier.TheVariants as algorithm;
@@ -82,29 +82,17 @@ impl<'a> MacView<'a> {
         ensures ok { IfOk result (λ m. m ≡ seen_mac self.now) }
         ensures err { IfErr result (λ e. e ≡ asn1.Memory) }
     {
+        let digest = Octets::from_slice(alloc, self.digest)?;
+        let salt = Octets::from_slice(alloc, self.salt)?;
         Ok(MacData {
             mac: DigestInfo {
                 digest_algorithm: self.algorithm.owned(alloc)?,
-                digest: Octets::from_slice(alloc, self.digest)?,
+                digest,
             },
-            salt: Octets::from_slice(alloc, self.salt)?,
+            salt,
             iterations: self.iterations,
         })
     }
-}
-
-fn mac_in_front(alloc: Global, r: &mut SliceReader<'_>) -> Result<MacData, asn1_core::Error>
-    ensures exact { ReadsIn mac_at (λ x. x) r.old.rest.now r.new.rest.now result }
-    ensures place { r.new.read + length r.new.rest.now ≡ r.old.read + length r.old.rest.now }
-{
-    let mut ahead = *r;
-    let view = match mac_view(&mut ahead) {
-        Ok(view) => view,
-        Err(error) => return Err(error),
-    };
-    let mac = view.owned(alloc)?;
-    *r = ahead;
-    Ok(mac)
 }
 
 impl MacData {
@@ -113,7 +101,14 @@ impl MacData {
         ensures stands { Reads MacText r.old.rest.now r.new.rest.now result }
         ensures place { r.new.read + length r.new.rest.now ≡ r.old.read + length r.old.rest.now }
     {
-        Ok(mac_in_front(alloc, r)?)
+        let mut ahead = *r;
+        let view = match mac_view(&mut ahead) {
+            Ok(view) => view,
+            Err(error) => return Err(error.into()),
+        };
+        let mac = view.owned(alloc)?;
+        *r = ahead;
+        Ok(mac)
     }
 }
 

@@ -1,6 +1,6 @@
 //! Parameters of password-based schemes.
 ghost use Rattle.std.specs.Prelude.{◌+◌, ◌≡◌, length, IfOk, IfErr};
-ghost use Rattle.asn1_core.specs.Gives.{ReadsAs, ReadsIn};
+ghost use Rattle.asn1_core.specs.Gives.{ReadsAs};
 ghost use Rattle.asn1_core.specs.declared.error.Error.TheVariants as asn1;
 ghost use Rattle.p12.specs.AlgorithmIdentifier.{ParamsText};
 ghost use Rattle.p12.specs.AlgorithmView.{seen_params};
@@ -55,27 +55,17 @@ impl<'a> ParamsView<'a> {
     }
 }
 
-fn params_in_front(
-    alloc: Global,
-    r: &mut SliceReader<'_>,
-) -> Result<Pkcs12PbeParams, asn1_core::Error>
-    ensures exact { ReadsIn params_at (λ x. x) r.old.rest.now r.new.rest.now result }
-    ensures place { r.new.read + length r.new.rest.now ≡ r.old.read + length r.old.rest.now }
-{
-    let mut ahead = *r;
-    let view = params_view(&mut ahead)?;
-    let params = view.owned(alloc)?;
-    *r = ahead;
-    Ok(params)
-}
-
 impl Pkcs12PbeParams {
     /// The parameters that stand next. `Malformed` exactly where none do; a refusal does not move the reader.
     pub fn parse(alloc: Global, r: &mut SliceReader<'_>) -> Result<Pkcs12PbeParams, Error>
         ensures stands { Reads ParamsText r.old.rest.now r.new.rest.now result }
         ensures place { r.new.read + length r.new.rest.now ≡ r.old.read + length r.old.rest.now }
     {
-        Ok(params_in_front(alloc, r)?)
+        let mut ahead = *r;
+        let view = params_view(&mut ahead)?;
+        let params = view.owned(alloc)?;
+        *r = ahead;
+        Ok(params)
     }
 
     /// An equal value in memory of its own. The only refusal is `Memory`.

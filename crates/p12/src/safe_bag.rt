@@ -180,8 +180,8 @@ impl<'a> BagView<'a> {
                 content,
                 ..
             } => SafeBagKind::Pkcs8ShroudedKeyBag(EncryptedPrivateKeyInfo {
-                encryption_algorithm: algorithm.owned(alloc)?,
                 encrypted_data: Octets::from_slice(alloc, content)?,
+                encryption_algorithm: algorithm.owned(alloc)?,
             }),
             BagView::Other { bag_id, bag_value } => SafeBagKind::OtherBagKind(OtherBag {
                 bag_id: *bag_id,

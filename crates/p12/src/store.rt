@@ -1,7 +1,9 @@
 //! Making a store of a key and its certificates.
 ghost use Rattle.std.specs.Prelude.{◌≡◌, ◌<◌, ◌≤◌, ◌-◌, ◌^◌, ◌++◌, ◌∷◌, [], List, ℕ, length, IfErr, IfOk, OnOk};
 ghost use Rattle.asn1_core.specs.Texts.{seen_option};
-ghost use Rattle.p12.specs.Building.{DrawsSalts, IsCiphertext, IsOuterText, IsStoreOf, IsTooLong, IsTooLongStore, RefusesDrawn, RefusesStore, certificate_bag, certificate_bags, entry_of, key_bag, own_attributes, seen_entry, seen_salts};
+ghost use Rattle.p12.specs.Building.{DrawsSalts, IsCiphertext, IsOuterText, IsStoreOf, IsTooLong, IsTooLongStore, RefusesDrawn, RefusesStore, SealsBags, certificate_bag, certificate_bags, entry_of, key_bag, own_attributes, seen_entry, seen_salts, store_over};
+ghost use Rattle.asn1_core.specs.Der.{IsShort};
+ghost use Rattle.p12.specs.Canonical.{bags_canon};
 ghost use Rattle.p12.specs.Collected.{at_most_one};
 ghost use Rattle.pkcs12_kdf.specs.Password.{bmp_password};
 ghost use Rattle.p12.specs.Pfx.{OpeningFits, StoreFits};
@@ -10,7 +12,7 @@ use crate::attribute::PKCS12Attribute;
 use crate::building::{ITERATIONS, algorithm_under, draw_salt, seal_bags};
 use crate::cert_bag::CertBag;
 use crate::content_info::ContentInfo;
-use crate::encrypted_data::EncryptedData;
+use crate::encrypted_data::{EncryptedContentInfo, EncryptedData};
 use crate::encrypted_private_key_info::EncryptedPrivateKeyInfo;
 use crate::error::Error;
 use crate::mac_data::MacData;
@@ -117,6 +119,26 @@ fn certificate_bags(alloc: Global, entry: EntryParts<'_>) -> Result<Items<SafeBa
     Ok(bags)
 }
 
+/// The bags of the certificates, encrypted under a salt.
+fn sealed_certificates(
+    alloc: Global,
+    entry: EntryParts<'_>,
+    password: &[u8],
+    salt: &[u8],
+) -> Result<EncryptedContentInfo, Error>
+    requires password { length password.now < 2 ^ 59 }
+    requires salt { length salt.now ≡ 8 }
+    ensures ok { IfOk result
+        (SealsBags password.now (certificate_bags (seen_entry entry.entry)) salt.now) }
+    ensures short { OnOk result (IsShort (bags_canon (certificate_bags (seen_entry entry.entry)))) }
+    ensures fitting { OnOk result
+        (¬ (IsTooLong (bags_canon (certificate_bags (seen_entry entry.entry))))) }
+    ensures err { IfErr result (RefusesStore (seen_entry entry.entry)) }
+{
+    let bags = certificate_bags(alloc, entry)?;
+    seal_bags(alloc, bags.as_slice(), password, salt)
+}
+
 /// The bag of the key, encrypted under a salt.
 fn key_bag(
     alloc: Global,
@@ -144,6 +166,25 @@ fn key_bag(
     })
 }
 
+/// The text of the list of bags that holds the key alone, encrypted under a salt.
+fn key_text(
+    alloc: Global,
+    entry: EntryParts<'_>,
+    password: &[u8],
+    salt: &[u8],
+) -> Result<Octets, Error>
+    requires password { length password.now < 2 ^ 59 }
+    requires salt { length salt.now ≡ 8 }
+    ensures ok { IfOk result (λ t. (v : List ℕ)
+        × IsCiphertext password.now salt.now (seen_entry entry.entry).key v
+        × (t ≡ bags_canon (key_bag (seen_entry entry.entry) salt.now v ∷ []))) }
+    ensures fitting { OnOk result (¬ (IsTooLong (seen_entry entry.entry).key)) }
+    ensures err { IfErr result (RefusesStore (seen_entry entry.entry)) }
+{
+    let key = key_bag(alloc, entry, password, salt)?;
+    SafeBag::all_to_der(alloc, &[key])
+}
+
 /// The text of the two contents: the certificates encrypted, and the key.
 fn outer_text(
     alloc: Global,
@@ -157,21 +198,32 @@ fn outer_text(
     ensures fitting { OnOk result (¬ (IsTooLongStore (seen_entry entry.entry))) }
     ensures err { IfErr result (RefusesStore (seen_entry entry.entry)) }
 {
-    let key = key_bag(alloc, entry, password, &salts.key)?;
-    let certificates = certificate_bags(alloc, entry)?;
-    let sealed = seal_bags(
-        alloc,
-        certificates.as_slice(),
-        password,
-        &salts.certificates,
-    )?;
-    let plain = SafeBag::all_to_der(alloc, &[key])?;
+    let key = key_text(alloc, entry, password, &salts.key)?;
+    let sealed = sealed_certificates(alloc, entry, password, &salts.certificates)?;
     let mut contents = Items::new(alloc);
     contents.push(ContentInfo::EncryptedData(EncryptedData {
         encrypted_content_info: sealed,
     }))?;
-    contents.push(ContentInfo::Data(plain))?;
+    contents.push(ContentInfo::Data(key))?;
     ContentInfo::all_to_der(alloc, contents.as_slice())
+}
+
+/// The store over a text, whose MAC is under a salt. The only refusal is `Memory`.
+fn store_over(alloc: Global, text: Octets, password: &[u8], salt: &[u8]) -> Result<PFX, Error>
+    requires text { length text < 2 ^ 32 }
+    requires password { length password.now < 2 ^ 59 }
+    requires salt { length salt.now ≡ 8 }
+    ensures ok { IfOk result (λ s. s ≡ store_over password.now salt.now text) }
+    ensures fits { IfOk result (StoreFits (2 ^ 32 - 1)) }
+    ensures opening { IfOk result OpeningFits }
+    ensures err { IfErr result (λ e. e ≡ Error.Memory) }
+{
+    let mac = MacData::with_salt(alloc, text.as_slice(), password, salt, ITERATIONS)?;
+    Ok(PFX {
+        version: VERSION,
+        auth_safe: ContentInfo::Data(text),
+        mac_data: Some(mac),
+    })
 }
 
 impl PFX {
@@ -219,18 +271,7 @@ impl PFX {
         let salts = draw_salts(draw)?;
         let units = bmp_string(alloc, password)?;
         let outer = outer_text(alloc, entry, units.as_slice(), &salts)?;
-        let mac = MacData::with_salt(
-            alloc,
-            outer.as_slice(),
-            units.as_slice(),
-            &salts.mac,
-            ITERATIONS,
-        )?;
-        Ok(PFX {
-            version: VERSION,
-            auth_safe: ContentInfo::Data(outer),
-            mac_data: Some(mac),
-        })
+        store_over(alloc, outer, units.as_slice(), &salts.mac)
     }
 
     /// `new_with_cas` with one further certificate, or none.

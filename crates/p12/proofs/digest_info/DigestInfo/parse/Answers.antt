@@ -1,12 +1,10 @@
-use Rattle.std.proofs.lemmas.Result.{err_from_is_err_and}
+use Rattle.std.proofs.Common.{refl}
 use Rattle.p12.proofs.AlgorithmRows.{digest-exact}
-use Rattle.p12.proofs.Public.{refused}
+use Rattle.p12.proofs.Public.{refused_free}
 use Rattle.p12.proofs.digest_info.DigestInfo.parse.Goals as goal
 
-pub returns-in_err-digest_in_front-clause-stands : goal.returns-in_err-digest_in_front-clause-stands
-returns-in_err-digest_in_front-clause-stands c =
-    let p = err_from_is_err_and c.from_residual.result c.from_residual.ensures.1 in
-    rw (p.1, p.2) (refused digest-exact _ _ _ c.in_err-digest_in_front.ensures.exact)
+pub returns-in-Err-clause-stands : goal.returns-in-Err-clause-stands
+returns-in-Err-clause-stands c = rw (c.into.ensures) (refl, refused_free digest-exact _ _ c.in-Err.ensures.exact.1)
 
 pub returns-clause-stands : goal.returns-clause-stands
-returns-clause-stands c = digest-exact.found _ _ _ c.in_ok-digest_in_front.ensures.exact
+returns-clause-stands c = rw (c.in_ok-digest.ensures.ok) (digest-exact.found _ _ _ c.in-Ok.ensures.exact)
