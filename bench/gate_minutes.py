@@ -56,13 +56,14 @@ def seconds_of(process: pathlib.Path) -> float:
     return sum(int(ticks) for ticks in fields_of(process)[11:15]) / TICKS
 
 
-def look(seen: dict[str, tuple[tuple[str, str], float]]) -> None:
-    """Notes the processor time of each process of the prover."""
+def look(seen: dict[tuple[str, str], tuple[tuple[str, str], float]]) -> None:
+    """Notes the processor time of each process of the prover, by its number and when it started: numbers come again."""
     for process in pathlib.Path("/proc").glob("[0-9]*"):
         try:
-            what = seen[process.name][0] if process.name in seen else crate_and_phase(process)
+            key = process.name, fields_of(process)[19]
+            what = seen[key][0] if key in seen else crate_and_phase(process)
             if what:
-                seen[process.name] = what, seconds_of(process)
+                seen[key] = what, seconds_of(process)
         except OSError:
             pass  # it ended meanwhile
 
