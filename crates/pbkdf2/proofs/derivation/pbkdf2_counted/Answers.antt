@@ -3,7 +3,7 @@ use Rattle.std.specs.Prelude.{max, min}
 use Rattle.std.proofs.lemmas.List.{drop_all, append-nil}
 use Rattle.pbkdf2.specs.Pbkdf2.{block, blocks, block_count, pbkdf2}
 use Rattle.pbkdf2.proofs.Xors.{blocks_more, length-block, length-blocks}
-use Rattle.pbkdf2.proofs.Pieces.{filled_none, filled_more, place_below, enough}
+use Rattle.pbkdf2.proofs.Pieces.{filled_none, filled_more, place_below, enough, number_fits, place_fits, start_below, same_length}
 use Rattle.pbkdf2.proofs.derivation.pbkdf2_counted.Goals as goal
 
 pub loop-done-init : goal.loop-done-init
@@ -12,6 +12,51 @@ loop-done-init g c = record {
   value = filled_none c.args.res.now g.P.Prf.OUTPUT;
   steps = omega arith;
 }
+
+pub overflow_cast-done : goal.overflow_cast-done
+overflow_cast-done g c =
+    place_fits (length c.args.res.now) g.P.Prf.OUTPUT c.OUTPUT.result c.OUTPUT-2.result c.loop-done.done
+    c.OUTPUT.ensures c.OUTPUT-2.ensures c.loop-done-test.true c.requires
+
+pub overflow_add-done : goal.overflow_add-done
+overflow_add-done g c =
+    number_fits (length c.args.res.now) g.P.Prf.OUTPUT c.OUTPUT.result c.OUTPUT-2.result c.loop-done.done
+    c.OUTPUT.ensures c.OUTPUT-2.ensures c.loop-done-test.true c.requires
+
+pub overflow_mul-start : goal.overflow_mul-start
+overflow_mul-start g c =
+    let below = start_below (length c.args.res.now) g.P.Prf.OUTPUT c.OUTPUT.result c.OUTPUT-2.result c.OUTPUT-in-loop-done.result c.loop-done.done
+    g.met.P.Prf.sizes.some c.OUTPUT.ensures c.OUTPUT-2.ensures c.OUTPUT-in-loop-done.ensures c.loop-done-test.true in
+    omega (arith, below)
+
+pub overflow_sub-size : goal.overflow_sub-size
+overflow_sub-size g c =
+    let below = start_below (length c.args.res.now) g.P.Prf.OUTPUT c.OUTPUT.result c.OUTPUT-2.result c.OUTPUT-in-loop-done.result c.loop-done.done
+    g.met.P.Prf.sizes.some c.OUTPUT.ensures c.OUTPUT-2.ensures c.OUTPUT-in-loop-done.ensures c.loop-done-test.true in
+    omega (arith, below)
+
+pub overflow_add-start : goal.overflow_add-start
+overflow_add-start g c =
+    let below = start_below (length c.args.res.now) g.P.Prf.OUTPUT c.OUTPUT.result c.OUTPUT-2.result c.OUTPUT-in-loop-done.result c.loop-done.done
+    g.met.P.Prf.sizes.some c.OUTPUT.ensures c.OUTPUT-2.ensures c.OUTPUT-in-loop-done.ensures c.loop-done-test.true in
+    omega (arith, below, c.min-len.ensures)
+
+pub slice_bounds-copy_from_slice-end : goal.slice_bounds-copy_from_slice-end
+slice_bounds-copy_from_slice-end g c =
+    let below = start_below (length c.args.res.now) g.P.Prf.OUTPUT c.OUTPUT.result c.OUTPUT-2.result c.OUTPUT-in-loop-done.result c.loop-done.done
+    g.met.P.Prf.sizes.some c.OUTPUT.ensures c.OUTPUT-2.ensures c.OUTPUT-in-loop-done.ensures c.loop-done-test.true in
+    omega (arith, below, c.min-len.ensures, c.loop-done.auto.res)
+
+pub slice_bounds-block-end : goal.slice_bounds-block-end
+slice_bounds-block-end g c = omega (arith, c.min-len.ensures, c.OUTPUT-in-loop-done-2.ensures, g.met.P.Prf.sizes.answer_fits)
+
+pub copy_from_slice-requires : goal.copy_from_slice-requires
+copy_from_slice-requires g c =
+    let below = start_below (length c.args.res.now) g.P.Prf.OUTPUT c.OUTPUT.result c.OUTPUT-2.result c.OUTPUT-in-loop-done.result c.loop-done.done
+    g.met.P.Prf.sizes.some c.OUTPUT.ensures c.OUTPUT-2.ensures c.OUTPUT-in-loop-done.ensures c.loop-done-test.true in
+    same_length (c.loop-done.done * c.OUTPUT-in-loop-done.result) c.min-len.result c.loop-done.res c.derive_block-block.result
+    (omega (arith, below, c.min-len.ensures, c.loop-done.auto.res))
+    (omega (arith, c.min-len.ensures, c.OUTPUT-in-loop-done-2.ensures, g.met.P.Prf.sizes.answer_fits))
 
 pub loop-done-preserved : goal.loop-done-preserved
 unfolding blocks
