@@ -5,4 +5,5 @@ mod Pieces
 mod LinedInputs
 mod WordLists
 mod Deciding
+mod Decided
 pub mod Commands
