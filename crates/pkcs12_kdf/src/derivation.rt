@@ -70,6 +70,18 @@ fn push_filled(out: &mut Vec<u8>, text: &[u8]) -> Result<(), AllocError>
     Ok(())
 }
 
+/// The salt and the password behind it, each repeated to a multiple of 64 octets.
+fn first_inputs(alloc: Global, salt: &[u8], password: &[u8]) -> Result<Vec<u8>, AllocError>
+    requires salt { length salt.now < 2 ^ 59 }
+    requires password { length password.now < 2 ^ 59 }
+    ensures { IfOk result (λ inputs. inputs.items ≡ fill salt.now ++ fill password.now) }
+{
+    let mut inputs = Vec::new(alloc);
+    push_filled(&mut inputs, salt)?;
+    push_filled(&mut inputs, password)?;
+    Ok(inputs)
+}
+
 /// The text repeated to 64 octets.
 fn repeated(text: &[u8]) -> [u8; 64]
     requires { 0 < length text.now }
@@ -121,9 +133,7 @@ impl<'a> Derivation<'a> {
         ensures at_most { (steps.old ≤ steps.new)
             × (steps.new ≤ steps.old + self.now.rounds * turns size H.OUTPUT) }
     {
-        let mut inputs = Vec::new(alloc);
-        push_filled(&mut inputs, self.salt)?;
-        push_filled(&mut inputs, self.password)?;
+        let mut inputs = first_inputs(alloc, self.salt, self.password)?;
         let mut key = Vec::new(alloc);
         for turn in 0..(size + (H::OUTPUT - 1)) / H::OUTPUT {
             let answer = hash_rounds::<H, L>(id, &inputs, self.rounds, steps);
