@@ -6,7 +6,7 @@ use Rattle.phc_core.specs.declared.password_hash.PasswordHash.{PasswordHash}
 use Rattle.pbkdf2.specs.declared.algorithm.Algorithm as method
 use Rattle.pbkdf2.specs.Settings.{Settings}
 use Rattle.pbkdf2.specs.Algorithm.{identifier_of, NamesNone, derived}
-use Rattle.pbkdf2.specs.Params.{Gives, Refuses, params_text}
+use Rattle.pbkdf2.specs.Params.{GivesSettings, Refuses, params_text}
 
 -- the hash of a password q under an algorithm, settings and a salt
 abbrev pub hash_of : method.Algorithm → Settings → List ℕ → List ℕ → PasswordHash
@@ -40,7 +40,7 @@ Customizes own q salt id version s r = MatchResult r
 -- the settings of a hash: there is no version, its parameters give them, and its output has their length
 pub record HasSettings (h : PasswordHash) (s : Settings) : Type 0 where
   pub version : h.version ≡ None
-  pub params : Gives h.params s
+  pub params : GivesSettings h.params s
   pub output : IfSome h.hash (λ o. length o ≡ s.output_len)
 
 -- the settings of a hash are refused: for a version, or else for its parameters, or else for an output of another length
@@ -48,7 +48,7 @@ abbrev pub RefusesSettings : PasswordHash → Error → Type 0
 RefusesSettings h e =
     ((h.version ≢ None) × (e ≡ Version))
     ⊎ ((h.version ≡ None) × Refuses h.params e)
-    ⊎ ((h.version ≡ None) × ((s : Settings) × Gives h.params s × IfSome h.hash (λ o. length o ≢ s.output_len)) × (h.hash ≢ None) × (e ≡ OutputSize))
+    ⊎ ((h.version ≡ None) × ((s : Settings) × GivesSettings h.params s × IfSome h.hash (λ o. length o ≢ s.output_len)) × (h.hash ≢ None) × (e ≡ OutputSize))
 
 -- the password is the one of the hash
 pub record Agrees (q : List ℕ) (h : PasswordHash) : Type 0 where

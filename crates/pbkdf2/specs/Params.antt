@@ -37,8 +37,8 @@ Fails (p ∷ ps) s e =
     PairFault (name_in p) (value_in p) e ⊎ ((m : Settings) × (PairLeads (name_in p) (value_in p) s m × Fails ps m e))
 
 -- the parameter text gives these settings; what it does not have is as recommended
-abbrev pub Gives : List ℕ → Settings → Type 0
-Gives t s = Leads (pairs_of t) recommended s × (10 ≤ s.output_len)
+abbrev pub GivesSettings : List ℕ → Settings → Type 0
+GivesSettings t s = Leads (pairs_of t) recommended s × (10 ≤ s.output_len)
 
 -- the parameter text is refused: by its first faulty pair, or else as the output would have fewer than 10 octets
 abbrev pub Refuses : List ℕ → Error → Type 0

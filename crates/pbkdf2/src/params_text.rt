@@ -2,7 +2,7 @@
 ghost use Rattle.std.specs.Prelude.{◌≡◌, ◌≤◌, ◌<◌, ◌^◌, ℕ, decimal, IfOk, IfErr, IfSome, IfNone};
 ghost use Rattle.phc_core.specs.ParamsString.{pairs_of};
 ghost use Rattle.pbkdf2.specs.Settings.{recommended};
-ghost use Rattle.pbkdf2.specs.Params.{PairLeads, PairFault, Leads, Fails, Gives, Refuses, params_text};
+ghost use Rattle.pbkdf2.specs.Params.{PairLeads, PairFault, Leads, Fails, GivesSettings, Refuses, params_text};
 
 use crate::params::Params;
 use phc_core::{Error, Ident, ParamsString, Value};
@@ -109,7 +109,7 @@ impl<'a> TryFrom<&'a ParamsString> for Params {
 
     type Error = Error;
 
-    ghost try_from_gives = { λ t r. MatchResult r (Gives t.now) (Refuses t.now) };
+    ghost try_from_gives = { λ t r. MatchResult r (GivesSettings t.now) (Refuses t.now) };
 
     /// The parameters that the list gives. The pairs are read in their order, and the first fault comes: `ParamInvalid`
     /// with the name `i` or `l`, where `i` is no decimal number or under 1,000, or `l` is none or over 64;
