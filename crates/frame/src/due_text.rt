@@ -17,7 +17,7 @@ pub trait DueText {
     // the text
     ghost text: { Self → List ℕ };
 
-    /// Writes the text whole, or a proper prefix of it up to the first write that fails.
+    /// Writes the text whole, or, where a write failed, a proper prefix of it.
     fn write_to<O: Sink>(&self, output: &mut O) -> Result<(), Failed>
         ensures count { O.faults output.old ≤ O.faults output.new }
         ensures whole { OnOk result
@@ -97,7 +97,7 @@ pub fn add_lines(
     Ok(())
 }
 
-/// Writes a piece whole; `Failed` exactly where a write failed, and then a proper prefix of it was written.
+/// Writes a piece whole. `Failed` only where a write failed, and then a proper prefix of it was written.
 pub fn write_piece<O: Sink>(output: &mut O, piece: &[u8]) -> Result<(), Failed>
     ensures count { O.faults output.old ≤ O.faults output.new }
     ensures whole { OnOk result (Appends (O.written output.old) (O.written output.new) piece.now) }
@@ -112,8 +112,7 @@ pub fn write_piece<O: Sink>(output: &mut O, piece: &[u8]) -> Result<(), Failed>
     Ok(())
 }
 
-/// Writes the lines, one after the other; `Failed` exactly where a write failed, which was the last, and then a proper
-/// prefix of them was written.
+/// Writes the lines, one after the other. `Failed` only where a write failed, and then a proper prefix of them was written.
 pub fn write_lines<O: Sink>(output: &mut O, lines: &[Octets]) -> Result<(), Failed>
     ensures count { O.faults output.old ≤ O.faults output.new }
     ensures whole { OnOk result

@@ -1,8 +1,8 @@
 //! What every program over stores, keys and certificates is made of: the words of its command line, its input read to
 //! the end, the text that is due, and the call `answer` that puts them around the work of a `Job`.
 //!
-//! `answer` promises for every program which status comes and when, what is written for it, that a failed read or write
-//! is the last, how many steps are taken at most, and when the draw is not touched.
+//! `answer` promises for every program which status comes and when, what is written for it, that a failed read is the
+//! last, how many steps are taken at most, and when the draw is not touched.
 #![tactic(auto)]
 
 mod digits;

@@ -24,7 +24,7 @@ pub enum Status {
     Memory,
     /// What the input spells is not in the grammar of its format.
     Malformed,
-    /// Something is encrypted by an algorithm that is not opened.
+    /// Something is of a kind, or encrypted by an algorithm, that is not opened.
     Unsupported,
     /// There is no MAC.
     MacMissing,

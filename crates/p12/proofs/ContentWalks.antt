@@ -107,6 +107,12 @@ part_place bytes after end (view.Plain v at) p h u = place_is p.0 v.now after by
 part_place bytes after end (view.Encrypted a v at) p h u = place_is p.0 v.now after bytes at p.1 (u.0, omega (arith, u.1, h))
 part_place bytes after end (view.Other k v) p h u = tt
 
+-- what ends within so many octets lies among them
+pub ends_within : (end n : ℕ) (v : ContentView) → EndsAt end v → end ≤ n → ContentBetween 0 n v
+ends_within end n (view.Plain w at) u h = (omega arith, omega (arith, u.0, u.1, h))
+ends_within end n (view.Encrypted a w at) u h = (omega arith, omega (arith, u.0, u.1, h))
+ends_within end n (view.Other k w) u h = tt
+
 pub store_place : (bytes body rest body2 body3 : List ℕ) (n : ℕ) (v : ContentView) → Taken (Inside 0x30) bytes body rest → Taken (Uint 0xff) body n body2 → content_at body2 ≡ Ok (seen_content v, body3)
     → EndsAt (length bytes - length rest - length body3) v → ContentStands bytes v
 store_place bytes body rest body2 body3 n v t s e u =

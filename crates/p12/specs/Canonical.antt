@@ -1,7 +1,8 @@
 -- The one text that is written of a value (RFC 7292 section 4; X.690 sections 10 and 11). NULL stands behind SHA-1 and
 -- SHA-256, the count of a MAC is always there, and an empty set of attributes is left out. A name or key id stands
 -- alone in its set, and the elements of a set ascend. The parameters of PBES2 are written as `pkcs5` writes them: HMAC
--- over SHA-1 is left out of those of PBKDF2. Octets of another kind stand as they are.
+-- over SHA-1 is left out of those of PBKDF2. Octets of another kind stand as they are. A count of 1 is written too, as the
+-- Rust crate writes it, though DER leaves a default value out (X.690 section 11.5).
 use Rattle.std.specs.Prelude.{ℕ, List, [], ◌∷◌, ◌++◌, map, IsTrue, All}
 use Rattle.asn1_core.specs.Der.{IsElement, el, joined, seq, set, ctx, pctx, oid, octets, null, uint}
 use Rattle.asn1_core.specs.Oid.{oid_octets}

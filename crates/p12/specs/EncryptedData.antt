@@ -1,4 +1,5 @@
--- Encrypted contents (RFC 7292 section 4.1; RFC 5652 section 8).
+-- Encrypted contents (RFC 7292 section 4.1; RFC 5652 sections 6.1 and 8). The encrypted octets, which RFC 5652 lets be left
+-- out, are always there in a store that is read here.
 use Rattle.std.specs.Prelude.{ℕ, List}
 use Rattle.asn1_core.specs.Texts.{Uint, Oid, Inside}
 use Rattle.asn1_core.specs.Fields.{Field, End, Sequence, The}

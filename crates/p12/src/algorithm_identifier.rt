@@ -235,7 +235,8 @@ impl<'a> AlgorithmView<'a> {
 }
 
 impl AlgorithmIdentifier {
-    /// The algorithm that stands next. `Malformed` exactly where none does; a refusal does not move the reader.
+    /// The algorithm that stands next. `Malformed` exactly where none does; the other refusal is `Memory`. A refusal does
+    /// not move the reader.
     pub fn parse(alloc: Global, r: &mut SliceReader<'_>) -> Result<AlgorithmIdentifier, Error>
         ensures stands { Reads AlgorithmText r.old.rest.now r.new.rest.now result }
         ensures place { r.new.read + length r.new.rest.now ≡ r.old.read + length r.old.rest.now }
@@ -479,7 +480,8 @@ impl<'a> AlgorithmView<'a> {
     /// None exactly where the algorithm is neither, the function of PBES2 is scrypt, a length of the key is stated that is not the
     /// cipher's, the count is 0, in CBC the ciphertext is empty or not whole blocks or its padding is wrong, or in GCM it has fewer
     /// than 16 octets or a wrong tag. The buffer is then as it was, but after a wrong padding it holds the decrypted blocks. The
-    /// only refusal is `Memory`, and nothing is changed then. Steps as `decrypt_text_counted` takes them.
+    /// only refusal is `Memory`; the buffer is then as it was, and at most these steps were counted. Steps as
+    /// `decrypt_text_counted` takes them.
     ///
     /// Caller: the buffer has fewer than 2^32 octets, the password fewer than 2^57, the salt of Triple DES fewer than 2^59.
     #[tactic(auto, unfolding(crate::specs::AlgorithmIdentifier::unlock, crate::specs::AlgorithmIdentifier::taken, crate::specs::AlgorithmView::LeftUnopened))]

@@ -310,7 +310,8 @@ pub(crate) fn attribute_list(
 }
 
 impl PKCS12Attribute {
-    /// The attribute that stands next. `Malformed` exactly where none does; a refusal does not move the reader.
+    /// The attribute that stands next. `Malformed` exactly where none does; the other refusal is `Memory`. A refusal does
+    /// not move the reader.
     pub fn parse(alloc: Global, r: &mut SliceReader<'_>) -> Result<PKCS12Attribute, Error>
         ensures stands { Reads AttributeText r.old.rest.now r.new.rest.now result }
         ensures place { r.new.read + length r.new.rest.now ≡ r.old.read + length r.old.rest.now }

@@ -138,7 +138,8 @@ impl<'a> CertView<'a> {
 }
 
 impl CertBag {
-    /// The certificate that stands next. `Malformed` exactly where none does; a refusal does not move the reader.
+    /// The certificate that stands next. `Malformed` exactly where none does; the other refusal is `Memory`. A refusal does
+    /// not move the reader.
     pub fn parse(alloc: Global, r: &mut SliceReader<'_>) -> Result<CertBag, Error>
         ensures stands { Reads CertBagText r.old.rest.now r.new.rest.now result }
         ensures place { r.new.read + length r.new.rest.now ≡ r.old.read + length r.old.rest.now }

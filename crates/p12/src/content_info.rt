@@ -232,7 +232,8 @@ fn all_contents(alloc: Global, bytes: &[u8]) -> Result<Items<ContentInfo>, asn1_
 }
 
 impl ContentInfo {
-    /// The content that stands next. `Malformed` exactly where none does; a refusal does not move the reader.
+    /// The content that stands next. `Malformed` exactly where none does; the other refusal is `Memory`. A refusal does
+    /// not move the reader.
     pub fn parse(alloc: Global, r: &mut SliceReader<'_>) -> Result<ContentInfo, Error>
         ensures stands { Reads ContentText r.old.rest.now r.new.rest.now result }
         ensures place { r.new.read + length r.new.rest.now ≡ r.old.read + length r.old.rest.now }
@@ -241,7 +242,7 @@ impl ContentInfo {
     }
 
     /// The contents that these octets list (AuthenticatedSafe, RFC 7292 section 4.1). `Malformed` exactly where they are no
-    /// list of contents.
+    /// list of contents; the other refusal is `Memory`.
     pub fn parse_all(alloc: Global, bytes: &[u8]) -> Result<Items<ContentInfo>, Error>
         ensures ok { IfOk result (λ x. IsContents bytes.now x) }
         ensures err { IfErr result (λ e. MalformedOnly e (NoContents bytes.now)) }

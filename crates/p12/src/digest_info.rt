@@ -61,7 +61,8 @@ impl<'a> DigestView<'a> {
 }
 
 impl DigestInfo {
-    /// The digest that stands next. `Malformed` exactly where none does; a refusal does not move the reader.
+    /// The digest that stands next. `Malformed` exactly where none does; the other refusal is `Memory`. A refusal does
+    /// not move the reader.
     pub fn parse(alloc: Global, r: &mut SliceReader<'_>) -> Result<DigestInfo, Error>
         ensures stands { Reads DigestText r.old.rest.now r.new.rest.now result }
         ensures place { r.new.read + length r.new.rest.now ≡ r.old.read + length r.old.rest.now }

@@ -14,7 +14,7 @@ use crate::identifiers::DATA;
 use asn1_core::{Octets, Reader, SliceReader, Tag, read_identifier, read_inner, read_uint};
 use std::alloc::Global;
 
-/// Octets that are encrypted, and how (RFC 5652 section 8). Their kind is always id-data.
+/// Octets that are encrypted, and how (RFC 5652 section 6.1). Their kind is always id-data.
 ///
 /// ```text
 /// EncryptedContentInfo ::= SEQUENCE { contentType id-data, contentEncryptionAlgorithm AlgorithmIdentifier,
@@ -102,7 +102,8 @@ impl<'a> EncryptedView<'a> {
 }
 
 impl EncryptedContentInfo {
-    /// The encrypted octets that stand next. `Malformed` exactly where none do; a refusal does not move the reader.
+    /// The encrypted octets that stand next. `Malformed` exactly where none do; the other refusal is `Memory`. A refusal does
+    /// not move the reader.
     pub fn parse(alloc: Global, r: &mut SliceReader<'_>) -> Result<EncryptedContentInfo, Error>
         ensures stands { Reads EncryptedContentText r.old.rest.now r.new.rest.now result }
         ensures place { r.new.read + length r.new.rest.now ≡ r.old.read + length r.old.rest.now }
@@ -119,7 +120,8 @@ impl EncryptedContentInfo {
 }
 
 impl EncryptedData {
-    /// The encrypted content that stands next. `Malformed` exactly where none does; a refusal does not move the reader.
+    /// The encrypted content that stands next. `Malformed` exactly where none does; the other refusal is `Memory`. A refusal does
+    /// not move the reader.
     pub fn parse(alloc: Global, r: &mut SliceReader<'_>) -> Result<EncryptedData, Error>
         ensures stands { Reads EncryptedDataText r.old.rest.now r.new.rest.now result }
         ensures place { r.new.read + length r.new.rest.now ≡ r.old.read + length r.old.rest.now }

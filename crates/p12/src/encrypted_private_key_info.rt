@@ -44,7 +44,8 @@ pub(crate) fn encrypted_key_view<'a>(
 }
 
 impl EncryptedPrivateKeyInfo {
-    /// The encrypted key that stands next. `Malformed` exactly where none does; a refusal does not move the reader.
+    /// The encrypted key that stands next. `Malformed` exactly where none does; the other refusal is `Memory`. A refusal does
+    /// not move the reader.
     pub fn parse(alloc: Global, r: &mut SliceReader<'_>) -> Result<EncryptedPrivateKeyInfo, Error>
         ensures stands { Reads EncryptedKeyText r.old.rest.now r.new.rest.now result }
         ensures place { r.new.read + length r.new.rest.now ≡ r.old.read + length r.old.rest.now }

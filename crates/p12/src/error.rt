@@ -7,7 +7,7 @@ use std::fmt;
 /// Why a call on a store is refused.
 #[derive(Clone, Copy, Debug, PartialEq, Eq, Drop)]
 pub enum Error {
-    /// The octets are not in the grammar that was asked for.
+    /// The octets are not in the grammar that was asked for, or a value cannot be written.
     Malformed,
     /// A content gives no plain octets.
     Invalid,

@@ -96,7 +96,8 @@ impl<'a> MacView<'a> {
 }
 
 impl MacData {
-    /// The MAC that stands next. `Malformed` exactly where none does; a refusal does not move the reader.
+    /// The MAC that stands next. `Malformed` exactly where none does; the other refusal is `Memory`. A refusal does
+    /// not move the reader.
     pub fn parse(alloc: Global, r: &mut SliceReader<'_>) -> Result<MacData, Error>
         ensures stands { Reads MacText r.old.rest.now r.new.rest.now result }
         ensures place { r.new.read + length r.new.rest.now ≡ r.old.read + length r.old.rest.now }

@@ -1,11 +1,12 @@
-//! Algorithms that no store is written with here.
+//! Algorithms without a variant of their own.
 ghost use Rattle.std.specs.Prelude.{◌≡◌, IfOk, IfErr};
 
 use crate::error::Error;
 use asn1_core::{ObjectIdentifier, Octets};
 use std::alloc::Global;
 
-/// An algorithm that is none of those that stores are written with here: its identifier, and its parameters as they stand.
+/// An algorithm that has no variant of its own in `AlgorithmIdentifier`, or PBES2 with parameters that are not read: its
+/// identifier, and its parameters as they stand.
 #[derive(Debug, PartialEq, Eq, Drop)]
 pub struct OtherAlgorithmIdentifier {
     pub algorithm_type: ObjectIdentifier,

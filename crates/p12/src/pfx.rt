@@ -3,7 +3,7 @@ ghost use Rattle.std.specs.Prelude.{◌+◌, ◌-◌, ◌^◌, ◌≡◌, length
 ghost use Rattle.asn1_core.specs.Gives.{Gives, ReadsAs};
 ghost use Rattle.asn1_core.specs.Reading.{perhaps, whole};
 ghost use Rattle.asn1_core.specs.Texts.{seen_option};
-ghost use Rattle.p12.specs.ContentView.{ContentStands};
+ghost use Rattle.p12.specs.ContentView.{ContentBetween, ContentStands};
 ghost use Rattle.p12.specs.MacView.{seen_mac};
 ghost use Rattle.p12.specs.StoreView.{seen_store};
 ghost use Rattle.p12.specs.Pfx.{IsStore, NoStore, OpeningFits, StoreFits};
@@ -55,6 +55,7 @@ fn mac_if_there<'a>(mut body: SliceReader<'a>) -> Result<Option<MacView<'a>>, as
 fn store_view<'a>(r: &mut SliceReader<'a>) -> Result<StoreView<'a>, asn1_core::Error>
     ensures exact { ReadsAs pfx_at seen_store r.old.rest.now r.new.rest.now result }
     ensures stands { IfOk result (λ s. ContentStands r.old.rest.now s.auth_safe) }
+    ensures within { IfOk result (λ s. ContentBetween 0 (length r.old.rest.now) s.auth_safe) }
 {
     let mut ahead = *r;
     let mut body = read_inner(&mut ahead, Tag::SEQUENCE)?;
@@ -79,6 +80,7 @@ fn store_view<'a>(r: &mut SliceReader<'a>) -> Result<StoreView<'a>, asn1_core::E
 fn whole_store<'a>(bytes: &'a [u8]) -> Result<StoreView<'a>, asn1_core::Error>
     ensures exact { Gives seen_store result (whole pfx_at bytes.now) }
     ensures stands { IfOk result (λ s. ContentStands bytes.now s.auth_safe) }
+    ensures within { IfOk result (λ s. ContentBetween 0 (length bytes.now) s.auth_safe) }
 {
     let mut r = SliceReader::new(bytes);
     let store = match store_view(&mut r) {
@@ -94,6 +96,7 @@ impl<'a> StoreView<'a> {
     pub fn parse(bytes: &'a [u8]) -> Result<StoreView<'a>, Error>
         ensures ok { IfOk result (λ s. IsStore bytes.now (seen_store s)) }
         ensures stands { IfOk result (λ s. ContentStands bytes.now s.auth_safe) }
+        ensures within { IfOk result (λ s. ContentBetween 0 (length bytes.now) s.auth_safe) }
         ensures err { IfErr result (λ e. (e ≡ Error.Malformed) × NoStore bytes.now) }
     {
         match whole_store(bytes) {
@@ -120,8 +123,8 @@ impl<'a> StoreView<'a> {
 }
 
 impl PFX {
-    /// The store of these octets. `Malformed` exactly where they are the text of none. Its parts have fewer than 2^32 octets, as
-    /// the calls that open it want.
+    /// The store of these octets. `Malformed` exactly where they are the text of none; the other refusal is `Memory`. Its parts
+    /// have fewer than 2^32 octets, as the calls that open it want.
     #[tactic(auto, using(crate::proofs::HeldBags::short_fits, crate::proofs::HeldBags::opening_fits))]
     pub fn parse(alloc: Global, bytes: &[u8]) -> Result<PFX, Error>
         ensures ok { IfOk result (λ x. IsStore bytes.now x) }

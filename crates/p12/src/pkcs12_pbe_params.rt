@@ -56,7 +56,8 @@ impl<'a> ParamsView<'a> {
 }
 
 impl Pkcs12PbeParams {
-    /// The parameters that stand next. `Malformed` exactly where none do; a refusal does not move the reader.
+    /// The parameters that stand next. `Malformed` exactly where none do; the other refusal is `Memory`. A refusal does
+    /// not move the reader.
     pub fn parse(alloc: Global, r: &mut SliceReader<'_>) -> Result<Pkcs12PbeParams, Error>
         ensures stands { Reads ParamsText r.old.rest.now r.new.rest.now result }
         ensures place { r.new.read + length r.new.rest.now ≡ r.old.read + length r.old.rest.now }

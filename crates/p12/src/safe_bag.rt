@@ -251,7 +251,8 @@ fn all_bags(alloc: Global, bytes: &[u8]) -> Result<Items<SafeBag>, asn1_core::Er
 }
 
 impl SafeBag {
-    /// The bag that stands next. `Malformed` exactly where none does; a refusal does not move the reader.
+    /// The bag that stands next. `Malformed` exactly where none does; the other refusal is `Memory`. A refusal does
+    /// not move the reader.
     pub fn parse(alloc: Global, r: &mut SliceReader<'_>) -> Result<SafeBag, Error>
         ensures stands { Reads BagText r.old.rest.now r.new.rest.now result }
         ensures place { r.new.read + length r.new.rest.now ≡ r.old.read + length r.old.rest.now }
@@ -260,7 +261,7 @@ impl SafeBag {
     }
 
     /// The bags that these octets list (SafeContents, RFC 7292 section 4.2). `Malformed` exactly where they are no list of
-    /// bags.
+    /// bags; the other refusal is `Memory`.
     pub fn parse_all(alloc: Global, bytes: &[u8]) -> Result<Items<SafeBag>, Error>
         ensures ok { IfOk result (λ x. IsBags bytes.now x) }
         ensures err { IfErr result (λ e. MalformedOnly e (NoBags bytes.now)) }
@@ -326,8 +327,8 @@ impl SafeBag {
 }
 
 impl SafeBagKind {
-    /// The value of a bag with this identifier, as it stands inside the bag's `[0]`. `Malformed` exactly where none does; a refusal
-    /// does not move the reader.
+    /// The value of a bag with this identifier, as it stands inside the bag's `[0]`. `Malformed` exactly where none does; the
+    /// other refusal is `Memory`. A refusal does not move the reader.
     pub fn parse(
         alloc: Global,
         r: &mut SliceReader<'_>,

@@ -274,7 +274,7 @@ impl PFX {
         store_over(alloc, outer, units.as_slice(), &salts.mac)
     }
 
-    /// `new_with_cas` with one further certificate, or none.
+    /// `new_with_cas` with one further certificate, or none. Refusals as there.
     ///
     /// Caller: the password has fewer than 2^57 octets.
     pub fn new<D: Draw>(

@@ -29,7 +29,7 @@ Exit numbers:
    8  PasswordMissing     no password was given, and there is no terminal to ask at
    9  NewPasswordMissing  the store has private keys, and no new password was given
   10  Malformed           the file is not a PKCS#12 store in DER
-  11  Unsupported         something is encrypted by an algorithm that is not opened
+  11  Unsupported         something is of a kind, or encrypted by an algorithm, that is not opened
   12  MacMissing          the store has no MAC, so a change to it would go unnoticed
   13  MacUnsupported      the MAC is made neither with SHA-1 nor with SHA-256
   14  ZeroIterations      the store asks for zero iterations

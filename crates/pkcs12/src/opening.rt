@@ -157,7 +157,7 @@ fn meaning_of(refusal: TransferError) -> &'static str {
         TransferError::TooLong => "the store has more than 16,777,215 octets",
         TransferError::Malformed => "the file is not a PKCS#12 store in DER",
         TransferError::Unsupported =>
-            "something in the store is encrypted by an algorithm that is not opened",
+            "something in the store is of a kind, or encrypted by an algorithm, that is not opened",
         TransferError::MacMissing => "the store has no MAC, so a change to it would go unnoticed",
         TransferError::MacUnsupported =>
             "the MAC of the store is made neither with SHA-1 nor with SHA-256",

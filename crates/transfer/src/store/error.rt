@@ -15,7 +15,7 @@ pub enum TransferError {
     /// It is not in the grammar of PKCS#12.
     Malformed,
     /// Its outer content is not data; or a content is neither data nor encrypted by an algorithm that can be opened; or an
-    /// encrypted key is under another algorithm.
+    /// encrypted key is under an algorithm that cannot be opened.
     Unsupported,
     /// It has no MAC.
     MacMissing,

@@ -54,8 +54,8 @@ fn copies_of(alloc: Global, keys: &[OpenedKey<'_>]) -> Result<Items<Octets>, Err
 
 /// Opens the store under the password: the bags of each content, and the octets of each encrypted private key.
 ///
-/// `limit` is the most steps. A step is one digest of an iteration of RFC 7292 appendix B, or one answer of the keyed function
-/// of PBKDF2. The refusals are those of `TransferError` but `Rng`, in their order; each comes exactly where it is the first
+/// `limit` is the most steps. A step is one digest of an iteration of RFC 7292 appendix B, or one answer of the pseudorandom
+/// function of PBKDF2. The refusals are those of `TransferError` but `Rng`, in their order; each comes exactly where it is the first
 /// cause, but want of memory may come in its place.
 ///
 /// Caller: the password has fewer than 2^57 octets.

@@ -44,8 +44,8 @@ impl Transferred {
 /// AES-256-CBC. For each key 16 octets of IV and then 16 of salt are drawn, after every other refusal is decided. The new password
 /// is octets, taken as they are; the rounds are those of PBKDF2 in each document.
 ///
-/// `limit` is the most steps. A step is one digest of an iteration of RFC 7292 appendix B, or one answer of the keyed function
-/// of PBKDF2 that opens a part; the rounds of a document are not counted. The refusals stand in `TransferError`, in their
+/// `limit` is the most steps. A step is one digest of an iteration of RFC 7292 appendix B, or one answer of the pseudorandom
+/// function of PBKDF2 that opens a part; the rounds of a document are not counted. The refusals stand in `TransferError`, in their
 /// order; each comes exactly where it is the first cause, but want of memory may come in its place. After a refusal other than
 /// `Rng` and `Memory` the draw is as it was.
 ///
