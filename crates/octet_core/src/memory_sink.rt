@@ -1,5 +1,5 @@
 //! A sink in memory.
-ghost use Rattle.std.specs.Prelude.{◌≡◌, [], length, min, Some, IfOk, is_err};
+ghost use Rattle.std.specs.Prelude.{◌≡◌, [], length, min, Some, IfOk, OnOk, is_err};
 ghost use Rattle.std.specs.Io.{WritesAtMost};
 ghost use Rattle.octet_core.specs.Faults.{HasCause};
 ghost use Rattle.octet_core.specs.Sink.{Writes};
@@ -96,6 +96,7 @@ impl Sink for MemorySink {
         ensures bound { WritesAtMost result piece.now }
         ensures octets { Writes (Some self.old.written) (Some self.new.written) result piece.now }
         ensures cause { HasCause self.old.faults self.new.faults result }
+        ensures no_fault { OnOk result (self.new.faults ≡ self.old.faults) }
         ensures failed { is_err result ≡ write_fails self.old piece.now }
         ensures count { IfOk result (λ n. n ≡ min self.old.room (length piece.now)) }
         ensures after { self.new ≡ after_write self.old piece.now }

@@ -1,5 +1,5 @@
 //! Where octets go.
-ghost use Rattle.std.specs.Prelude.{ℕ, List};
+ghost use Rattle.std.specs.Prelude.{ℕ, List, ◌≡◌, OnOk};
 ghost use Rattle.std.specs.declared.option.Option.{Option};
 ghost use Rattle.std.specs.Io.{WritesAtMost};
 ghost use Rattle.octet_core.specs.Faults.{HasCause};
@@ -8,7 +8,7 @@ ghost use Rattle.octet_core.specs.Sink.{Writes};
 use crate::failed::Failed;
 
 /// Where octets go. A sink may tell which octets were written, in `written`, or nothing, and it counts its faults: the
-/// count never falls, and stays at `u64::MAX` once it stands there.
+/// count never falls, stays at `u64::MAX` once it stands there, and a write that does not fail leaves it as it is.
 pub trait Sink {
     // the octets written, where the sink tells them
     ghost written: { Self → Option (List ℕ) };
@@ -21,5 +21,6 @@ pub trait Sink {
     fn write(&mut self, piece: &[u8]) -> Result<usize, Failed>
         ensures bound { WritesAtMost result piece.now }
         ensures octets { Writes (written self.old) (written self.new) result piece.now }
-        ensures cause { HasCause (faults self.old) (faults self.new) result };
+        ensures cause { HasCause (faults self.old) (faults self.new) result }
+        ensures no_fault { OnOk result (faults self.new ≡ faults self.old) };
 }
