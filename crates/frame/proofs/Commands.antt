@@ -55,6 +55,7 @@ answers_as {J} {C} p of asked call output s f h = record {
   read_fault = h.read_fault;
   write_fault = h.write_fault;
   failed_read = h.failed_read;
+  failed_write = h.failed_write;
   counts = h.counts;
   too_long = h.too_long;
   unworked = h.unworked;

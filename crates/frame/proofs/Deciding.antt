@@ -1,5 +1,5 @@
 -- What a decision says of the answer.
-use Rattle.std.proofs.Common.{◌≡◌, ◌⊎◌, inl, inr, ◌≤◌, List, ℕ, refl, subst, sym}
+use Rattle.std.proofs.Common.{◌≡◌, ◌⊎◌, inl, inr, ◌≤◌, List, ℕ, arith, refl, subst, sym}
 use Rattle.std.specs.Io.KnownBytes.{Appends}
 use Rattle.octet_core.specs.Faults.{Rose}
 use Rattle.frame.specs.Calls.{Call, IsWritten, TakesNoStep, cut, whole}
@@ -19,15 +19,16 @@ unworked_at p call s text due (inl is) = (due_at p call s ReadFault text due is)
 unworked_at p call s text due (inr is) = (due_at p call s InputTooLong text due is).0.2.1
 
 -- The decision was written whole.
-answered_whole : {C : Type 0} (p : Program C) (call : Call) (output : Stream) (s : Status) (text : List ℕ) → Decides p call s text → output.faults ≤ output.faults_after
+answered_whole : {C : Type 0} (p : Program C) (call : Call) (output : Stream) (s : Status) (text : List ℕ) → Decides p call s text → output.faults_after ≡ output.faults
     → Appends output.told output.told_after text → Answers p call output s
-answered_whole p call output s text d count all = record {
+answered_whole p call output s text d kept all = record {
   usage = λ none. inl (d.usage none);
   usage_only = λ is. (due_at p call s Usage text d.due is).0;
   read_fault = λ is. (due_at p call s ReadFault text d.due is).0.2.0;
   write_fault = λ is. absurd (due_at p call s WriteFault text d.due is).0.2;
   failed_read = λ rose. inl (d.failed_read rose);
-  counts = (d.counts.0, d.counts.1, count);
+  failed_write = λ rose. absurd (omega (arith, kept, rose));
+  counts = (d.counts.0, d.counts.1, omega (arith, kept));
   too_long = λ is. (due_at p call s InputTooLong text d.due is).0.2.0;
   unworked = unworked_at p call s text d.due;
   refused = λ is. (subst (DueRow p call s text) is d.due).0;
@@ -47,6 +48,7 @@ answered_cut p call output due text d count rose some = record {
   read_fault = λ is. absurd (let bad : WriteFault ≡ ReadFault = is in cc);
   write_fault = λ is. rose;
   failed_read = λ h. inr refl;
+  failed_write = λ h. refl;
   counts = (d.counts.0, d.counts.1, count);
   too_long = λ is. absurd (let bad : WriteFault ≡ InputTooLong = is in cc);
   unworked = λ any. elim any [
@@ -64,7 +66,7 @@ answered_cut p call output due text d count rose some = record {
 -- What was decided is answered, or that a write failed.
 pub answered : {C : Type 0} (p : Program C) (call : Call) (output : Stream) (due : Status) (text : List ℕ) (s : Status) → Decides p call due text
     → output.faults ≤ output.faults_after → IsWritten output due text s → Answers p call output s
-answered p call output due text s d count (whole is all) =
-    answered_whole p call output s text (subst (λ t. Decides p call t text) (sym is) d) count all
+answered p call output due text s d count (whole is kept all) =
+    answered_whole p call output s text (subst (λ t. Decides p call t text) (sym is) d) kept all
 answered p call output due text s d count (cut is rose some) =
     subst (Answers p call output) (sym is) (answered_cut p call output due text d count rose some)

@@ -38,8 +38,9 @@ abbrev pub IsRead : Stream → (List ℕ → Type 0) → Type 0
 IsRead input P = IsAtEnd input.told_after
     × ((x : List ℕ) × IfSome input.told (λ y. x ≡ y) × (length x ≤ input_limit) × P x)
 
--- What a decision's text was written as: whole under its status, or in part where a write failed.
+-- What a decision's text was written as: whole under its status, where no write failed, or in part where one did.
 pub data IsWritten (output : Stream) (due : Status) (text : List ℕ) (s : Status) : Type 0 where
-  whole : s ≡ due → Appends output.told output.told_after text → IsWritten output due text s
+  whole : s ≡ due → output.faults_after ≡ output.faults → Appends output.told output.told_after text
+      → IsWritten output due text s
   cut : s ≡ WriteFault → Rose output.faults output.faults_after
       → AppendsPart output.told output.told_after text → IsWritten output due text s

@@ -102,6 +102,8 @@ pub record Answers {C : Type 0} (p : Program C) (call : Call) (output : Stream) 
   pub write_fault : s ≡ WriteFault → Rose output.faults output.faults_after
   -- A read that fails is the last: where the source's count rose, the answer is ReadFault.
   pub failed_read : call.input.faults < call.input.faults_after → (s ≡ ReadFault) ⊎ (s ≡ WriteFault)
+  -- A write that fails is the last: where the sink's count rose, the answer is WriteFault.
+  pub failed_write : output.faults < output.faults_after → s ≡ WriteFault
   -- No count falls.
   pub counts : (call.input.faults ≤ call.input.faults_after)
       × (call.work.draw.faults ≤ call.work.draw.faults_after) × (output.faults ≤ output.faults_after)

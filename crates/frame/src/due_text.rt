@@ -24,7 +24,8 @@ pub trait DueText {
             (Appends (O.written output.old) (O.written output.new) (text self.now)) }
         ensures part { OnErr result
             (AppendsPart (O.written output.old) (O.written output.new) (text self.now)) }
-        ensures cause { OnErr result (Rose (O.faults output.old) (O.faults output.new)) };
+        ensures cause { OnErr result (Rose (O.faults output.old) (O.faults output.new)) }
+        ensures no_fault { OnOk result (O.faults output.new ≡ O.faults output.old) };
 }
 
 /// Lines, one after the other, each offered in one write.
@@ -97,13 +98,14 @@ pub fn add_lines(
     Ok(())
 }
 
-/// Writes a piece whole. `Failed` only where a write failed, and then a proper prefix of it was written.
+/// Writes a piece whole. `Failed` exactly where a write failed, and then a proper prefix of it was written.
 pub fn write_piece<O: Sink>(output: &mut O, piece: &[u8]) -> Result<(), Failed>
     ensures count { O.faults output.old ≤ O.faults output.new }
     ensures whole { OnOk result (Appends (O.written output.old) (O.written output.new) piece.now) }
     ensures part { OnErr result
         (AppendsPart (O.written output.old) (O.written output.new) piece.now) }
     ensures cause { OnErr result (Rose (O.faults output.old) (O.faults output.new)) }
+    ensures no_fault { OnOk result (O.faults output.new ≡ O.faults output.old) }
 {
     let mut done = 0;
     while done < piece.len() {
@@ -112,7 +114,8 @@ pub fn write_piece<O: Sink>(output: &mut O, piece: &[u8]) -> Result<(), Failed>
     Ok(())
 }
 
-/// Writes the lines, one after the other. `Failed` only where a write failed, and then a proper prefix of them was written.
+/// Writes the lines, one after the other. `Failed` exactly where a write failed, and then a proper prefix of them was
+/// written.
 pub fn write_lines<O: Sink>(output: &mut O, lines: &[Octets]) -> Result<(), Failed>
     ensures count { O.faults output.old ≤ O.faults output.new }
     ensures whole { OnOk result
@@ -120,6 +123,7 @@ pub fn write_lines<O: Sink>(output: &mut O, lines: &[Octets]) -> Result<(), Fail
     ensures part { OnErr result (AppendsPart (O.written output.old) (O.written output.new)
         (joined lines.now)) }
     ensures cause { OnErr result (Rose (O.faults output.old) (O.faults output.new)) }
+    ensures no_fault { OnOk result (O.faults output.new ≡ O.faults output.old) }
 {
     for line in lines {
         write_piece(output, line.as_slice())?;
@@ -135,6 +139,7 @@ pub fn write_error<O: Sink>(output: &mut O, status: Status) -> Result<(), Failed
     ensures part { OnErr result
         (AppendsPart (O.written output.old) (O.written output.new) (error_text status)) }
     ensures cause { OnErr result (Rose (O.faults output.old) (O.faults output.new)) }
+    ensures no_fault { OnOk result (O.faults output.new ≡ O.faults output.old) }
 {
     let name = status.name().as_bytes();
     let mut line = [b'\n'; 24];

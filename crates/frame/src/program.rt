@@ -28,7 +28,7 @@ fn input_status(error: InputError) -> Status
 }
 
 /// Writes what is due for a decision, the text of what was made or `error: ` and the name of the status, and answers its
-/// status; `WriteFault` only where a write failed.
+/// status, or `WriteFault` where a write failed.
 pub fn write_decision<T: DueText + Drop, O: Sink>(
     output: &mut O,
     decision: Result<T, Status>,

@@ -21,17 +21,19 @@ due_as : (keys a b : ℕ) (s t : Status) (text : List ℕ) → s ≡ t → Sampl
 due_as keys a b s t text is h = rw is h
 
 answered : (keys a b : ℕ) (output : Stream) (t : Status) (text : List ℕ) (s : Status) → output.faults ≤ output.faults_after → SampleDue keys a b t text → IsWritten output t text s → SampleAnswers keys a b output s
-answered keys a b output t text s count is (whole same all) = record {
+answered keys a b output t text s count is (whole same kept all) = record {
   written = λ other. (text, due_as keys a b s t text same is, all);
   part = λ fault. absurd (due_as keys a b WriteFault t text (sym fault ∙ same) is);
   write_fault = λ fault. absurd (due_as keys a b WriteFault t text (sym fault ∙ same) is);
   count = count;
+  failed_write = λ rose. absurd (omega (arith, kept, rose));
 }
 answered keys a b output t text s count is (cut fault rose some) = record {
   written = λ other. absurd (other fault);
   part = λ fault. (t, text, is, some);
   write_fault = λ fault. rose;
   count = count;
+  failed_write = λ more. fault;
 }
 
 -- the words of a sample have one number

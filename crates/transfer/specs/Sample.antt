@@ -1,5 +1,5 @@
 -- The sample: a store that is made of generated octets, and the text that is due for it.
-use Rattle.std.specs.Prelude.{ℕ, ◌*◌, ◌+◌, ◌/◌, ◌%◌, ◌-◌, ◌^◌, ◌≡◌, ◌≢◌, ◌≤◌, List, zero, suc, [], ◌∷◌, ◌++◌, map, length, Option, Some, codes, decimal}
+use Rattle.std.specs.Prelude.{ℕ, ◌*◌, ◌+◌, ◌/◌, ◌%◌, ◌-◌, ◌^◌, ◌≡◌, ◌≢◌, ◌<◌, ◌≤◌, List, zero, suc, [], ◌∷◌, ◌++◌, map, length, Option, Some, codes, decimal}
 use Rattle.std.specs.Io.KnownBytes.{Appends}
 use Rattle.sha2.specs.Sha256.{sha256}
 use Rattle.asn1_core.specs.Sets.{Each}
@@ -197,3 +197,5 @@ pub record SampleAnswers (keys steps steps_after : ℕ) (output : Stream) (s : S
   -- WriteFault comes only where the output's count of faults rose, or stands at its last value; the count does not fall.
   pub write_fault : s ≡ WriteFault → Rose output.faults output.faults_after
   pub count : output.faults ≤ output.faults_after
+  -- A write that fails is the last: where the count rose, the answer is WriteFault.
+  pub failed_write : output.faults < output.faults_after → s ≡ WriteFault

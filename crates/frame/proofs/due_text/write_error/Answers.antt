@@ -17,4 +17,5 @@ returns g c =
       whole = subst (λ (t : List ℕ). OnOk c.write_piece.result (Appends (g.O.Sink.written c.args.output.now) (g.O.Sink.written c.write_piece.new.output) t)) line c.write_piece.ensures.whole;
       part = subst (λ (t : List ℕ). OnErr c.write_piece.result (AppendsPart (g.O.Sink.written c.args.output.now) (g.O.Sink.written c.write_piece.new.output) t)) line c.write_piece.ensures.part;
       cause = c.write_piece.ensures.cause;
+      no_fault = c.write_piece.ensures.no_fault;
     }
