@@ -1,6 +1,6 @@
 -- Stores that are made here (RFC 7292 section 5): every part under a salt of 8 drawn octets and 2,048 rounds, texts
 -- under Triple DES, the MAC under SHA-1.
-use Rattle.std.specs.Prelude.{◌≡◌, ◌⊎◌, ℕ, List, [], ◌∷◌, ◌++◌, length, map, replicate, All, Option, Some, ⊤}
+use Rattle.std.specs.Prelude.{◌≡◌, ◌≤◌, ◌⊎◌, ℕ, List, [], ◌∷◌, ◌++◌, length, map, replicate, All, Option, Some, IfSome, ⊤}
 use Rattle.std.specs.Io.KnownBytes.{Consumes}
 use Rattle.octet_core.specs.Draw.{Lacks}
 use Rattle.sha1.specs.Sha1.{sha1}
@@ -52,14 +52,23 @@ pub record DrawsSalts (old new : Option (List ℕ)) (P : Salts → Type 0) : Typ
   pub took : Consumes old new (salts.key ++ (salts.certificates ++ salts.mac))
   pub are : P salts
 
+-- where the octets to come are told, there are n at least
+abbrev pub AreEnough : Option (List ℕ) → ℕ → Type 0
+AreEnough left n = IfSome left (λ octets. n ≤ length octets)
+
 -- a call that draws n octets is refused, by cases on the error: one with ⊥ never comes, want of memory may come at any
--- point; `bad` is when a value cannot be written, `long` when a text would be too long
+-- point; `bad` is when a value cannot be written, `long` when a text would be too long, and both come only where there
+-- were enough octets
 abbrev pub RefusesDrawn : Type 0 → Type 0 → ℕ → ℕ → Option (List ℕ) → ℕ → Error → Type 0
-RefusesDrawn bad long before now left n errors.Malformed = bad
+RefusesDrawn bad long before now left n errors.Malformed = bad × AreEnough left n
 RefusesDrawn bad long before now left n errors.Invalid = ⊥
 RefusesDrawn bad long before now left n errors.Rng = Lacks before now left n
-RefusesDrawn bad long before now left n errors.TooLong = long
+RefusesDrawn bad long before now left n errors.TooLong = long × AreEnough left n
 RefusesDrawn bad long before now left n errors.Memory = ⊤
+
+-- the draw of n octets is refused
+abbrev pub FailsToDraw : ℕ → ℕ → Option (List ℕ) → ℕ → Error → Type 0
+FailsToDraw before now left n e = (e ≡ errors.Rng) × Lacks before now left n
 
 -- ---- texts under Triple DES
 

@@ -1,7 +1,7 @@
 //! Making stores.
 ghost use Rattle.std.specs.Prelude.{◌≡◌, ◌<◌, ◌≤◌, ◌^◌, All, length, IfErr, IfOk, OnOk, true};
 ghost use Rattle.asn1_core.specs.Der.{IsShort};
-ghost use Rattle.p12.specs.Building.{DrawsSalt, IsTooLong, RefusesBags, RefusesDrawn, SealsBags, triple_des};
+ghost use Rattle.p12.specs.Building.{DrawsSalt, FailsToDraw, IsTooLong, RefusesBags, RefusesDrawn, SealsBags, triple_des};
 ghost use Rattle.p12.specs.Canonical.{WritableBag, bags_canon};
 ghost use Rattle.p12.specs.MacData.{mac_agrees, mac_of};
 ghost use Rattle.p12.specs.declared.algorithm_identifier.AlgorithmIdentifier.TheVariants as algorithm;
@@ -23,8 +23,8 @@ pub(crate) const ITERATIONS: u32 = 2_048;
 pub(crate) fn draw_salt<D: Draw>(draw: &mut D) -> Result<[u8; 8], Error>
     ensures ok { IfOk result (λ s. DrawsSalt (D.left draw.old) (D.left draw.new)
         (λ salt. s ≡ salt)) }
-    ensures err { IfErr result (RefusesDrawn ⊥ ⊥
-        (D.faults draw.old) (D.faults draw.new) (D.left draw.old) 8) }
+    ensures err { IfErr result
+        (FailsToDraw (D.faults draw.old) (D.faults draw.new) (D.left draw.old) 8) }
     ensures kept { D.faults draw.old ≤ D.faults draw.new }
 {
     let mut salt = [0u8; 8];

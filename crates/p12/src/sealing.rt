@@ -10,6 +10,7 @@ ghost use Rattle.pkcs5.specs.Opening.{states_length};
 use crate::error::Error;
 use crate::opening::{TRIPLE_DES_BLOCK, TRIPLE_DES_KEY};
 use crate::pkcs12_pbe_params::Pkcs12PbeParams;
+use crate::writing::MOST_OCTETS;
 use asn1_core::Octets;
 use block_core::{BlockCipher, TdesEde3};
 use mac_modes::{Sha1, cbc_encrypt_padded};
@@ -83,9 +84,6 @@ pub(crate) fn seal_pbes2(
         Err(_) => unreachable!(),
     }
 }
-
-/// The most octets that a text has.
-const MOST_OCTETS: usize = 0xffff_ffff;
 
 /// The ciphertext, where it has no more octets than a text may have.
 pub(crate) fn fitting(ciphertext: Octets) -> Result<Octets, Error>

@@ -1,7 +1,7 @@
 //! Making a store of a key and its certificates.
 ghost use Rattle.std.specs.Prelude.{◌≡◌, ◌<◌, ◌≤◌, ◌-◌, ◌^◌, ◌++◌, ◌∷◌, [], List, ℕ, length, IfErr, IfOk, OnOk};
 ghost use Rattle.asn1_core.specs.Texts.{seen_option};
-ghost use Rattle.p12.specs.Building.{DrawsSalts, IsCiphertext, IsOuterText, IsStoreOf, IsTooLong, IsTooLongStore, RefusesDrawn, RefusesStore, SealsBags, certificate_bag, certificate_bags, entry_of, key_bag, own_attributes, seen_entry, seen_salts, store_over};
+ghost use Rattle.p12.specs.Building.{DrawsSalts, FailsToDraw, IsCiphertext, IsOuterText, IsStoreOf, IsTooLong, IsTooLongStore, RefusesDrawn, RefusesStore, SealsBags, certificate_bag, certificate_bags, entry_of, key_bag, own_attributes, seen_entry, seen_salts, store_over};
 ghost use Rattle.asn1_core.specs.Der.{IsShort};
 ghost use Rattle.p12.specs.Canonical.{bags_canon};
 ghost use Rattle.p12.specs.Collected.{at_most_one};
@@ -48,8 +48,8 @@ pub(crate) struct DrawnSalts {
 fn draw_salts<D: Draw>(draw: &mut D) -> Result<DrawnSalts, Error>
     ensures ok { IfOk result (λ d. DrawsSalts (D.left draw.old) (D.left draw.new)
         (λ s. s ≡ seen_salts d)) }
-    ensures err { IfErr result (RefusesDrawn ⊥ ⊥
-        (D.faults draw.old) (D.faults draw.new) (D.left draw.old) 24) }
+    ensures err { IfErr result
+        (FailsToDraw (D.faults draw.old) (D.faults draw.new) (D.left draw.old) 24) }
     ensures count { D.faults draw.old ≤ D.faults draw.new }
 {
     let key = draw_salt(draw)?;
@@ -167,7 +167,7 @@ fn key_bag(
 }
 
 /// The text of the list of bags that holds the key alone, encrypted under a salt.
-fn key_text(
+fn key_list_text(
     alloc: Global,
     entry: EntryParts<'_>,
     password: &[u8],
@@ -198,7 +198,7 @@ fn outer_text(
     ensures fitting { OnOk result (¬ (IsTooLongStore (seen_entry entry.entry))) }
     ensures err { IfErr result (RefusesStore (seen_entry entry.entry)) }
 {
-    let key = key_text(alloc, entry, password, &salts.key)?;
+    let key = key_list_text(alloc, entry, password, &salts.key)?;
     let sealed = sealed_certificates(alloc, entry, password, &salts.certificates)?;
     let mut contents = Items::new(alloc);
     contents.push(ContentInfo::EncryptedData(EncryptedData {
@@ -233,7 +233,7 @@ impl PFX {
     /// the certificate as local key id. The MAC is under SHA-1. Each takes 2,048 rounds and a salt of 8 octets of the
     /// draw: the key first, then the certificates, then the MAC. No octet of certificates and key is looked at.
     ///
-    /// `Rng` exactly where the draw fails: over one that tells its octets, where fewer than 24 remain. `TooLong`
+    /// `Rng` exactly where the draw fails: over one that tells its octets, where fewer than 24 remain. Then `TooLong`
     /// exactly where the encrypted key, the encrypted certificates or the list of contents would have more than
     /// 2^32 - 1 octets. The other refusal is `Memory`. Triple DES and SHA-1 are for programs that read nothing newer.
     ///

@@ -17,7 +17,7 @@ use der_core::Encode;
 use std::alloc::Global;
 
 /// The most octets that a text has.
-const MOST_OCTETS: usize = 0xffff_ffff;
+pub(crate) const MOST_OCTETS: usize = 0xffff_ffff;
 
 /// A part of a text, or a whole one.
 pub(crate) trait Row {

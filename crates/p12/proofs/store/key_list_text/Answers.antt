@@ -1,6 +1,6 @@
 use Rattle.p12.specs.Building.{seen_entry}
 use Rattle.p12.proofs.MadeRefusals.{key_made, key_refused}
-use Rattle.p12.proofs.store.key_text.Goals as goal
+use Rattle.p12.proofs.store.key_list_text.Goals as goal
 
 pub returns-clause-ok : goal.returns-clause-ok
 returns-clause-ok c =
