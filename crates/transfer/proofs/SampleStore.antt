@@ -20,7 +20,8 @@ use Rattle.p12.specs.declared.encrypted_private_key_info.EncryptedPrivateKeyInfo
 use Rattle.p12.specs.declared.mac_data.MacData.{MacData}
 use Rattle.p12.specs.declared.pfx.PFX.{PFX}
 use Rattle.p12.specs.declared.safe_bag.SafeBag.{SafeBag}
-use Rattle.transfer.specs.Opening.{ContentOpens, KeyOpens, all_certificates, all_shrouded, certificates_in, key_share, shrouded_among}
+use Rattle.p12.specs.Collected.{HoldsBags}
+use Rattle.transfer.specs.Opening.{KeyOpens, all_certificates, all_shrouded, certificates_in, key_share, shrouded_among}
 use Rattle.transfer.specs.Sample.{IsKeyBag, IsSampleStore, OpensTo, SampleMakes, behind_keys, behind_salt, certificate_at, certificate_bag, certificate_bags, content_salt_at, drawn_octets, key_bag, mac_salt_at, salt_at, sample_password, sample_text, sample_work, starts, store_of, triple_des_once, two_contents}
 use Rattle.transfer.specs.Transferred.{Transfers}
 use Rattle.transfer.specs.Verdicts.{StoreOpens, work}
@@ -83,7 +84,7 @@ lists_contents salt c gs cs is =
 
 -- the bags of both contents
 two_open : (keys : ℕ) (salt c : List ℕ) (gs : List SafeBag) (gss : List (List SafeBag)) → OpensTo salt (bags_canon (certificate_bags (starts keys keys))) c → Each IsKeyBag (starts keys keys) gs
-    → Each (ContentOpens sample_password) (two_contents salt c gs) gss → gss ≡ certificate_bags (starts keys keys) ∷ gs ∷ []
+    → Each (HoldsBags sample_password) (two_contents salt c gs) gss → gss ≡ certificate_bags (starts keys keys) ∷ gs ∷ []
 two_open keys salt c gs [] o k e = absurd e
 two_open keys salt c gs (a ∷ []) o k e = absurd e.1
 two_open keys salt c gs (a ∷ b ∷ x ∷ more) o k e = absurd e.1.1
@@ -180,7 +181,7 @@ sample_opens keys store gss ks n s opens =
     let o = subst (λ (x : PFX). StoreOpens (store_canon x) sample_password gss ks n) s.is opens in
     let only = only_store outer (mac_salt_at y) o.store o.is in
     let contents = lists_contents salt s.encrypted s.bags o.parts (subst (λ (t : List ℕ). IsContents t o.parts) (data_of outer (mac_salt_at y) o.text o.store only o.is_data) o.opening.contents) in
-    let bags = two_open keys salt s.encrypted s.bags gss s.certificates s.sealed (subst (λ (cs : List ContentInfo). Each (ContentOpens sample_password) cs gss) contents o.opening.bags) in
+    let bags = two_open keys salt s.encrypted s.bags gss s.certificates s.sealed (subst (λ (cs : List ContentInfo). Each (HoldsBags sample_password) cs gss) contents o.opening.bags) in
     opens_to keys salt s.encrypted s.bags o.mac o.parts gss ks n s.certificates s.sealed (rounds_of_mac outer (mac_salt_at y) o.mac o.store only o.has) contents bags o.opening.keys o.work
 
 -- ---- what its transfer gives

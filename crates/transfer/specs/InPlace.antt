@@ -16,7 +16,8 @@ use Rattle.spki.specs.Seen.{borrowed_any}
 use Rattle.transfer.specs.Limits.{store_limit}
 use Rattle.transfer.specs.declared.store.key_locks.KeyLock.{KeyLock}
 use Rattle.transfer.specs.declared.store.key_text.OpenedKey.{OpenedKey}
-use Rattle.transfer.specs.Opening.{ContentOpens, KeysTable, Verdict, shrouded_among}
+use Rattle.p12.specs.Collected.{HoldsBags}
+use Rattle.transfer.specs.Opening.{KeysTable, Verdict, shrouded_among}
 
 -- Only what lies between two numbers of octets was changed.
 abbrev pub Kept : ℕ → ℕ → List ℕ → List ℕ → Type 0
@@ -36,7 +37,7 @@ BagsAt text place gs = IsBags (at_place place text) gs
 -- A content opens to bags that then stand at a place within its own; nothing else is changed.
 pub record ContentOpensAt (p : List ℕ) (v : ContentView) (old new : List ℕ) (place : Place) : Type 0 where
   pub bags : List SafeBag
-  pub opens : ContentOpens p (seen_content v) bags
+  pub opens : HoldsBags p (seen_content v) bags
   pub are : BagsAt new place bags
   pub kept : (from to : ℕ) → ContentBetween from to v → Kept from to old new
   pub within : (from to : ℕ) → ContentBetween from to v → (from ≤ place.start) × (place.start + place.len ≤ to)

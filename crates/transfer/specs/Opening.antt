@@ -12,6 +12,7 @@ use Rattle.p12.specs.declared.safe_bag.SafeBagKind.TheVariants as bag
 use Rattle.p12.specs.declared.cert_bag.CertBag.TheVariants as cert
 use Rattle.p12.specs.declared.encrypted_private_key_info.EncryptedPrivateKeyInfo.{EncryptedPrivateKeyInfo}
 use Rattle.p12.specs.AlgorithmIdentifier.{cost, count, openable, taken, unlock}
+use Rattle.p12.specs.Collected.{HoldsBags}
 use Rattle.p12.specs.ContentInfo.{IsContents, NoContents}
 use Rattle.p12.specs.MacData.{is_mac_digest, mac_agrees}
 use Rattle.pkcs12_kdf.specs.Password.{bmp_password}
@@ -38,21 +39,11 @@ LockFault p limit sum a c rest =
 
 -- ---- Contents
 
--- the plain octets of a content under a password
-abbrev pub plain : List ℕ → ContentInfo → Option (List ℕ)
-plain p (content.Data v) = Some v
-plain p (content.EncryptedData d) = unlock d.encrypted_content_info.content_encryption_algorithm p d.encrypted_content_info.encrypted_content
-plain p (content.OtherContext o) = None
-
 -- the share of the work that a content has
 abbrev pub content_share : ContentInfo → ℕ
 content_share (content.Data v) = 0
 content_share (content.EncryptedData d) = cost d.encrypted_content_info.content_encryption_algorithm
 content_share (content.OtherContext o) = 0
-
--- A content opens to these bags.
-abbrev pub ContentOpens : List ℕ → ContentInfo → List SafeBag → Type 0
-ContentOpens p c gs = (m : List ℕ) × (plain p c ≡ Some m) × IsBags m gs
 
 -- A content under a running sum has this fault, after so many steps of its own.
 abbrev pub ContentFault : List ℕ → ℕ → ℕ → ContentInfo → TransferError → ℕ → Type 0
@@ -63,7 +54,7 @@ ContentFault p limit sum (content.EncryptedData d) e n =
 ContentFault p limit sum (content.OtherContext o) e n = (e ≡ Unsupported) × (n ≡ 0)
 
 abbrev pub of_contents : List ℕ → ℕ → PartKind ContentInfo (List SafeBag) TransferError
-of_contents p limit = record { share = content_share; OpensTo = ContentOpens p; Fault = ContentFault p limit }
+of_contents p limit = record { share = content_share; OpensTo = HoldsBags p; Fault = ContentFault p limit }
 
 -- ---- Bags
 

@@ -1,8 +1,7 @@
 -- Documents under drawn octets, one for each private key.
-use Rattle.std.specs.Prelude.{ℕ, ◌+◌, ◌*◌, ◌<◌, ◌≡◌, List, [], ◌∷◌, ◌++◌, length, take, drop, get_or, Option, IfSome}
+use Rattle.std.specs.Prelude.{ℕ, ◌+◌, ◌*◌, ◌<◌, ◌≡◌, List, [], ◌∷◌, ◌++◌, length, take, drop, get_or, Option}
 use Rattle.std.specs.Io.KnownBytes.{Consumes}
 use Rattle.transfer.specs.Document.{IsDocument}
-use Rattle.octet_core.specs.Faults.{Rose}
 
 -- The document seals the private key of this text under these 32 octets: the IV and then the salt.
 pub record IsDrawn (rounds : ℕ) (q drawn text document : List ℕ) : Type 0 where
@@ -33,10 +32,6 @@ pub record SealsAll (rounds : ℕ) (q : List ℕ) (old new : Option (List ℕ)) 
   pub took : Consumes old new drawn
   pub each_one : length documents ≡ length keys
   pub each_32 : length drawn ≡ 32 * length keys
-
--- A draw failed; where it tells its octets, for want of 32 for each of so many keys.
-abbrev pub Fails : ℕ → ℕ → Option (List ℕ) → ℕ → Type 0
-Fails before now left keys = Rose before now × IfSome left (λ d. length d < 32 * keys)
 
 -- Of sealed keys each document stands at the place of its key, under the IV and the salt at that place of the drawn octets.
 abbrev pub DrawnInPlace : Type 0

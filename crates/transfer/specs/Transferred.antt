@@ -1,10 +1,11 @@
 -- What the transfer of a store comes to.
 use Rattle.std.specs.Prelude.{ℕ, ◌+◌, ◌*◌, ◌<◌, ◌≤◌, ◌≡◌, ◌⊎◌, List, length, Option, Some, None, Result, Err, IfSome, IsOk}
+use Rattle.octet_core.specs.Draw.{Lacks}
 use Rattle.p12.specs.declared.safe_bag.SafeBag.{SafeBag}
 use Rattle.transfer.specs.declared.store.error.TransferError.{TransferError}
 use Rattle.transfer.specs.declared.store.error.TransferError.TheVariants.{Memory, Rng}
 use Rattle.transfer.specs.Opening.{HasVerdict, FirstCause, all_certificates, opened, refused}
-use Rattle.transfer.specs.Sealing.{Fails, SealsAll}
+use Rattle.transfer.specs.Sealing.{SealsAll}
 
 -- The store is opened, its certificates stand in order, each of its keys is sealed anew in rounds under the password q by the octets that
 -- are drawn, and the steps are its work.
@@ -23,7 +24,7 @@ pub record RunsShort (b p : List ℕ) (limit : ℕ) (left : Option (List ℕ)) (
   pub keys : List (List ℕ)
   pub work : ℕ
   pub verdict : HasVerdict b p limit (opened bags keys) work
-  pub short : Fails faults faults_after left (length keys)
+  pub short : Lacks faults faults_after left (32 * length keys)
   pub counted : steps_after ≡ steps + work
 
 -- The store is refused for e, after the steps that were taken.

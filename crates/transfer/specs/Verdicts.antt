@@ -14,7 +14,8 @@ use Rattle.p12.specs.Pfx.{IsStore}
 use Rattle.transfer.specs.Limits.{store_limit}
 use Rattle.transfer.specs.declared.store.error.TransferError.{TransferError}
 use Rattle.asn1_core.specs.Sets.{Each}
-use Rattle.transfer.specs.Opening.{HasVerdict, ContentOpens, FirstCause, KeyOpens, Verdict, all_shrouded, content_share, key_share, opened}
+use Rattle.p12.specs.Collected.{HoldsBags}
+use Rattle.transfer.specs.Opening.{HasVerdict, FirstCause, KeyOpens, Verdict, all_shrouded, content_share, key_share, opened}
 
 -- The MAC of a store agrees under a password.
 pub record IsMacOk (p v : List ℕ) (m : MacData) : Type 0 where
@@ -25,7 +26,7 @@ pub record IsMacOk (p v : List ℕ) (m : MacData) : Type 0 where
 -- The text of a store lists these contents, each opens to these bags, and the encrypted keys among them to these texts.
 pub record IsOpening (p v : List ℕ) (cs : List ContentInfo) (gss : List (List SafeBag)) (ks : List (List ℕ)) : Type 0 where
   pub contents : IsContents v cs
-  pub bags : Each (ContentOpens p) cs gss
+  pub bags : Each (HoldsBags p) cs gss
   pub keys : Each (KeyOpens p) (all_shrouded gss) ks
 
 -- the work of a store: the count of its MAC, then the share of each content, then that of each encrypted key

@@ -1,10 +1,11 @@
 //! Sealing private keys anew, under octets that are drawn.
-ghost use Rattle.std.specs.Prelude.{◌≡◌, ◌≤◌, ◌<◌, ◌^◌, All, length, IfOk, IfErr};
+ghost use Rattle.std.specs.Prelude.{◌≡◌, ◌≤◌, ◌<◌, ◌*◌, ◌^◌, All, length, IfOk, IfErr};
+ghost use Rattle.octet_core.specs.Draw.{Lacks};
 ghost use Rattle.pkcs8.specs.declared.error.Error.TheVariants as errors;
 ghost use Rattle.transfer.specs.Limits.{rounds_limit};
 ghost use Rattle.transfer.specs.Document.{IsDocument};
 ghost use Rattle.transfer.specs.InPlace.{IsOpenedKey, texts_of};
-ghost use Rattle.transfer.specs.Sealing.{Fails, Seals, SealsAll};
+ghost use Rattle.transfer.specs.Sealing.{Seals, SealsAll};
 ghost use Rattle.transfer.specs.TransferError.{RefusedBy};
 
 use crate::store::error::TransferError;
@@ -74,7 +75,7 @@ fn seal<D: Draw>(
     ensures sealed { IfOk result (λ document. Seals rounds new_password.now (D.left draw.old)
         (D.left draw.new) opened.now.text.now document) }
     ensures cause { IfErr result
-        (RefusedBy (λ e. ⊥) (Fails (D.faults draw.old) (D.faults draw.new) (D.left draw.old) 1)) }
+        (RefusedBy (λ e. ⊥) (Lacks (D.faults draw.old) (D.faults draw.new) (D.left draw.old) 32)) }
 {
     let mut iv = [0u8; 16];
     let mut salt = [0u8; 16];
@@ -102,8 +103,8 @@ pub(crate) fn seal_all<D: Draw>(
     ensures sealed { IfOk result (λ documents. SealsAll rounds new_password.now (D.left draw.old)
         (D.left draw.new) (texts_of keys.now) documents) }
     ensures cause { IfErr result
-        (RefusedBy (λ e. ⊥) (Fails (D.faults draw.old) (D.faults draw.new) (D.left draw.old)
-        (length keys.now))) }
+        (RefusedBy (λ e. ⊥) (Lacks (D.faults draw.old) (D.faults draw.new) (D.left draw.old)
+        (32 * length keys.now))) }
 {
     let mut documents = Items::new(alloc);
     for key in keys {
