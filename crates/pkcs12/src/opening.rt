@@ -75,7 +75,10 @@ fn transfer_from<D: Draw, L: Ledger>(
 }
 
 /// Opens a store, and seals its keys under the new password, over the system's random octets.
-pub fn open_store<R: Files + AllocGlobal>(rt: &R, order: &Order<'_>) -> Result<Transferred, Failure>
+pub fn transfer_store<R: Files + AllocGlobal>(
+    rt: &R,
+    order: &Order<'_>,
+) -> Result<Transferred, Failure>
     requires rounds { (1 ≤ order.now.rounds) × (order.now.rounds ≤ 100000000) }
 {
     let random = match fs::open(rt, RANDOM) {
@@ -115,7 +118,7 @@ pub fn check_store<R: Files + AllocGlobal>(
         rounds: 1,
         limit,
     };
-    let transferred = open_store(rt, &order)?;
+    let transferred = transfer_store(rt, &order)?;
     Ok(Counts {
         certificates: transferred.certificates.len(),
         keys: transferred.documents.len(),
@@ -138,7 +141,7 @@ pub fn export_certificates<R: Files + AllocGlobal>(
         rounds: 1,
         limit,
     };
-    let transferred = open_store(rt, &order)?;
+    let transferred = transfer_store(rt, &order)?;
     if !transferred.documents.is_empty() {
         return Err(Failure::new(
             Ending::NewPasswordMissing,

@@ -4,7 +4,7 @@ use crate::command_line::command;
 use crate::ending::{Ending, Failure};
 use crate::folder::Folder;
 use crate::inspection::{listing, visible_work};
-use crate::opening::{Order, check_store, export_certificates, open_store, read_store};
+use crate::opening::{Order, check_store, export_certificates, read_store, transfer_store};
 use crate::origin::{Origin, read_password};
 use crate::password::{Password, as_new_password};
 use crate::refusal::with_detail;
@@ -223,7 +223,7 @@ fn sealed<R: Files + Eprint + AllocGlobal>(
         rounds: asked.rounds,
         limit: asked.limit,
     };
-    open_store(rt, &order)
+    transfer_store(rt, &order)
 }
 
 /// What is written of a store, where there may be a new password.
