@@ -51,6 +51,21 @@ impl Line {
     }
 }
 
+/// The text and a comma, which a pair comes behind; nothing where the text is empty. `ParamsInvalid` exactly where it has
+/// more than 127 octets.
+fn line_before_pair(text: &str) -> Result<Line, Error>
+    ensures ok { IfOk result (λ l. l ≡ with_pair text.now []) }
+    ensures err { IfErr result (λ e. (e ≡ Error.ParamsInvalid)
+        × (127 < length (with_pair text.now []))) }
+{
+    let mut line = Line::new();
+    if !text.is_empty() {
+        line.push(text)?;
+        line.push(",")?;
+    }
+    Ok(line)
+}
+
 /// The parameter text with the pair `name=value` at its end. `ParamsInvalid` exactly where it has more than 127 octets.
 pub(crate) fn line_with_pair(text: &str, name: &str, value: &str) -> Result<Line, Error>
     ensures ok { IfOk result (λ l. l ≡ with_pair text.now (name.now ++ 61 ∷ value.now)) }
@@ -58,11 +73,7 @@ pub(crate) fn line_with_pair(text: &str, name: &str, value: &str) -> Result<Line
     ensures err { IfErr result (λ e. (e ≡ Error.ParamsInvalid)
         × (127 < length (with_pair text.now (name.now ++ 61 ∷ value.now)))) }
 {
-    let mut line = Line::new();
-    if !text.is_empty() {
-        line.push(text)?;
-        line.push(",")?;
-    }
+    let mut line = line_before_pair(text)?;
     line.push(name)?;
     line.push("=")?;
     line.push(value)?;
