@@ -1,5 +1,5 @@
 -- Blocks of a text, one after the other.
-use Rattle.std.proofs.Common.{◌≡◌, ◌∙◌, sym, ap, ap₂, ℕ, zero, suc, ◌+◌, ◌*◌, ◌/◌, ◌%◌, ◌<◌, ◌≤◌, List, ◌++◌, length, take, drop, refl, arith}
+use Rattle.std.proofs.Common.{◌≡◌, ◌∙◌, sym, ap, ap₂, ℕ, zero, suc, ◌+◌, ◌-◌, ◌*◌, ◌/◌, ◌%◌, ◌<◌, ◌≤◌, List, ◌++◌, length, take, drop, refl, arith}
 use Rattle.std.proofs.lemmas.List.{drop-drop, drop_at, take_at, take_all, drop-take, take-append-drop, length-drop, length-take, length-take-le, take-take}
 use Rattle.std.proofs.lemmas.Slice.{take-put_mid, take-put_mid_below, drop-put_mid}
 use borrow.Rule.Slice.PartMut.{put_mid}
@@ -73,6 +73,12 @@ opening_more D n iv c b kept text mid mid' i a k liv room same ea ek long is is'
 pub block_room : (n len i : ℕ) → i < len / n → n * i + n ≤ len
 block_room n len i h =
     omega (arith, mul-le-mul_left n h, mul-div-le len n, mul-suc n i)
+
+-- it has n octets, where it is cut out by its place
+pub block_length : (n m len i : ℕ) (b : List ℕ) → m ≡ n → i < len / m → length b ≡ len → length (take (i * m + m - i * m) (drop (i * m) b)) ≡ n
+block_length n m len i b is h same =
+    let room : m * i + m ≤ len = block_room m len i h in
+    omega (arith, mul_comm m i, length-take (i * m + m - i * m) (drop (i * m) b), length-drop (i * m) b)
 
 pub opening_all : (D : List ℕ → List ℕ) (n : ℕ) (iv c b kept : List ℕ) (i m : ℕ)
     → m ≡ n → length c % n ≡ 0 → length b ≡ length c → length c / m ≤ i → i ≤ length c / m

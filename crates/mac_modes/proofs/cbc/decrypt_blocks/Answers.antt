@@ -1,7 +1,14 @@
 use Rattle.std.proofs.Common.{arith, subst, ap, ◌∙◌, ◌+◌, ◌*◌, ◌/◌, ◌<◌, ◌≤◌, ◌≡◌, ℕ, length, refl}
 use Rattle.std.proofs.Math.Nat.{mul_comm}
-use Rattle.mac_modes.proofs.Chains.{opening_none, opening_more, opening_all, block_room}
+use Rattle.mac_modes.proofs.Chains.{opening_none, opening_more, opening_all, block_room, block_length}
 use Rattle.mac_modes.proofs.cbc.decrypt_blocks.Goals as goal
+
+pub decrypt_one-requires-clause-previous : goal.decrypt_one-requires-clause-previous
+decrypt_one-requires-clause-previous g c = c.loop-i.auto.previous ∙ ap length c.copy_from_slice.ensures.after ∙ c.requires.iv
+
+pub decrypt_one-requires-clause-text : goal.decrypt_one-requires-clause-text
+decrypt_one-requires-clause-text g c =
+    block_length g.C.BlockCipher.BLOCK c.BLOCK-size.result (length c.args.buffer.now) c.loop-i.i c.loop-i.buffer c.BLOCK-size.ensures c.loop-i-test.true c.loop-i.auto.buffer
 
 pub loop-i-init : goal.loop-i-init
 loop-i-init g c = opening_none _ _ _ _ _ c.requires.iv c.copy_from_slice.ensures.after

@@ -25,3 +25,9 @@ returns-clause-opened g c =
     let long = counter-length _ g.C.BlockCipher.BLOCK g.C.BlockCipher.encryption g.C.BlockCipher.decryption g.C.BlockCipher.laws c.requires c.args.cipher.now nonce c.told-nonce c.fits-nonce in
     opened E nonce long b c.xor_stream.new.text c.if-buffer-lt16.false c.xor_stream.ensures
     (sym (dropped b (length b - 16) (length b - 16) refl) ∙ c.if-not-is_same.ensures.0 refl ∙ c.tag_of-tag.ensures)
+
+pub tag_of-tag-requires : goal.tag_of-tag-requires
+tag_of-tag-requires g c = c.requires
+
+pub xor_stream-requires : goal.xor_stream-requires
+xor_stream-requires g c = c.requires
