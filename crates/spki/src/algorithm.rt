@@ -1,5 +1,6 @@
 //! Algorithm identifiers.
 ghost use Rattle.std.specs.Prelude.{refl};
+ghost use Rattle.asn1_core.specs.Gives.{Gives};
 ghost use Rattle.asn1_core.specs.Texts.{seen_option};
 ghost use Rattle.der_core.specs.Optional.{canon_option, writable_option};
 ghost use Rattle.spki.specs.declared.algorithm.AlgorithmIdentifier.{AlgorithmIdentifier};
@@ -37,6 +38,20 @@ pub type AlgorithmIdentifierWithOid = AlgorithmIdentifier<ObjectIdentifier>;
 /// An algorithm with any parameters, in memory of its own.
 pub type AlgorithmIdentifierOwned = AlgorithmIdentifier<Any>;
 
+/// The algorithm whose value octets these are.
+fn read_algorithm<'a, Params: Choice<&'a [u8]>>(
+    value: &'a [u8],
+) -> Result<AlgorithmIdentifier<Params>, Error>
+    ensures { Gives (λ a. algorithm a.oid (seen_option Params.seen a.parameters)) result
+        (algorithm_of Params.can Params.at value.now) }
+{
+    let mut inner = SliceReader::new(value);
+    let oid = ObjectIdentifier::decode(&mut inner)?;
+    let parameters = Option::<Params>::decode(&mut inner)?;
+    inner.finish()?;
+    Ok(AlgorithmIdentifier { oid, parameters })
+}
+
 impl<Params> FixedTag for AlgorithmIdentifier<Params> {
     ghost TAG = { record { first = 0x30; is_tag = refl } };
 
@@ -58,12 +73,9 @@ impl<'a, Params: Choice<&'a [u8]>> DecodeValue<&'a [u8]> for AlgorithmIdentifier
     ) -> Result<AlgorithmIdentifier<Params>, Error> {
         let mut ahead = *r;
         let value = ahead.read_slice(header.length)?;
-        let mut inner = SliceReader::new(value);
-        let oid = ObjectIdentifier::decode(&mut inner)?;
-        let parameters = Option::<Params>::decode(&mut inner)?;
-        inner.finish()?;
+        let algorithm = read_algorithm(value)?;
         *r = ahead;
-        Ok(AlgorithmIdentifier { oid, parameters })
+        Ok(algorithm)
     }
 
     ghost exact = { λ t. algorithm_of-exact Params.can Params.text Params.at Params.exact

@@ -1,6 +1,6 @@
 //! Values that are made of an algorithm as it is read.
 ghost use Rattle.std.specs.Prelude.{◌≡◌, ◌+◌, length, Result};
-ghost use Rattle.asn1_core.specs.Gives.{ReadsAs};
+ghost use Rattle.asn1_core.specs.Gives.{Gives, ReadsAs};
 ghost use Rattle.asn1_core.specs.Reading.{Fault, valued};
 ghost use Rattle.spki.specs.Made.{IsMaking, made_of};
 ghost use Rattle.spki.specs.Seen.{AnyAlgorithm};
@@ -8,6 +8,21 @@ ghost use Rattle.spki.specs.Seen.{AnyAlgorithm};
 use crate::algorithm::{AlgorithmIdentifier, AlgorithmIdentifierRef};
 use asn1_core::{Error, Header, ObjectIdentifier, Reader, SliceReader};
 use der_core::{AnyRef, Decode};
+
+/// What `T::try_from` makes of the algorithm whose value octets these are.
+fn read_value_as<'a, T>(value: &'a [u8]) -> Result<T, Error>
+where
+    T: TryFrom<AlgorithmIdentifierRef<'a>, Error = Error> + Drop,
+    ensures { (make : AnyAlgorithm → Result T Fault) → IsMaking T.try_from_gives make
+        → Gives (λ v. v) result (made_of make value.now) }
+{
+    let mut inner = SliceReader::new(value);
+    let oid = ObjectIdentifier::decode(&mut inner)?;
+    let parameters = Option::<AnyRef<'a>>::decode(&mut inner)?;
+    let made = T::try_from(AlgorithmIdentifier { oid, parameters })?;
+    inner.finish()?;
+    Ok(made)
+}
 
 /// Takes the value octets of an algorithm behind this header, and answers what `T::try_from` makes of it: the body of
 /// `decode_value` for a type whose text is an algorithm. `Malformed` where the identifier or the parameters are none;
@@ -25,11 +40,7 @@ where
 {
     let mut ahead = *r;
     let value = ahead.read_slice(header.length)?;
-    let mut inner = SliceReader::new(value);
-    let oid = ObjectIdentifier::decode(&mut inner)?;
-    let parameters = Option::<AnyRef<'a>>::decode(&mut inner)?;
-    let made = T::try_from(AlgorithmIdentifier { oid, parameters })?;
-    inner.finish()?;
+    let made = read_value_as(value)?;
     *r = ahead;
     Ok(made)
 }

@@ -1,5 +1,6 @@
 //! Public keys with their algorithms.
 ghost use Rattle.std.specs.Prelude.{refl};
+ghost use Rattle.asn1_core.specs.Gives.{Gives};
 ghost use Rattle.spki.specs.declared.subject_public_key_info.SubjectPublicKeyInfo.{SubjectPublicKeyInfo};
 ghost use Rattle.spki.specs.SubjectPublicKeyInfo.{public_key, public_key_of, PublicKeyOf, public_key_content, SpellsPublicKey};
 ghost use Rattle.spki.specs.SameLaws.{algorithm_same, public_key_same};
@@ -33,6 +34,25 @@ pub type SubjectPublicKeyInfoRef<'a> = SubjectPublicKeyInfo<AnyRef<'a>, BitStrin
 /// A public key of any algorithm, in memory of its own.
 pub type SubjectPublicKeyInfoOwned = SubjectPublicKeyInfo<Any, BitString>;
 
+/// The public key whose value octets these are.
+fn read_public_key<'a, Params: Choice<&'a [u8]>, Key: Choice<&'a [u8]>>(
+    value: &'a [u8],
+) -> Result<SubjectPublicKeyInfo<Params, Key>, Error>
+    ensures { Gives (λ a. public_key
+        (⟦<AlgorithmIdentifier<Params> as Decode<&'a [u8]>>⟧.seen a.algorithm)
+        (Key.seen a.subject_public_key)) result
+        (public_key_of Params.can Params.at Key.at value.now) }
+{
+    let mut inner = SliceReader::new(value);
+    let algorithm = AlgorithmIdentifier::<Params>::decode(&mut inner)?;
+    let subject_public_key = Key::decode(&mut inner)?;
+    inner.finish()?;
+    Ok(SubjectPublicKeyInfo {
+        algorithm,
+        subject_public_key,
+    })
+}
+
 impl<Params, Key> FixedTag for SubjectPublicKeyInfo<Params, Key> {
     ghost TAG = { record { first = 0x30; is_tag = refl } };
 
@@ -57,15 +77,9 @@ impl<'a, Params: Choice<&'a [u8]>, Key: Choice<&'a [u8]>> DecodeValue<&'a [u8]>
     ) -> Result<SubjectPublicKeyInfo<Params, Key>, Error> {
         let mut ahead = *r;
         let value = ahead.read_slice(header.length)?;
-        let mut inner = SliceReader::new(value);
-        let algorithm = AlgorithmIdentifier::<Params>::decode(&mut inner)?;
-        let subject_public_key = Key::decode(&mut inner)?;
-        inner.finish()?;
+        let key = read_public_key(value)?;
         *r = ahead;
-        Ok(SubjectPublicKeyInfo {
-            algorithm,
-            subject_public_key,
-        })
+        Ok(key)
     }
 
     ghost exact = { λ t. public_key_of-exact Params.can Params.text Params.at Params.exact
