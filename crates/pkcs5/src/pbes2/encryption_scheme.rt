@@ -6,8 +6,8 @@ ghost use Rattle.asn1_core.specs.Oid.{oid_octets};
 ghost use Rattle.asn1_core.specs.Texts.{seen_option};
 ghost use Rattle.asn1_core.specs.declared.error.Error.TheVariants.{Malformed};
 ghost use Rattle.spki.specs.Seen.{borrowed_any, borrowed_algorithm};
-ghost use Rattle.std.specs.Cmp.Rules.{comparing};
-ghost use Rattle.std.proofs.Common.{rules};
+ghost use Rattle.std.specs.Cmp.{partial_equiv_from_equiv, and_equiv, on_equiv, nat_eq_equiv};
+ghost use Rattle.std.specs.Cmp.Lexicographic.{on_texts_equal};
 ghost use Rattle.pkcs5.specs.Alike.{alike, kind_of};
 ghost use Rattle.pkcs5.specs.Cipher.{IsCipher, cipher_content, CipherOf, cipher_named, cipher_with, cipher_in, cipher_of};
 ghost use Rattle.pkcs5.specs.CipherLaws.{cipher_of-exact, cipher_canonical, cipher_spelled};
@@ -127,7 +127,8 @@ impl EncryptionScheme {
 impl PartialEq for EncryptionScheme {
     ghost eq = { alike };
 
-    ghost laws = { Prim.search (comparing, rules) };
+    ghost laws = { partial_equiv_from_equiv
+        (and_equiv (on_equiv kind_of nat_eq_equiv) (on_texts_equal iv_of)) };
 
     fn eq(&self, other: &EncryptionScheme) -> bool {
         self.kind() == other.kind() && self.iv() == other.iv()
@@ -135,7 +136,7 @@ impl PartialEq for EncryptionScheme {
 }
 
 impl Eq for EncryptionScheme {
-    ghost laws = { Prim.search (comparing, rules) };
+    ghost laws = { and_equiv (on_equiv kind_of nat_eq_equiv) (on_texts_equal iv_of) };
 }
 
 /// So many octets. `Malformed` exactly where there are more or fewer.
