@@ -1,6 +1,7 @@
 //! Private keys with their algorithms.
 ghost use Rattle.std.specs.Prelude.{◌≡◌, ◌↔◌, ◌∷◌, None, refl, IsTrue, is_some};
 ghost use Rattle.asn1_core.specs.Der.{el};
+ghost use Rattle.asn1_core.specs.Gives.{Gives};
 ghost use Rattle.asn1_core.specs.Texts.{seen_option};
 ghost use Rattle.der_core.specs.Optional.{canon_option};
 ghost use Rattle.spki.specs.SameLaws.{algorithm_same};
@@ -100,6 +101,35 @@ impl<Params, Key, PubKey: BitStringLike> PrivateKeyInfo<Params, Key, PubKey> {
     }
 }
 
+/// The private key whose value octets these are.
+fn read_private_key<
+    'a,
+    Params: Choice<&'a [u8]>,
+    Key: Choice<&'a [u8]>,
+    PubKey: DecodeValue<&'a [u8]>,
+>(value: &'a [u8]) -> Result<PrivateKeyInfo<Params, Key, PubKey>, Error>
+    ensures { Gives (λ k. private_key
+        (⟦<AlgorithmIdentifier<Params> as Decode<&'a [u8]>>⟧.seen k.algorithm)
+        (Key.seen k.private_key) (seen_option PubKey.seen k.public_key)) result
+        (private_key_of Params.can Params.at Key.at (PubKey.value 0x81) value.now) }
+{
+    let mut inner = SliceReader::new(value);
+    let version = Version::decode(&mut inner)?;
+    let algorithm = AlgorithmIdentifier::<Params>::decode(&mut inner)?;
+    let private_key = Key::decode(&mut inner)?;
+    let _attributes = Option::<Attributes>::decode(&mut inner)?;
+    let public_key = read_public_key::<PubKey>(&mut inner)?;
+    if version.has_public_key() != public_key.is_some() {
+        return Err(Error::Malformed);
+    }
+    skip_further_fields(inner.rest)?;
+    Ok(PrivateKeyInfo {
+        algorithm,
+        private_key,
+        public_key,
+    })
+}
+
 impl<Params, Key, PubKey> FixedTag for PrivateKeyInfo<Params, Key, PubKey> {
     ghost TAG = { record { first = 0x30; is_tag = refl } };
 
@@ -128,22 +158,9 @@ impl<
     ) -> Result<PrivateKeyInfo<Params, Key, PubKey>, Error> {
         let mut ahead = *r;
         let value = ahead.read_slice(header.length)?;
-        let mut inner = SliceReader::new(value);
-        let version = Version::decode(&mut inner)?;
-        let algorithm = AlgorithmIdentifier::<Params>::decode(&mut inner)?;
-        let private_key = Key::decode(&mut inner)?;
-        let _attributes = Option::<Attributes>::decode(&mut inner)?;
-        let public_key = read_public_key::<PubKey>(&mut inner)?;
-        if version.has_public_key() != public_key.is_some() {
-            return Err(Error::Malformed);
-        }
-        skip_further_fields(inner.rest)?;
+        let key = read_private_key(value)?;
         *r = ahead;
-        Ok(PrivateKeyInfo {
-            algorithm,
-            private_key,
-            public_key,
-        })
+        Ok(key)
     }
 
     ghost exact = { λ t. private_key_of-exact Params.can Params.text Params.at Params.exact
