@@ -2,38 +2,65 @@
 use crate::streams::{draws, only_call, reads, writes};
 use asn1_core::{VecWriter, Writer};
 use octet_core::{DrawnBytes, Failed, Items, MemorySink, MemorySource, Octets, Sink, Source};
+use std::alloc::Global;
+use std::process::Abort;
+
+/// The octets 1 to 3.
+fn one_to_three(rt: &impl Abort, alloc: Global) -> Octets {
+    Octets::from_slice(alloc, &[1, 2, 3]).expect(rt, "memory")
+}
 
 #[test]
 fn a_draw_is_copied(rt: HostRuntime) {
     let alloc = rt.alloc();
-    let octets = Octets::from_slice(alloc, &[1, 2, 3]).expect(&rt, "memory");
-    let mut draw = DrawnBytes::new(octets);
+    let mut draw = DrawnBytes::new(one_to_three(&rt, alloc));
     assert!(rt; draws(&mut draw, &[1]));
     let mut copy = draw.try_clone(alloc).expect(&rt, "memory");
     assert!(rt; draws(&mut copy, &[2, 3]) && draws(&mut draw, &[2, 3]));
 }
 
-// a source of three octets, one at a read, whose third read fails
+/// A source of three octets, one at a read, whose third read fails.
+fn source(rt: &impl Abort, alloc: Global) -> MemorySource {
+    let failing = only_call(alloc, 2).expect(rt, "memory");
+    MemorySource::new(one_to_three(rt, alloc), 1, failing)
+}
+
+/// Whether the second octet of it is read next, and the third read fails.
+fn reads_the_second(source: &mut MemorySource) -> bool {
+    reads(source, 1, 1, [2, 0, 0, 0]) && source.read(&mut [0u8; 1]) == Err(Failed)
+}
+
 #[test]
 fn a_source_is_copied(rt: HostRuntime) {
     let alloc = rt.alloc();
-    let octets = Octets::from_slice(alloc, &[1, 2, 3]).expect(&rt, "memory");
-    let failing = only_call(alloc, 2).expect(&rt, "memory");
-    let mut source = MemorySource::new(octets, 1, failing);
+    let mut source = source(&rt, alloc);
     assert!(rt; reads(&mut source, 2, 1, [1, 0, 0, 0]));
     let mut copy = source.try_clone(alloc).expect(&rt, "memory");
-    assert!(rt; reads(&mut copy, 1, 1, [2, 0, 0, 0]) && copy.read(&mut [0u8; 1]) == Err(Failed));
+    assert!(rt; reads_the_second(&mut copy));
 }
 
-// a sink of three octets, whose copy takes one more
+/// A sink that takes three octets.
+fn sink(rt: &impl Abort, alloc: Global) -> MemorySink {
+    MemorySink::new(alloc, 3, Items::new(alloc)).expect(rt, "memory")
+}
+
+/// Whether these octets were written.
+fn has_written(sink: &MemorySink, octets: &[u8]) -> bool {
+    sink.octets() == octets
+}
+
+// the copy takes one more
 #[test]
 fn a_sink_is_copied(rt: HostRuntime) {
     let alloc = rt.alloc();
-    let mut sink = MemorySink::new(alloc, 3, Items::new(alloc)).expect(&rt, "memory");
+    let mut sink = sink(&rt, alloc);
     assert!(rt; writes(&mut sink, &[1, 2], 2));
     let mut copy = sink.try_clone(alloc).expect(&rt, "memory");
-    assert!(rt; writes(&mut copy, &[3, 4], 1));
-    assert!(rt; copy.octets() == &[1, 2, 3][..] && sink.octets() == &[1, 2][..]);
+    assert!(rt;
+        writes(&mut copy, &[3, 4], 1)
+            && has_written(&copy, &[1, 2, 3])
+            && has_written(&sink, &[1, 2])
+    );
 }
 
 #[test]
