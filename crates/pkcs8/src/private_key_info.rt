@@ -102,7 +102,7 @@ impl<Params, Key, PubKey: BitStringLike> PrivateKeyInfo<Params, Key, PubKey> {
 }
 
 /// The private key whose value octets these are.
-fn read_private_key<
+fn private_key_in<
     'a,
     Params: Choice<&'a [u8]>,
     Key: Choice<&'a [u8]>,
@@ -158,7 +158,7 @@ impl<
     ) -> Result<PrivateKeyInfo<Params, Key, PubKey>, Error> {
         let mut ahead = *r;
         let value = ahead.read_slice(header.length)?;
-        let key = read_private_key(value)?;
+        let key = private_key_in(value)?;
         *r = ahead;
         Ok(key)
     }

@@ -39,7 +39,7 @@ pub type AlgorithmIdentifierWithOid = AlgorithmIdentifier<ObjectIdentifier>;
 pub type AlgorithmIdentifierOwned = AlgorithmIdentifier<Any>;
 
 /// The algorithm whose value octets these are.
-fn read_algorithm<'a, Params: Choice<&'a [u8]>>(
+fn algorithm_in<'a, Params: Choice<&'a [u8]>>(
     value: &'a [u8],
 ) -> Result<AlgorithmIdentifier<Params>, Error>
     ensures { Gives (λ a. algorithm a.oid (seen_option Params.seen a.parameters)) result
@@ -73,7 +73,7 @@ impl<'a, Params: Choice<&'a [u8]>> DecodeValue<&'a [u8]> for AlgorithmIdentifier
     ) -> Result<AlgorithmIdentifier<Params>, Error> {
         let mut ahead = *r;
         let value = ahead.read_slice(header.length)?;
-        let algorithm = read_algorithm(value)?;
+        let algorithm = algorithm_in(value)?;
         *r = ahead;
         Ok(algorithm)
     }

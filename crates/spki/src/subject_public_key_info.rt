@@ -35,7 +35,7 @@ pub type SubjectPublicKeyInfoRef<'a> = SubjectPublicKeyInfo<AnyRef<'a>, BitStrin
 pub type SubjectPublicKeyInfoOwned = SubjectPublicKeyInfo<Any, BitString>;
 
 /// The public key whose value octets these are.
-fn read_public_key<'a, Params: Choice<&'a [u8]>, Key: Choice<&'a [u8]>>(
+fn public_key_in<'a, Params: Choice<&'a [u8]>, Key: Choice<&'a [u8]>>(
     value: &'a [u8],
 ) -> Result<SubjectPublicKeyInfo<Params, Key>, Error>
     ensures { Gives (λ a. public_key
@@ -77,7 +77,7 @@ impl<'a, Params: Choice<&'a [u8]>, Key: Choice<&'a [u8]>> DecodeValue<&'a [u8]>
     ) -> Result<SubjectPublicKeyInfo<Params, Key>, Error> {
         let mut ahead = *r;
         let value = ahead.read_slice(header.length)?;
-        let key = read_public_key(value)?;
+        let key = public_key_in(value)?;
         *r = ahead;
         Ok(key)
     }
