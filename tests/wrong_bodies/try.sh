@@ -1,5 +1,5 @@
 #!/bin/sh
-# Tries wrong bodies of crates that the gate does not try, since each of these crates would be proved once more for them:
+# Tries wrong bodies that the gate does not try, since most of these crates would be proved once more for them:
 #
 #     tests/wrong_bodies/try.sh [CRATE..]
 #
