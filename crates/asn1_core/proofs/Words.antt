@@ -93,7 +93,7 @@ pub word_refused : (all xs list left w : List ℕ) (ws : List (List ℕ)) → ((
     → words all ≡ map decimal xs ++ words left → words left ≡ w ∷ ws → AllUnder (2 ^ 32) list → words all ≡ map decimal list → ⊥
 word_refused all xs list left w ws bad is first h e = bad_word xs list ws w bad h (sym (is ∙ ap (λ (v : List (List ℕ)). map decimal xs ++ v) first) ∙ e)
 
--- behind 39 arcs there are two words at least
+-- after 39 arcs there are two words at least
 pub words_many : (all arcs list left more w : List ℕ) → length arcs ≡ 40 → words all ≡ map decimal (take 39 arcs) ++ words left → words left ≡ w ∷ words more
     → length list ≤ 40 → words all ≡ map decimal list → ⊥
 words_many all arcs list left more w n is first le e =

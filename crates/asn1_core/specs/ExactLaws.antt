@@ -133,7 +133,7 @@ many_found R p exact (suc k) (b ∷ bs) vs e =
     let g = many_found R p exact k x.0.1 y.0 y.1 in
     subst (λ (w : List _). Many R (b ∷ bs) w) (ok_is (x.0.0 ∷ y.0) vs y.2) (f.text, x.0.1, f.holds, g, f.is)
 
--- a text that is not empty leaves fewer octets behind it
+-- a text that is not empty leaves fewer octets after it
 some_taken : {A : Type 0} (R : List ℕ → A → Type 0) → ((v : A) → R [] v → ⊥) → (p : List ℕ) (v : A) → R p v → 0 < length p
 some_taken R none [] v r = absurd (none v r)
 some_taken R none (b ∷ bs) v r = omega arith

@@ -14,7 +14,7 @@ use Rattle.asn1_core.specs.ExactLaws.{where_holds, where_true, whole-exact, on-e
 use Rattle.asn1_core.specs.ElementLaws.{within-exact, oid-exact}
 use Rattle.asn1_core.specs.Fields.{Field, End, Latest, ByCase, Never, The, Passing, OrNothing, optional, last_of, latest, never, the, passing, checked, or_nothing}
 
--- What is read behind known parts: C says what they make of the value.
+-- What is read after known parts: C says what they make of the value.
 abbrev pub Known : {W : Type 0} → (W → Type 0) → (List ℕ → W → Type 0) → List ℕ → W → Type 0
 Known C S b w = C w × S b w
 
@@ -221,7 +221,7 @@ explicit {R = R} {p = p} tag ok exact = within-exact tag R (whole p) ok (whole-e
 pub inside : {A : Type 0} {R : List ℕ → A → Type 0} {q : All A} (tag : ℕ) → IsTrue (is_tag tag) → ExactAll R q → Exact (Within tag R) (within tag q)
 inside {R = R} {q = q} tag ok exact = within-exact tag R q ok exact
 
--- fields that stand at the start
+-- fields that are at the start
 pub fields : {W : Type 0} {R : List ℕ → W → Type 0} {q : All W} → ExactAll (Known (λ w. Unit {0}) R) q → ExactAll R q
 fields e = record { found = λ b v h. (e.found b v h).1; again = λ b v r short. e.again b v (tt, r) short }
 

@@ -6,7 +6,7 @@ use Rattle.asn1_core.specs.Texts.{Taken}
 use Rattle.asn1_core.specs.declared.error.Error.{Error}
 use Rattle.asn1_core.specs.declared.error.Error.TheVariants as errors
 
--- which fault an error stands for; want of memory where the call takes memory
+-- which fault an error stands for; running out of memory where the call takes memory
 abbrev pub Fails : {Y : Type 0} → Type 0 → Error → Result Y Fault → Type 0
 Fails memory errors.Malformed read = read ≡ Err Bad
 Fails memory (errors.OidUnknown o) read = read ≡ Err (UnknownOid o)
@@ -15,7 +15,7 @@ Fails memory errors.NoRoom read = ⊥
 Fails memory errors.File read = ⊥
 Fails memory errors.Memory read = memory
 
--- what a call answers that takes no memory: just what reading gives
+-- what a call returns that takes no memory: just what reading gives
 abbrev pub Gives : {X Y : Type 0} → (X → Y) → Result X Error → Result Y Fault → Type 0
 Gives view (Ok x) read = read ≡ Ok (view x)
 Gives view (Err e) read = Fails ⊥ e read
@@ -34,11 +34,11 @@ abbrev pub ReadsIn : {X A : Type 0} → Front A → (X → A) → List ℕ → L
 ReadsIn at view old new (Ok x) = at old ≡ Ok (view x, new)
 ReadsIn at view old new (Err e) = (new ≡ old) × Fails (Unit {0}) e (at old)
 
--- no text of the relation stands in front
+-- no text of the relation is in front
 abbrev pub NoneStands : {A : Type 0} → (List ℕ → A → Type 0) → List ℕ → Type 0
 NoneStands R b = (t : List ℕ) (v : _) (rest : List ℕ) → R t v → IsShort t → b ≡ t ++ rest → ⊥
 
--- the public word, by the relation alone: the value of the text in front, or a refusal exactly where none stands there
+-- the public word, by the relation alone: the value of the text in front, or a refusal exactly where none is there
 abbrev pub Reads : {X A : Type 0} → (List ℕ → A → Type 0) → (X → A) → List ℕ → List ℕ → Result X Error → Type 0
 Reads R view old new (Ok x) = Taken R old (view x) new
 Reads R view old new (Err errors.Memory) = new ≡ old
@@ -50,7 +50,7 @@ Reads R view old new (Err errors.File) = ⊥
 
 -- ---- whole texts, with errors of any type
 
--- what reading gives, each fault as the error that is raised from it; want of memory where the call takes memory
+-- what reading gives, each fault as the error that is raised from it; running out of memory where the call takes memory
 abbrev pub GivesAs : {X Y E : Type 0} → (Error → E) → Type 0 → (X → Y) → Result X E → Result Y Fault → Type 0
 GivesAs raised memory view (Ok x) read = read ≡ Ok (view x)
 GivesAs raised memory view (Err e) read = (f : Error) × (e ≡ raised f) × Fails memory f read

@@ -43,6 +43,6 @@ is_identifier o = nat_lt 0 (length o) && nat_lt (length o) 40 && subidentifiers 
 
 -- ---- how an `ObjectIdentifier` holds one
 
--- `size` octets in front that are an identifier, and zeros behind them
+-- `size` octets in front that are an identifier, and zeros after them
 abbrev pub Holds : List ℕ → ℕ → Type 0
 Holds octets size = IsPadded 39 size octets × IsTrue (is_identifier (take size octets))

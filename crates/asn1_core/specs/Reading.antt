@@ -68,7 +68,7 @@ abbrev pub are_octets : List ℕ → Bool
 are_octets [] = true
 are_octets (b ∷ bs) = nat_lt b 256 && are_octets bs
 
--- a length in k octets behind the first: at least 128, and no octet 0 in front
+-- a length in k octets after the first: at least 128, and no octet 0 in front
 abbrev pub long_at : ℕ → Front ℕ
 long_at k bytes =
     let n = number_on 0 (take k bytes) in
@@ -147,7 +147,7 @@ raw_of t w = Ok (el t w)
 unfoldable pub raw_at : Front (List ℕ)
 raw_at = by_tag any_tag raw_of
 
--- a part by two tests: whether a tag octet stands in front, and whether it is one of the part's
+-- a part by two tests: whether a tag octet is in front, and whether it is one of the part's
 abbrev pub option_in : {A : Type 0} → Front A → Bool → Bool → Front (Option A)
 option_in p false y b = Err Bad
 option_in p true false b = Ok (None, b)

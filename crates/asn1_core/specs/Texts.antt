@@ -1,4 +1,4 @@
--- Texts that stand in a relation to a value, and how such relations are put together.
+-- Texts that are in a relation to a value, and how such relations are put together.
 use Rattle.std.specs.Prelude.{◌≡◌, ℕ, ◌≤◌, List, [], ◌∷◌, ◌++◌, Option, Some, None, IsTrue, Bool, true, false, Ok}
 use Rattle.asn1_core.specs.Der.{el, IsShort, IsElement, is_tag, shortest}
 use Rattle.asn1_core.specs.Oid.{oid_octets}

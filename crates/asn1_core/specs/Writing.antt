@@ -1,5 +1,6 @@
 -- What the calls of a writer answer.
-use Rattle.std.specs.Prelude.{◌≡◌, ℕ, ◌+◌, ◌-◌, ◌^◌, ◌<◌, ◌≤◌, ◌⊎◌, min, List, ◌++◌, length, Option, Some, None, Result, Ok, Err}
+use Rattle.std.specs.Prelude.{◌≡◌, ℕ, ◌-◌, ◌<◌, ◌≤◌, ◌⊎◌, List, ◌++◌, length, Option, Some, None, Result, Ok, Err}
+use Rattle.octet_core.specs.Faults.{Rose}
 use Rattle.asn1_core.specs.declared.error.Error.{Error}
 use Rattle.asn1_core.specs.declared.error.Error.TheVariants as errors
 use Rattle.asn1_core.specs.declared.header.Length.{Length}
@@ -13,10 +14,6 @@ pub record Sink (W : Type 0) : Type 1 where
   pub memory : Type 0
   pub Place : Type 0
   pub place : W → Place
-
--- the count of faults rose, or stands at its last value
-abbrev pub Rose : ℕ → ℕ → Type 0
-Rose before now = min (before + 1) (2 ^ 64 - 1) ≤ now
 
 -- the room is bounded, and too small for this many octets
 abbrev pub Lacks : Option ℕ → ℕ → Type 0
@@ -59,7 +56,7 @@ pub record Stopped {W : Type 0} (S : Sink W) (bad over : Type 0) (text : List �
   pub rises : S.faults old ≤ S.faults new
   pub stays : S.place old ≡ S.place new
 
--- The text was written whole, or a front of it and the answer says why. `bad` is when the value cannot be written, `over`
+-- The text was written whole, or a front of it and the result says why. `bad` is when the value cannot be written, `over`
 -- when its text is too long.
 abbrev pub Writes : {W : Type 0} → Sink W → Type 0 → Type 0 → List ℕ → W → Result (Unit {0}) Error → W → Type 0
 Writes S bad over text old (Ok u) new = Wrote S text old new

@@ -137,7 +137,7 @@ pub refused_el : (bad : Type 0) (t : ℕ) (v : List ℕ) (e : Error)
     → ((e ≡ Malformed) × bad) ⊎ ((e ≡ Overlength) × (4294967296 ≤ length v)) → ((e ≡ Malformed) × bad) ⊎ ((e ≡ Overlength) × (4294967296 ≤ length (el t v)))
 refused_el bad t v e p = measures_more bad v (el t v) e (omega (arith, el_size t v)) p
 
--- the same of a value whose octets stand there: it is refused by the writer alone
+-- the same of a value whose octets are there: it is refused by the writer alone
 module _ {W : Type 0} (S : Sink W) (t n : ℕ) (v : List ℕ) (x y z : W) (bad over : Type 0) (long : n ≡ length v) where
   pub element_stopped : (e : Error) → Stopped S ⊥ ⊥ (t ∷ len n) x e y → Stopped S bad over (el t v) x e y
   unfolding el

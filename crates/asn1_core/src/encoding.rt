@@ -2,7 +2,7 @@
 ghost use Rattle.std.specs.Prelude.{◌≡◌, ◌<◌, ◌≤◌, ◌+◌, ◌++◌, ◌∷◌, length, take, drop, IfSome, IfNone};
 ghost use Rattle.asn1_core.specs.Identifier.{sub, subs};
 
-/// A subidentifier in base 128: an array, and the place from which its octets stand there.
+/// A subidentifier in base 128: an array, and the place from which its octets are there.
 fn sub_octets(n: u32) -> ([u8; 5], usize)
     ensures small { result.1 < 5 }
     ensures is { drop result.1 result.0 ≡ sub n }
@@ -19,7 +19,7 @@ fn sub_octets(n: u32) -> ([u8; 5], usize)
     (octets, from)
 }
 
-/// Writes one subidentifier behind the first `used` octets, and says how many octets there are then. None where there
+/// Writes one subidentifier after the first `used` octets, and says how many octets there are then. None where there
 /// would be more than 39.
 fn put(kept: &mut [u8; 39], used: usize, n: u32) -> Option<usize>
     requires { used ≤ 39 }

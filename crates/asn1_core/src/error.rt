@@ -11,7 +11,7 @@ use std::fmt;
 pub enum Error {
     /// The octets are not in the grammar that was asked for.
     Malformed,
-    /// This identifier stands at a place whose list of identifiers lacks it.
+    /// This identifier is at a place whose list of identifiers lacks it.
     OidUnknown { oid: ObjectIdentifier },
     /// A text would have, or a file has, more than 2^32 - 1 octets.
     Overlength,

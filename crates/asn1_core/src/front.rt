@@ -17,6 +17,7 @@ pub(crate) fn inner_in_front<'a>(
     ensures exact { ReadsAs (inside_at tag.first)
         (λ x. x.rest.now) r.old.rest.now r.new.rest.now result }
     ensures place { r.new.read + length r.new.rest.now ≡ r.old.read + length r.old.rest.now }
+    ensures inner { IfOk result (λ x. x.read ≡ 0) }
     ensures shorter { OnOk result (length r.new.rest.now < length r.old.rest.now) }
 {
     let mut ahead = *r;

@@ -12,7 +12,7 @@ use std::fmt;
 use std::hash::{Hash, Hasher};
 use std::str::FromStr;
 
-/// An object identifier (X.690 section 8.19): its `size` octets in front, and zeros behind them.
+/// An object identifier (X.690 section 8.19): its `size` octets in front, and zeros after them.
 ///
 /// The octets are one or more subidentifiers in base 128, each in its fewest octets and below 2^32, at most 39 octets in all.
 #[derive(Clone, Copy, Debug, Drop)]

@@ -7,7 +7,7 @@ ghost use Rattle.asn1_core.specs.Arcs.{words, arc_text};
 use octet_core::decimal_of;
 use std::fmt;
 
-/// The word in front of the first point, and what stands behind it.
+/// The word in front of the first point, and what comes after it.
 fn first_word(text: &str) -> Option<(&str, &str)>
     ensures { MatchOption result (words text.now ≡ text.now ∷ [])
         (λ x. (words text.now ≡ x.0.now ∷ words x.1.now) × (length x.1.now < length text.now)) }

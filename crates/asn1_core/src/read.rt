@@ -14,14 +14,15 @@ use crate::tag::Tag;
 use octet_core::Text;
 use std::alloc::Global;
 
-/// The value of one element of this tag, as a reader of its own. `Malformed` exactly where no such element stands next; a refusal
-/// does not move the reader.
+/// The value of one element of this tag, as a reader of its own, of which nothing is read yet. `Malformed` exactly where no
+/// such element stands next; a refusal does not move the reader.
 pub fn read_inner<'a>(r: &mut SliceReader<'a>, tag: Tag) -> Result<SliceReader<'a>, Error>
     ensures stands { Reads (Inside tag.first)
         (λ x. x.rest.now) r.old.rest.now r.new.rest.now result }
     ensures exact { ReadsAs (inside_at tag.first)
         (λ x. x.rest.now) r.old.rest.now r.new.rest.now result }
     ensures place { r.new.read + length r.new.rest.now ≡ r.old.read + length r.old.rest.now }
+    ensures inner { IfOk result (λ x. x.read ≡ 0) }
     ensures shorter { OnOk result (length r.new.rest.now < length r.old.rest.now) }
 {
     inner_in_front(r, tag)
@@ -57,7 +58,7 @@ pub fn read_raw<'a>(r: &mut SliceReader<'a>) -> Result<&'a [u8], Error>
     raw_in_front(r)
 }
 
-/// An IA5String. `Malformed` exactly where none stands next, `Memory` for want of memory; a refusal does not move the
+/// An IA5String. `Malformed` exactly where none stands next, `Memory` when out of memory; a refusal does not move the
 /// reader.
 pub fn read_ia5(alloc: Global, r: &mut SliceReader<'_>) -> Result<Text, Error>
     ensures stands { Reads Ia5 (λ t. t) r.old.rest.now r.new.rest.now result }

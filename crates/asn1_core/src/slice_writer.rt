@@ -1,5 +1,6 @@
 //! A writer into a buffer.
-ghost use Rattle.std.specs.Prelude.{◌≡◌, ◌-◌, ◌≤◌, length, take, Some};
+ghost use Rattle.std.specs.Prelude.{◌≡◌, ◌-◌, ◌≤◌, OnErr, length, take, Some};
+ghost use Rattle.asn1_core.specs.Writing.{Writes};
 ghost use Rattle.std.specs.Borrow.{GName};
 
 use crate::error::Error;
@@ -42,7 +43,10 @@ impl<'b> Writer for SliceWriter<'b> {
     } };
 
     /// `NoRoom` exactly where the rest of the buffer is smaller than these octets, and nothing is written then.
-    fn write(&mut self, octets: &[u8]) -> Result<(), Error> {
+    fn write(&mut self, octets: &[u8]) -> Result<(), Error>
+        ensures written { Writes (⟦<SliceWriter<'b> as Writer>⟧.sink) ⊥ ⊥ octets.now self.old result self.new }
+        ensures unmoved { OnErr result (self.new ≡ self.old) }
+    {
         let room = self.buffer.len() - self.used;
         if room < octets.len() {
             return Err(Error::NoRoom);

@@ -1,5 +1,6 @@
 //! A writer that keeps what is written.
-ghost use Rattle.std.specs.Prelude.{◌≡◌, [], None, IfOk, IfErr};
+ghost use Rattle.std.specs.Prelude.{◌≡◌, [], None, IfOk, IfErr, OnErr};
+ghost use Rattle.asn1_core.specs.Writing.{Writes};
 ghost use Rattle.asn1_core.specs.declared.error.Error.TheVariants.{Memory};
 
 use crate::error::Error;
@@ -53,7 +54,10 @@ impl Writer for VecWriter {
     } };
 
     /// The only refusal is `Memory`, and nothing is written then.
-    fn write(&mut self, octets: &[u8]) -> Result<(), Error> {
+    fn write(&mut self, octets: &[u8]) -> Result<(), Error>
+        ensures written { Writes (⟦<VecWriter as Writer>⟧.sink) ⊥ ⊥ octets.now self.old result self.new }
+        ensures unmoved { OnErr result (self.new ≡ self.old) }
+    {
         Ok(self.octets.extend(octets)?)
     }
 }

@@ -2,6 +2,7 @@
 ghost use Rattle.std.specs.Prelude.{◌≡◌, ◌+◌, ◌<◌, ◌≤◌, ◌∷◌, length, drop, MatchResult, OnOk};
 ghost use Rattle.asn1_core.specs.Der.{len, el, shortest, uint, IsHeader, IsShort};
 ghost use Rattle.asn1_core.specs.Writing.{Writes, IsOverlong};
+ghost use Rattle.std.specs.Result.{IsErrOf};
 
 use crate::error::Error;
 use crate::header::Length;
@@ -76,6 +77,7 @@ pub fn write_element<W: Writer>(w: &mut W, tag: Tag, value: &[u8]) -> Result<(),
     ensures writes { Writes W.sink ⊥ (IsOverlong (length (el tag.first value.now)))
         (el tag.first value.now) w.old result w.new }
     ensures short { OnOk result (IsShort (el tag.first value.now)) }
+    ensures unmoved { IsErrOf result Error.Overlength → w.new ≡ w.old }
 {
     if value.len() > 0xffff_ffff {
         return Err(Error::Overlength);

@@ -1,5 +1,6 @@
 //! Writing sets.
 ghost use Rattle.std.specs.Prelude.{◌≡◌, map, length, IfOk, IfErr, OnOk, MatchResult};
+ghost use Rattle.std.specs.Result.{IsErrOf};
 ghost use Rattle.asn1_core.specs.Der.{joined, set, IsShort};
 ghost use Rattle.asn1_core.specs.Sets.{in_order};
 ghost use Rattle.asn1_core.specs.Writing.{Writes, IsOverlong, in_memory};
@@ -67,6 +68,7 @@ fn write_set<W: Writer>(w: &mut W, texts: &[&[u8]]) -> Result<(), Error>
         (IsOverlong (length (set (joined (map (λ t. t.now) texts.now)))))
         (set (joined (map (λ t. t.now) texts.now))) w.old result w.new }
     ensures short { OnOk result (IsShort (set (joined (map (λ t. t.now) texts.now)))) }
+    ensures unmoved { IsErrOf result Error.Overlength → w.new ≡ w.old }
 {
     let length = joined_len(texts)?;
     element_len(length)?;
@@ -76,7 +78,7 @@ fn write_set<W: Writer>(w: &mut W, texts: &[&[u8]]) -> Result<(), Error>
 
 /// Writes a SET OF (X.690 sections 8.12 and 11.6) of these elements, each a whole text, in ascending order of their octets; a text that
 /// another one begins with stands before it, and equal ones stay. `Overlength` where the set would have more than 2^32 - 1 octets,
-/// and nothing is written then; `Memory` for want of memory; else the writer's refusals.
+/// and nothing is written then; `Memory` when out of memory; else the writer's refusals.
 pub fn write_set_of<W: Writer>(
     alloc: Global,
     w: &mut W,
@@ -86,6 +88,7 @@ pub fn write_set_of<W: Writer>(
         (IsOverlong (length (set (joined (in_order elements.now)))))
         (set (joined (in_order elements.now))) w.old result w.new }
     ensures short { OnOk result (IsShort (set (joined (in_order elements.now)))) }
+    ensures unmoved { IsErrOf result Error.Overlength → w.new ≡ w.old }
 {
     let texts = ascending(alloc, elements)?;
     write_set(w, &texts)

@@ -1,5 +1,6 @@
 //! Writing texts of characters.
-ghost use Rattle.std.specs.Prelude.{◌≡◌, ◌≤◌, IsTrue, OnOk, length, take, MatchResult};
+ghost use Rattle.std.specs.Prelude.{◌≡◌, ◌≤◌, ◌⊎◌, IsTrue, OnOk, length, take, MatchResult};
+ghost use Rattle.std.specs.Result.{IsErrOf};
 ghost use Rattle.asn1_core.specs.Der.{el, IsShort};
 ghost use Rattle.asn1_core.specs.Unicode.{is_ascii_text, char_units, text_units, Ia5, Bmp};
 ghost use Rattle.asn1_core.specs.Writing.{Writes, IsOverlong};
@@ -11,13 +12,14 @@ use crate::tag::Tag;
 use crate::write::{element_len, write_element, write_header};
 use crate::writer::Writer;
 
-/// Writes the text as an IA5String (X.690 section 8.23). `Malformed` exactly where a character is over 127, and nothing is written
+/// Writes the text as an IA5String (X.690 section 8.23). `Malformed` only where a character is over 127, and nothing is written
 /// then; `Overlength` where the element would have more than 2^32 - 1 octets; else the writer's refusals.
 pub fn write_ia5<W: Writer>(w: &mut W, text: &str) -> Result<(), Error>
     ensures writes { Writes W.sink (¬ (IsTrue (is_ascii_text text.now)))
         (IsOverlong (length (el 0x16 text.now))) (el 0x16 text.now) w.old result w.new }
     ensures text { OnOk result (Ia5 (el 0x16 text.now) text.now) }
     ensures short { OnOk result (IsShort (el 0x16 text.now)) }
+    ensures unmoved { IsErrOf result Error.Malformed ⊎ IsErrOf result Error.Overlength → w.new ≡ w.old }
 {
     if !are_ascii(text.as_bytes()) {
         return Err(Error::Malformed);
@@ -84,6 +86,7 @@ pub fn write_bmp<W: Writer>(w: &mut W, text: &str) -> Result<(), Error>
         (el 0x1e (text_units text.now)) w.old result w.new }
     ensures text { Bmp (el 0x1e (text_units text.now)) text.now }
     ensures short { OnOk result (IsShort (el 0x1e (text_units text.now))) }
+    ensures unmoved { IsErrOf result Error.Overlength → w.new ≡ w.old }
 {
     let length = units_len(text)?;
     element_len(length)?;

@@ -7,8 +7,8 @@ use crate::error::Error;
 pub trait Writer {
     ghost sink: { Sink Self };
 
-    /// Writes these octets behind those that the writer holds. After a refusal a front of them was written. `NoRoom` comes only
-    /// where the room is bounded and too small, `File` only where the writer's count of faults rose, or stands at its last
+    /// Writes these octets after those that the writer holds. After a refusal a front of them was written. `NoRoom` comes only
+    /// where the room is bounded and too small, `File` only where the writer's count of faults rose, or is at its last
     /// value, `Memory` only from a writer that takes memory.
     fn write(&mut self, octets: &[u8]) -> Result<(), Error>
         ensures { Writes sink ⊥ ⊥ octets.now self.old result self.new };

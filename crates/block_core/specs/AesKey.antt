@@ -1,5 +1,5 @@
 -- The key expansion of AES (FIPS 197 section 5.2), for keys of 4, 6 and 8 words of four octets: octet j of word i
--- stands at 4 * i + j.
+-- is at 4 * i + j.
 use Rattle.std.specs.Prelude.{ℕ, zero, suc, ◌+◌, ◌-◌, ◌*◌, ◌/◌, ◌%◌, ◌<◌, ◌==◌, ◌&&◌, List, [], ◌∷◌, ◌++◌, bit_xor, cond, slice_index}
 use Rattle.block_core.specs.Field.{power_of_x}
 use Rattle.block_core.specs.Sbox.{sub_byte}
@@ -8,17 +8,17 @@ use Rattle.block_core.specs.Sbox.{sub_byte}
 abbrev pub AreOctets : List ℕ → Type 0
 AreOctets keys = (i : ℕ) → slice_index keys i < 256
 
--- the word that stands at a
+-- the word that is at a
 abbrev pub word_at : List ℕ → ℕ → List ℕ
 word_at w a = slice_index w a ∷ slice_index w (a + 1) ∷ slice_index w (a + 2) ∷ slice_index w (a + 3) ∷ []
 
--- SubWord of the word that stands at a
+-- SubWord of the word that is at a
 abbrev pub sub_word : List ℕ → ℕ → List ℕ
 sub_word w a =
     sub_byte (slice_index w a) ∷ sub_byte (slice_index w (a + 1))
     ∷ sub_byte (slice_index w (a + 2)) ∷ sub_byte (slice_index w (a + 3)) ∷ []
 
--- SubWord of RotWord of the word that stands at a, its first octet xor the round constant
+-- SubWord of RotWord of the word that is at a, its first octet xor the round constant
 abbrev pub turned_word : ℕ → List ℕ → ℕ → List ℕ
 turned_word constant w a =
     bit_xor (sub_byte (slice_index w (a + 1))) constant ∷ sub_byte (slice_index w (a + 2))

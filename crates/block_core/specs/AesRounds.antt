@@ -1,5 +1,5 @@
 -- The steps and rounds of AES (FIPS 197 sections 5.1 and 5.3). The state is a list of 16 octets, filled column by
--- column: row r of column c stands at r + 4 * c. Round key n is the 16 octets from 16 * n on of the expanded key.
+-- column: row r of column c is at r + 4 * c. Round key n is the 16 octets from 16 * n on of the expanded key.
 use Rattle.std.specs.Prelude.{ℕ, zero, suc, ◌+◌, ◌-◌, ◌*◌, ◌/◌, ◌%◌, List, map, bit_xor, slice_index}
 use Rattle.std.specs.List.{range_with_len}
 use Rattle.block_core.specs.Field.{product}

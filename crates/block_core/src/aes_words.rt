@@ -174,7 +174,7 @@ pub(crate) fn unmix_keys(keys: &[u32], unmixed_keys: &mut [u32])
     }
 }
 
-/// A round undone but for InvSubBytes and InvShiftRows, which stand at its begin here, with round key `n` behind
+/// A round undone but for InvSubBytes and InvShiftRows, which are at its begin here, with round key `n` after
 /// InvMixColumns.
 #[inline(always)]
 fn inv_round(w: [u32; 4], unmixed_keys: &[u32], n: usize) -> [u32; 4]

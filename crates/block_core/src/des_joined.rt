@@ -101,7 +101,7 @@ const SP8: [u32; 64] = [
     0x08020820, 0x00020800, 0x00020800, 0x00000820, 0x00000820, 0x00020020, 0x08000000, 0x08020800,
 ];
 
-/// The cipher function f of a half and a round key of two words, whose groups of six bits stand in turn in the one and
+/// The cipher function f of a half and a round key of two words, whose groups of six bits are in turn in the one and
 /// in the other.
 #[inline(always)]
 pub(crate) fn joined_function(half: u32, even: u32, odd: u32) -> u32

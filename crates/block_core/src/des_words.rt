@@ -47,7 +47,7 @@ pub(crate) fn crypt(keys: &[u32; 32], backwards: bool, block: &mut [u8])
     block.copy_from_slice(&gather(right, left).to_be_bytes());
 }
 
-/// The word of four groups of six bits of a round key: the one at place `first`, and every second one behind it.
+/// The word of four groups of six bits of a round key: the one at place `first`, and every second one after it.
 fn pack(key: &[u8], first: usize) -> u32
     requires long { length key.now ≡ 48 }
     requires bits { AreBits key.now }

@@ -8,7 +8,7 @@ use Rattle.asn1_core.specs.declared.error.Error.{Error}
 use Rattle.asn1_core.specs.declared.error.Error.TheVariants.{Malformed, Overlength}
 use Rattle.der_core.specs.Order.{Unordered}
 
--- an answer that is not Equal decides
+-- a result that is not Equal decides
 pub decides : (h q : Ordering) → (h ≡ Equal → ⊥) → h ≡ ordering_then h q
 decides Less q not = refl
 decides Equal q not = absurd (not refl)

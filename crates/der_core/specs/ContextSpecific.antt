@@ -1,4 +1,4 @@
--- Elements of the context class (X.690 section 8.14): a number, and the value that stands in the element whole, or whose tag the
+-- Elements of the context class (X.690 section 8.14): a number, and the value that is in the element whole, or whose tag the
 -- number replaces.
 use Rattle.std.specs.Prelude.{◌≡◌, ◌==◌, ℕ, ◌+◌, ◌-◌, ◌<◌, ◌%◌, ◌/◌, Bool, List, Ok, nat_lt, ◌&&◌, cond}
 use Rattle.asn1_core.specs.Der.{ctx}
@@ -15,7 +15,7 @@ abbrev pub context_tag : ℕ → TagMode → ℕ → ℕ
 context_tag n modes.Explicit t = 0xa0 + cond (nat_lt n 31) n 30
 context_tag n modes.Implicit t = cond (t / 32 % 2 == 1) 0xa0 0x80 + cond (nat_lt n 31) n 30
 
--- the octets that stand in the element: the whole text of the value, or the value octets alone
+-- the octets that are in the element: the whole text of the value, or the value octets alone
 abbrev pub context_content : TagMode → List ℕ → List ℕ → List ℕ
 context_content modes.Explicit whole value = whole
 context_content modes.Implicit whole value = value

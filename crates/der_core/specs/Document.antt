@@ -1,4 +1,4 @@
--- Documents: one whole SEQUENCE (X.690 section 8.9), of at most 2^32 - 1 octets, whatever stands in it.
+-- Documents: one whole SEQUENCE (X.690 section 8.9), of at most 2^32 - 1 octets, whatever is in it.
 use Rattle.std.specs.Prelude.{◌≡◌, ℕ, List, Bool, true, false, Result, Ok, Err}
 use Rattle.asn1_core.specs.Der.{seq, IsShort}
 use Rattle.asn1_core.specs.Reading.{Fault, whole, inside_at}

@@ -15,9 +15,9 @@ use asn1_core::{Error, Length, Reader, SliceReader, Tag, Writer};
 /// How an element of the context class holds its value.
 #[derive(Clone, Copy, Debug, PartialEq, Eq, Drop)]
 pub enum TagMode {
-    /// The value's whole text stands in the element.
+    /// The value's whole text is in the element.
     Explicit,
-    /// The element's tag stands in place of the value's own.
+    /// The element's tag is in place of the value's own.
     Implicit,
 }
 

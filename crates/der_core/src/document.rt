@@ -48,7 +48,7 @@ fn file_error(e: io::Error) -> Error
     }
 }
 
-/// One whole SEQUENCE in memory of its own, of at most 2^32 - 1 octets, whatever stands in it.
+/// One whole SEQUENCE in memory of its own, of at most 2^32 - 1 octets, whatever is in it.
 #[derive(Debug, PartialEq, Eq, Drop)]
 pub struct Document {
     octets: Octets,

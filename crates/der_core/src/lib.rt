@@ -1,5 +1,5 @@
 //! Values in the distinguished encoding rules (X.690): the traits by which types are read and written, with their laws, and the
-//! values that stand in many formats.
+//! values that are in many formats.
 #![tactic(auto)]
 
 mod any;

@@ -82,7 +82,7 @@ impl<T: DerOrd + ElementText> DerOrd for Option<T> {
     }
 }
 
-/// The order of two pairs of texts, each one text behind the other. Refusals as in `der_cmp`.
+/// The order of two pairs of texts, each one text after the other. Refusals as in `der_cmp`.
 pub fn pair_cmp<A: DerOrd + ElementText, B: DerOrd>(
     first: &A,
     second: &B,

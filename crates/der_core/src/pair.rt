@@ -1,5 +1,6 @@
 //! Two texts, one after the other.
-ghost use Rattle.std.specs.Prelude.{length, ◌++◌, ◌⊎◌, OnOk};
+ghost use Rattle.std.specs.Prelude.{◌≡◌, length, ◌++◌, ◌⊎◌, OnOk};
+ghost use Rattle.std.specs.Result.{IsErrOf};
 ghost use Rattle.asn1_core.specs.Der.{IsShort};
 ghost use Rattle.asn1_core.specs.Writing.{Writes, Measures, IsOverlong};
 
@@ -21,7 +22,7 @@ pub fn pair_len<A: Encode, B: Encode>(first: &A, second: &B) -> Result<Length, E
     }
 }
 
-/// Writes the text of one value, and behind it that of the other. Refusals as in `pair_len`, with nothing written; else those of
+/// Writes the text of one value, and after it that of the other. Refusals as in `pair_len`, with nothing written; else those of
 /// the writer.
 pub fn write_pair<A: Encode, B: Encode, W: Writer>(
     w: &mut W,
@@ -33,13 +34,14 @@ pub fn write_pair<A: Encode, B: Encode, W: Writer>(
         (A.canon first.now ++ B.canon second.now) w.old result w.new }
     ensures short { OnOk result (IsShort (A.canon first.now ++ B.canon second.now)) }
     ensures lawful { OnOk result (A.writable first.now × B.writable second.now) }
+    ensures unmoved { IsErrOf result Error.Malformed ⊎ IsErrOf result Error.Overlength → w.new ≡ w.old }
 {
     pair_len(first, second)?;
     first.encode(w)?;
     second.encode(w)
 }
 
-/// Two values as one that is written: the text of the second behind that of the first. So a container of more than two parts is
+/// Two values as one that is written: the text of the second after that of the first. So a container of more than two parts is
 /// written by `pair_len` and `write_pair` too.
 #[derive(Drop)]
 pub struct Pair<'p, A, B>(pub &'p A, pub &'p B);

@@ -1,7 +1,7 @@
--- What a program answers for the command of its words, from what `answer` says of the job that they ask for.
-use Rattle.std.proofs.Common.{◌≡◌, ◌⊎◌, List, ℕ, refl, subst}
+-- What a program returns for the command of its words, from what `answer` says of the job that they ask for.
+use Rattle.std.proofs.Common.{◌≡◌, ◌⊎◌, inl, inr, List, ℕ, arith, refl, subst}
 use Rattle.std.specs.Prelude.{Option, Some, None, IfSome, MatchOption}
-use Rattle.frame.specs.Calls.{Call, IsRead, KeepsLimit}
+use Rattle.frame.specs.Calls.{Call, IsRead, KeepsLimit, call_of, effects}
 use Rattle.frame.specs.Programs.{Answers, CommandRow, DueRow, ForCommand, IsExact, IsNoCommand, Program, asks}
 use Rattle.frame.specs.Status.{Kind, done, usage, read_fault, write_fault, too_long, memory, own, kind_of}
 use Rattle.frame.specs.Stream.{Stream}
@@ -55,8 +55,10 @@ answers_as {J} {C} p of asked call output s f h = record {
   read_fault = h.read_fault;
   write_fault = h.write_fault;
   failed_read = h.failed_read;
+  failed_draw = h.failed_draw;
   failed_write = h.failed_write;
   counts = h.counts;
+  taken = h.taken;
   too_long = h.too_long;
   unworked = h.unworked;
   refused = λ is. some p of asked f (λ c. IsRead call.input (λ x. p.Refuses c call.work x s)) (h.refused is);
@@ -87,3 +89,59 @@ either (Some j) P none some = some j refl
 pub if_told : (told : Option (List ℕ)) (P : List ℕ → Type 0) → ((x : List ℕ) → P x) → IfSome told P
 if_told None P h = tt
 if_told (Some x) P h = h x
+
+-- ---- A program that says nothing of the draw
+
+-- What it promises of a call, it promises of one that did this to the draw.
+pub record SameUnder {C : Type 0} (p : Program C) (draw other : Stream) (n m : ℕ) : Type 0 where
+  pub makes : (c : C) (x text : List ℕ) → p.Makes c (effects draw n m) x text → p.Makes c (effects other n m) x text
+  pub refuses : (c : C) (x : List ℕ) (s : Status) → p.Refuses c (effects draw n m) x s → p.Refuses c (effects other n m) x s
+  pub exact : (c : C) (x : List ℕ) (s : Status) → p.Exact c (effects draw n m) x s → p.Exact c (effects other n m) x s
+
+made_under : {C : Type 0} (p : Program C) (input draw other : Stream) (n m : ℕ) (text : List ℕ) → SameUnder p draw other n m
+    → ForCommand p (λ c. IsRead input (λ x. p.Makes c (effects draw n m) x text)) → ForCommand p (λ c. IsRead input (λ x. p.Makes c (effects other n m) x text))
+made_under p input draw other n m text f (c, asked, (end, (x, told, few, r))) = (c, asked, (end, (x, told, few, f.makes c x text r)))
+
+refused_under : {C : Type 0} (p : Program C) (input draw other : Stream) (n m : ℕ) (s : Status) → SameUnder p draw other n m
+    → ForCommand p (λ c. IsRead input (λ x. p.Refuses c (effects draw n m) x s)) → ForCommand p (λ c. IsRead input (λ x. p.Refuses c (effects other n m) x s))
+refused_under p input draw other n m s f (c, asked, (end, (x, told, few, r))) = (c, asked, (end, (x, told, few, f.refuses c x s r)))
+
+row_under : {C : Type 0} (p : Program C) (input draw other : Stream) (n m : ℕ) (s : Status) (text : List ℕ) (k : Kind) → SameUnder p draw other n m
+    → DueRow p (call_of input draw n m) s text k → DueRow p (call_of input other n m) s text k
+row_under p input draw other n m s text done f h = made_under p input draw other n m text f h
+row_under p input draw other n m s text usage f h = h
+row_under p input draw other n m s text read_fault f h = h
+row_under p input draw other n m s text write_fault f h = h
+row_under p input draw other n m s text too_long f h = h
+row_under p input draw other n m s text memory f h = h
+row_under p input draw other n m s text own f h = (refused_under p input draw other n m s f h.0, h.1)
+
+exact_under : {C : Type 0} (p : Program C) (draw other : Stream) (n m : ℕ) (c : C) (x : List ℕ) (s : Status) → SameUnder p draw other n m
+    → (s ≡ WriteFault) ⊎ IsExact (p.Exact c (effects draw n m) x) x s → (s ≡ WriteFault) ⊎ IsExact (p.Exact c (effects other n m) x) x s
+exact_under p draw other n m c x s f (inl is) = inl is
+exact_under p draw other n m c x s f (inr e) = inr (record {
+  too_long = e.too_long;
+  worked = λ few. elim (e.worked few) [ inl may ↦ inl (f.exact c x s may) | inr lacks ↦ inr lacks ];
+})
+
+pub undrawn : {C : Type 0} (p : Program C) (input draw other : Stream) (n m : ℕ) (output : Stream) (s : Status) → SameUnder p draw other n m → other.faults ≡ other.faults_after
+    → Answers p (call_of input draw n m) output s → Answers p (call_of input other n m) output s
+undrawn p input draw other n m output s f still h = record {
+  usage = h.usage;
+  usage_only = h.usage_only;
+  read_fault = h.read_fault;
+  write_fault = h.write_fault;
+  failed_read = h.failed_read;
+  failed_draw = λ rose. absurd (omega (arith, still, rose));
+  failed_write = h.failed_write;
+  counts = (h.counts.0, omega (arith, still), h.counts.2);
+  taken = h.taken;
+  too_long = h.too_long;
+  unworked = h.unworked;
+  refused = λ is. refused_under p input draw other n m s f (h.refused is);
+  done = λ is. let d = h.done is in (d.0, made_under p input draw other n m d.0 f d.1, d.2);
+  written = λ not. let w = h.written not in (w.0, row_under p input draw other n m s w.0 (kind_of s) f w.1, w.2);
+  part = λ is. let w = h.part is in (w.0, w.1, row_under p input draw other n m w.0 w.1 (kind_of w.0) f w.2, w.3);
+  exact = λ c x g. exact_under p draw other n m c x s f (h.exact c x (record { command = g.command; told = g.told; unfailed = g.unfailed }));
+  at_most = h.at_most;
+}

@@ -1,4 +1,4 @@
--- What a decision says of the answer.
+-- What a decision says of the result.
 use Rattle.std.proofs.Common.{◌≡◌, ◌⊎◌, inl, inr, ◌≤◌, List, ℕ, arith, refl, subst, sym}
 use Rattle.std.specs.Io.KnownBytes.{Appends}
 use Rattle.octet_core.specs.Faults.{Rose}
@@ -27,8 +27,10 @@ answered_whole p call output s text d kept all = record {
   read_fault = λ is. (due_at p call s ReadFault text d.due is).0.2.0;
   write_fault = λ is. absurd (due_at p call s WriteFault text d.due is).0.2;
   failed_read = λ rose. inl (d.failed_read rose);
+  failed_draw = λ rose. inl (d.failed_draw rose);
   failed_write = λ rose. absurd (omega (arith, kept, rose));
   counts = (d.counts.0, d.counts.1, omega (arith, kept));
+  taken = d.taken;
   too_long = λ is. (due_at p call s InputTooLong text d.due is).0.2.0;
   unworked = unworked_at p call s text d.due;
   refused = λ is. (subst (DueRow p call s text) is d.due).0;
@@ -48,8 +50,10 @@ answered_cut p call output due text d count rose some = record {
   read_fault = λ is. absurd (let bad : WriteFault ≡ ReadFault = is in cc);
   write_fault = λ is. rose;
   failed_read = λ h. inr refl;
+  failed_draw = λ h. inr refl;
   failed_write = λ h. refl;
   counts = (d.counts.0, d.counts.1, count);
+  taken = d.taken;
   too_long = λ is. absurd (let bad : WriteFault ≡ InputTooLong = is in cc);
   unworked = λ any. elim any [
     | inl is ↦ absurd (let bad : WriteFault ≡ ReadFault = is in cc)
@@ -63,7 +67,7 @@ answered_cut p call output due text d count rose some = record {
   at_most = d.at_most;
 }
 
--- What was decided is answered, or that a write failed.
+-- What was decided is returned, or that a write failed.
 pub answered : {C : Type 0} (p : Program C) (call : Call) (output : Stream) (due : Status) (text : List ℕ) (s : Status) → Decides p call due text
     → output.faults ≤ output.faults_after → IsWritten output due text s → Answers p call output s
 answered p call output due text s d count (whole is kept all) =

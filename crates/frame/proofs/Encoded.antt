@@ -11,7 +11,7 @@ use Rattle.std.specs.List.{AllPass}
 use Rattle.hex.specs.Hex.{encode_lower, hex_digit_value, is_hex_digit, pair_value}
 use Rattle.frame.specs.DueText.{digits_line}
 
--- A line in a buffer of its size: the label and the digits, and a line feed set behind them.
+-- A line in a buffer of its size: the label and the digits, and a line feed set after them.
 pub line_made : (label octets copied behind buffer : List ℕ) (last : ℕ) → copied ≡ label
     → take (length label + 2 * length octets) buffer ≡ take (length label) (copied ++ behind) ++ encode_lower octets
     → last ≡ length label + 2 * length octets → length buffer ≡ last + 1 → set buffer last 10 ≡ digits_line label octets
@@ -33,7 +33,7 @@ pub digits_none : (xs : List ℕ) (i : ℕ) (all b : Bool) → i < length xs →
 digits_none xs i true b lt before is e h = let digit = h i 0 lt in cc
 digits_none xs i false b lt before is e h = before refl h
 
--- A name in a buffer of 17 line feeds (10) behind a front of 7 octets.
+-- A name in a buffer of 17 line feeds (10) after a front of 7 octets.
 pub name_in_feeds : (front name : List ℕ) (n : ℕ) → length front ≡ 7 → length name ≤ 16 → n ≡ length name
     → take (8 + length name) (put_mid 7 n (front ++ replicate 17 10) name) ≡ front ++ (name ++ 10 ∷ [])
 name_in_feeds front name n seven short is =

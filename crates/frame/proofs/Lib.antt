@@ -1,6 +1,6 @@
 mod Written
 mod Encoded
-mod Lines
+pub mod Lines
 mod Pieces
 mod LinedInputs
 mod WordLists

@@ -65,7 +65,7 @@ both [] b v w h k = rw h k
 both (c ∷ []) b v w h k = absurd h
 both (c ∷ d ∷ a) b v w (x, y, u, p, q, more, is) k = (x, y, u ++ w, p, q, both a b u w more k, ap (λ (l : List ℕ). l ++ w) is)
 
--- the digits of two texts, one behind the other
+-- the digits of two texts, one after the other
 pub joined : (a b v w : List ℕ) → IsHex a v → IsHex b w → IsHex (a ++ b) (v ++ w)
 joined a b v w h k =
     let p = decode_of-ok a v h in
@@ -83,7 +83,7 @@ pub piece_size : (old octets : List ℕ) (done more : ℕ) → done + more ≤ l
 piece_size old octets done more within hex =
     omega (arith, (decode_of-ok (take more (drop done old)) octets hex).2, length-take more (drop done old), length-drop done old)
 
--- One piece more is decoded: its octets stand behind those before it.
+-- One piece more is decoded: its octets come after those before it.
 pub piece_more : (old text octets : List ℕ) (done more k : ℕ) → done % 2 ≡ 0 → more % 2 ≡ 0 → done + more ≤ length old → length text ≡ length old → k ≡ more / 2
     → IsHex (take done old) (take (done / 2) text) → IsHex (take more (drop done old)) octets
     → IsHex (take (done + more) old) (take ((done + more) / 2) (put_mid (done / 2) k text octets))

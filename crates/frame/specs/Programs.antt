@@ -4,11 +4,11 @@ use Rattle.std.specs.Io.KnownBytes.{Appends}
 use Rattle.octet_core.specs.Faults.{Rose}
 use Rattle.frame.specs.Calls.{Call, Effects, IsRead, KeepsLimit, TakesNoStep}
 use Rattle.frame.specs.DueText.{AppendsPart}
-use Rattle.frame.specs.Input.{input_limit}
+use Rattle.frame.specs.Input.{TakesAtMost, input_limit, taken_limit}
 use Rattle.frame.specs.Status.{Kind, done, usage, read_fault, write_fault, too_long, memory, own, error_text, kind_of}
 use Rattle.frame.specs.Stream.{Stream}
 use Rattle.frame.specs.declared.status.Status.{Status}
-use Rattle.frame.specs.declared.status.Status.TheVariants.{Done, Usage, ReadFault, WriteFault, InputTooLong, Memory}
+use Rattle.frame.specs.declared.status.Status.TheVariants.{Done, Usage, ReadFault, WriteFault, InputTooLong, Memory, Rng}
 
 -- What a program promises for each of its commands, which are of a type C.
 pub record Program (C : Type 0) : Type 1 where
@@ -18,7 +18,7 @@ pub record Program (C : Type 0) : Type 1 where
   pub Makes : C → Effects → List ℕ → List ℕ → Type 0
   -- The work on an input ends so, with this refusal.
   pub Refuses : C → Effects → List ℕ → Status → Type 0
-  -- This status may come for an input, want of memory apart.
+  -- This status may come for an input, running out of memory apart.
   pub Exact : C → Effects → List ℕ → Status → Type 0
   -- The most steps of the work.
   pub limit : C → ℕ
@@ -75,17 +75,17 @@ Due p call s text = DueRow p call s text (kind_of s)
 -- ---- Where each answer has to come
 
 -- The words are this command's, and the source told that it had these octets; its count of faults neither rose nor
--- stands at its last value.
+-- is at its last value.
 pub record IsGiven {C : Type 0} (p : Program C) (call : Call) (c : C) (x : List ℕ) : Type 0 where
   pub command : p.IsAsked c
   pub told : call.input.told ≡ Some x
   pub unfailed : Rose call.input.faults call.input.faults_after → ⊥
 
--- The answer is this one, or want of memory.
+-- The result is this one, or running out of memory.
 abbrev pub IsAnswer : Status → Status → Type 0
 IsAnswer s due = (s ≡ due) ⊎ (s ≡ Memory)
 
--- Of an input: one of more octets than the limit is refused, and to another the answer is one of those that may come.
+-- Of an input: one of more octets than the limit is refused, and to another the result is one of those that may come.
 pub record IsExact (May : Status → Type 0) (x : List ℕ) (s : Status) : Type 0 where
   pub too_long : input_limit < length x → IsAnswer s InputTooLong
   pub worked : length x ≤ input_limit → May s ⊎ (s ≡ Memory)
@@ -97,17 +97,21 @@ pub record Answers {C : Type 0} (p : Program C) (call : Call) (output : Stream) 
   -- Usage comes exactly where the words are no command's.
   pub usage : IsNoCommand p → (s ≡ Usage) ⊎ (s ≡ WriteFault)
   pub usage_only : s ≡ Usage → IsNoCommand p
-  -- ReadFault and WriteFault come only where the object's count of faults rose, or stands at its last value.
+  -- ReadFault and WriteFault come only where the object's count of faults rose, or is at its last value.
   pub read_fault : s ≡ ReadFault → Rose call.input.faults call.input.faults_after
   pub write_fault : s ≡ WriteFault → Rose output.faults output.faults_after
-  -- A read that fails is the last: where the source's count rose, the answer is ReadFault.
+  -- Where the source's count rose, a read failed, the result is ReadFault.
   pub failed_read : call.input.faults < call.input.faults_after → (s ≡ ReadFault) ⊎ (s ≡ WriteFault)
-  -- A write that fails is the last: where the sink's count rose, the answer is WriteFault.
+  -- Where the draw's count rose, a draw failed, the result is Rng.
+  pub failed_draw : call.work.draw.faults < call.work.draw.faults_after → (s ≡ Rng) ⊎ (s ≡ WriteFault)
+  -- Where the sink's count rose, a write failed, the result is WriteFault.
   pub failed_write : output.faults < output.faults_after → s ≡ WriteFault
   -- No count falls.
   pub counts : (call.input.faults ≤ call.input.faults_after)
       × (call.work.draw.faults ≤ call.work.draw.faults_after) × (output.faults ≤ output.faults_after)
-  -- InputTooLong comes only where more octets than the limit stand in the input.
+  -- Of the input the limit's octets are taken at most, and one piece more.
+  pub taken : TakesAtMost call.input.told call.input.told_after taken_limit
+  -- InputTooLong comes only where more octets than the limit are in the input.
   pub too_long : s ≡ InputTooLong → IfSome call.input.told (λ x. input_limit < length x)
   -- After these two no step was taken.
   pub unworked : (s ≡ ReadFault) ⊎ (s ≡ InputTooLong) → TakesNoStep call.work
@@ -121,7 +125,7 @@ pub record Answers {C : Type 0} (p : Program C) (call : Call) (output : Stream) 
       → (text : List ℕ) × Due p call s text × Appends output.told output.told_after text
   pub part : s ≡ WriteFault
       → (t : Status) × (text : List ℕ) × Due p call t text × AppendsPart output.told output.told_after text
-  -- Where the source tells its octets, and no read failed, the answer is one that may come, or WriteFault.
+  -- Where the source tells its octets, and no read failed, the result is one that may come, or WriteFault.
   pub exact : (c : C) (x : List ℕ) → IsGiven p call c x
       → (s ≡ WriteFault) ⊎ IsExact (p.Exact c call.work x) x s
   -- The steps rise by at most the limit.

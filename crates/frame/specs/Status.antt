@@ -1,4 +1,4 @@
--- The answers of a program: their names, their numbers, and of what kind each is.
+-- The outputs of a program: their names, their numbers, and of what kind each is.
 use Rattle.std.specs.Prelude.{ℕ, List, ◌++◌, Result, Ok, Err, codes, ⊤}
 use Rattle.frame.specs.declared.status.Status.{Status}
 use Rattle.frame.specs.declared.status.Status.TheVariants.{Done, Usage, ReadFault, WriteFault, InputTooLong, InputMalformed, Memory, Malformed, Unsupported, MacMissing, MacUnsupported, ZeroIterations, WorkLimit, MacMismatch, ContentMalformed, DecryptFailed, KeyMalformed, Rng, TooLong}
@@ -70,7 +70,7 @@ kind_of InputTooLong = too_long
 kind_of Memory = memory
 kind_of _ = own
 
--- A refusal of a program's own comes only where R; want of memory may come at any point, and no other status comes.
+-- A refusal of a program's own comes only where R; running out of memory may come at any point, and no other status comes.
 abbrev pub RefusedRow : (Status → Type 0) → Status → Kind → Type 0
 RefusedRow R s own = R s
 RefusedRow R s memory = ⊤

@@ -1,7 +1,7 @@
 -- An object of the outside over a call.
 use Rattle.std.specs.Prelude.{ℕ, List, Option}
 
--- A source, a sink or a draw, at the entry of a call and behind it: the octets that it tells, and the count of its faults.
+-- A source, a sink or a draw, at the entry of a call and after it: the octets that it tells, and the count of its faults.
 pub record Stream : Type 0 where
   pub told : Option (List ℕ)
   pub told_after : Option (List ℕ)

@@ -48,7 +48,7 @@ pub fn decode_into(digits: &[u8], octets: &mut [u8])
 /// The most digits that are decoded at once.
 const PIECE: usize = 4096;
 
-/// Decodes the digits in front of the text in their own place: the octets that they spell then stand in front of it.
+/// Decodes the digits in front of the text in their own place: the octets that they spell then are in front of it.
 /// Whether they are digits, all of them; where one is not, the front of the text may be overwritten.
 pub(crate) fn decode_front(text: &mut [u8], count: usize) -> bool
     requires within { count ≤ length text.old }

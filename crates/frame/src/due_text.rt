@@ -9,7 +9,7 @@ ghost use Rattle.octet_core.specs.Faults.{Rose};
 
 use crate::digits::encode_into;
 use crate::status::Status;
-use octet_core::{Failed, Items, Octets, Sink};
+use octet_core::{Failed, Items, Octets, Sink, Text};
 use std::alloc::{AllocError, Global};
 
 /// What a program writes where it is done.
@@ -37,6 +37,15 @@ impl DueText for Items<Octets> {
     }
 }
 
+/// Lines of characters, one after the other, each offered in one write.
+impl DueText for Items<Text> {
+    ghost text = { λ lines. joined lines };
+
+    fn write_to<O: Sink>(&self, output: &mut O) -> Result<(), Failed> {
+        write_texts(output, self.as_slice())
+    }
+}
+
 /// A text in one piece.
 impl DueText for Octets {
     ghost text = { λ octets. octets };
@@ -46,7 +55,7 @@ impl DueText for Octets {
     }
 }
 
-/// Writes the digits of the octets behind the first `filled` octets of the buffer.
+/// Writes the digits of the octets after the first `filled` octets of the buffer.
 fn encode_behind(buffer: &mut [u8], filled: usize, octets: &[u8])
     requires { filled + 2 * length octets.now ≤ length buffer.old }
     ensures { take (filled + 2 * length octets.now) buffer.new
@@ -65,7 +74,7 @@ fn line_size(label: &str, octets: &[u8]) -> Option<usize>
     filled.checked_add(1)
 }
 
-/// A line of a label and the lower-case digits of the octets, with its line feed. The only refusal is want of memory.
+/// A line of a label and the lower-case digits of the octets, with its line feed. The only refusal is `Memory`.
 pub fn line_of(alloc: Global, label: &str, octets: &[u8]) -> Result<Octets, AllocError>
     ensures { IfOk result (λ line. line ≡ digits_line label.now octets.now) }
 {
@@ -81,7 +90,7 @@ pub fn line_of(alloc: Global, label: &str, octets: &[u8]) -> Result<Octets, Allo
     Ok(Octets::from_vec(line))
 }
 
-/// Adds a line of the label and the digits for each of the items. The only refusal is want of memory; some lines may have
+/// Adds a line of the label and the digits for each of the items. The only refusal is `Memory`; some lines may have
 /// been added then.
 pub fn add_lines(
     alloc: Global,
@@ -131,7 +140,23 @@ pub fn write_lines<O: Sink>(output: &mut O, lines: &[Octets]) -> Result<(), Fail
     Ok(())
 }
 
-/// Writes the line `error: ` with the name of the status; `Failed` as `write_piece` answers it.
+/// `write_lines` of lines of characters.
+pub fn write_texts<O: Sink>(output: &mut O, lines: &[Text]) -> Result<(), Failed>
+    ensures count { O.faults output.old ≤ O.faults output.new }
+    ensures whole { OnOk result
+        (Appends (O.written output.old) (O.written output.new) (joined lines.now)) }
+    ensures part { OnErr result (AppendsPart (O.written output.old) (O.written output.new)
+        (joined lines.now)) }
+    ensures cause { OnErr result (Rose (O.faults output.old) (O.faults output.new)) }
+    ensures no_fault { OnOk result (O.faults output.new ≡ O.faults output.old) }
+{
+    for line in lines {
+        write_piece(output, line.as_str().as_bytes())?;
+    }
+    Ok(())
+}
+
+/// Writes the line `error: ` with the name of the status; `Failed` as `write_piece` returns it.
 pub fn write_error<O: Sink>(output: &mut O, status: Status) -> Result<(), Failed>
     ensures count { O.faults output.old ≤ O.faults output.new }
     ensures whole { OnOk result

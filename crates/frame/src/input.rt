@@ -2,7 +2,7 @@
 ghost use Rattle.std.specs.Prelude.{◌≡◌, ◌<◌, ◌≤◌, length, Err, IfOk, IfSome};
 ghost use Rattle.std.specs.Result.{IsErrOf};
 ghost use Rattle.octet_core.specs.Faults.{Rose};
-ghost use Rattle.frame.specs.Input.{IsWhole, input_limit};
+ghost use Rattle.frame.specs.Input.{IsWhole, TakesAtMost, input_limit, taken_limit};
 ghost use Rattle.frame.specs.declared.input.InputError.TheVariants.{Memory};
 
 use octet_core::Source;
@@ -30,8 +30,8 @@ impl From<AllocError> for InputError {
     }
 }
 
-/// Reads the source to its end, and answers all octets that it had. Refused as `ReadFault` where a read fails, which is the
-/// last one, as `InputTooLong` where there are more than `INPUT_LIMIT` octets, and as `Memory`.
+/// Reads the source to its end, and returns all octets that it had. Refused as `ReadFault` at the first read that fails, as
+/// `InputTooLong` at the first piece past `INPUT_LIMIT` octets, and as `Memory`; a piece has at most 65,536 octets.
 pub fn read_input<I: Source>(alloc: Global, input: &mut I) -> Result<Vec<u8>, InputError>
     ensures count { I.faults input.old ≤ I.faults input.new }
     ensures last { I.faults input.old < I.faults input.new → result ≡ Err InputError.ReadFault }
@@ -41,6 +41,7 @@ pub fn read_input<I: Source>(alloc: Global, input: &mut I) -> Result<Vec<u8>, In
         → Rose (I.faults input.old) (I.faults input.new) }
     ensures too_long { IsErrOf result InputError.InputTooLong
         → IfSome (I.left input.old) (λ x. input_limit < length x) }
+    ensures taken { TakesAtMost (I.left input.old) (I.left input.new) taken_limit }
 {
     let mut octets = Vec::new(alloc);
     let mut buffer = [0u8; 65536];

@@ -57,7 +57,7 @@ fn digits_of(line: &[u8]) -> &[u8]
     line.strip_suffix(b"\n").unwrap_or(line)
 }
 
-/// The parts before and behind the first line feed, where something stands behind it.
+/// The parts before and after the first line feed, where something comes after it.
 fn split_line(text: &[u8]) -> Option<(&[u8], &[u8])>
     ensures { MatchOption result (IsUnsplit text.now)
         (λ parts. IsSplit text.now parts.0.now parts.1.now) }

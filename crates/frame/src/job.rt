@@ -1,5 +1,7 @@
 //! The work of a program.
-ghost use Rattle.std.specs.Prelude.{◌≡◌, ◌⊎◌, ◌≤◌, ◌+◌, ℕ, List, IfOk, IfErr};
+ghost use Rattle.std.specs.Prelude.{◌≡◌, ◌⊎◌, ◌<◌, ◌≤◌, ◌+◌, ℕ, List, IfOk, IfErr, length};
+ghost use Rattle.std.specs.Result.{IsErrOf};
+ghost use Rattle.frame.specs.Input.{input_limit};
 ghost use Rattle.frame.specs.Calls.{Effects, effects};
 ghost use Rattle.frame.specs.Status.{Refused, status_in};
 ghost use Rattle.frame.specs.Stream.{stream};
@@ -24,7 +26,7 @@ pub trait Job {
     // the work on an input ends so, with this refusal
     ghost refuses: { Self → Effects → List ℕ → Status → Type 0 };
 
-    // this status may come for an input, want of memory apart
+    // this status may come for an input, running out of memory apart
     ghost exact: { Self → Effects → List ℕ → Status → Type 0 };
 
     // the most steps of the work
@@ -36,7 +38,8 @@ pub trait Job {
     // on such a status the draw was not touched, whatever the input is
     ghost keeps_on: { Self → Status → Type 0 };
 
-    /// Does the work on the input. A refusal is one of the program's own statuses, or `Memory`.
+    /// Does the work on the input, which has at most 67,108,864 octets. A refusal is one of the program's own statuses, or
+    /// `Memory`; where a draw failed it is `Rng`.
     fn work<D: Draw, L: Ledger>(
         &self,
         alloc: Global,
@@ -44,6 +47,7 @@ pub trait Job {
         draw: &mut D,
         steps: &mut Steps<L>,
     ) -> Result<Self::Made, Status>
+        requires short { length input.items ≤ input_limit }
         ensures made { let drawn = stream (D.left draw.old) (D.left draw.new) (D.faults draw.old)
             (D.faults draw.new) in
             let e = effects drawn steps.old steps.new in
@@ -58,6 +62,7 @@ pub trait Job {
             exact self.now e input.items (status_in result) ⊎ (status_in result ≡ Status.Memory) }
         ensures at_most { (steps.old ≤ steps.new) × (steps.new ≤ steps.old + limit self.now) }
         ensures count { D.faults draw.old ≤ D.faults draw.new }
+        ensures failed_draw { D.faults draw.old < D.faults draw.new → IsErrOf result Status.Rng }
         ensures kept { keeps self.now input.items → draw.new ≡ draw.old }
         ensures kept_on { keeps_on self.now (status_in result) → draw.new ≡ draw.old };
 }

@@ -1,5 +1,6 @@
 //! Jobs on a store that the input spells in one line or two.
-ghost use Rattle.std.specs.Prelude.{◌≡◌, ◌⊎◌, ◌+◌, ◌≤◌, ℕ, List, IfOk, IfErr};
+ghost use Rattle.std.specs.Prelude.{◌≡◌, ◌⊎◌, ◌+◌, ◌<◌, ◌≤◌, ℕ, List, IfOk, IfErr};
+ghost use Rattle.std.specs.Result.{IsErrOf};
 ghost use Rattle.frame.specs.Calls.{Effects, effects};
 ghost use Rattle.frame.specs.Lined.{ExactLined, HasLine, NeverMalformed, RefusesLined, Spells};
 ghost use Rattle.frame.specs.Status.{Refused, status_in};
@@ -26,7 +27,7 @@ pub trait StoreJob {
     // the work on a store ends so, with this refusal
     ghost refuses: { Self → Effects → List ℕ → Status → Type 0 };
 
-    // this status may come for a store, want of memory apart
+    // this status may come for a store, running out of memory apart
     ghost exact: { Self → Effects → List ℕ → Status → Type 0 };
 
     // the most steps of the work
@@ -36,7 +37,7 @@ pub trait StoreJob {
     ghost keeps_on: { Self → Status → Type 0 };
 
     /// Does the work on the store. A refusal is one of the program's own statuses other than `InputMalformed`, or
-    /// `Memory`.
+    /// `Memory`; where a draw failed it is `Rng`.
     fn work<D: Draw, L: Ledger>(
         &self,
         alloc: Global,
@@ -59,6 +60,7 @@ pub trait StoreJob {
             exact self.now e store (status_in result) ⊎ (status_in result ≡ Status.Memory) }
         ensures at_most { (steps.old ≤ steps.new) × (steps.new ≤ steps.old + limit self.now) }
         ensures count { D.faults draw.old ≤ D.faults draw.new }
+        ensures failed_draw { D.faults draw.old < D.faults draw.new → IsErrOf result Status.Rng }
         ensures kept_on { keeps_on self.now (status_in result) → draw.new ≡ draw.old };
 }
 

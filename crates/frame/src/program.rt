@@ -27,7 +27,7 @@ fn input_status(error: InputError) -> Status
     }
 }
 
-/// Writes what is due for a decision, the text of what was made or `error: ` and the name of the status, and answers its
+/// Writes what is due for a decision, the text of what was made or `error: ` and the name of the status, and returns its
 /// status, or `WriteFault` where a write failed.
 pub fn write_decision<T: DueText + Drop, O: Sink>(
     output: &mut O,
@@ -50,7 +50,7 @@ pub fn write_decision<T: DueText + Drop, O: Sink>(
     }
 }
 
-/// What the job makes of the input, or the status that is answered in its place.
+/// What the job makes of the input, or the status that is returned in its place.
 fn decide<J: Job + Drop, I: Source, D: Draw, L: Ledger>(
     alloc: Global,
     asked: Option<J>,
@@ -82,10 +82,10 @@ fn decide<J: Job + Drop, I: Source, D: Draw, L: Ledger>(
 }
 
 /// Reads the input to its end, does the work of the job on it, and writes what is due: the text of what was made, or
-/// `error: ` and the name of the status. `asked` is the command that the words gave; where they gave none the answer is
+/// `error: ` and the name of the status. `asked` is the command that the words gave; where they gave none the result is
 /// `Usage`, and nothing is read, drawn or counted.
 ///
-/// `Usage`, `ReadFault`, `InputTooLong` (more than 67,108,864 octets), `WriteFault` and `Memory` are answers of every
+/// `Usage`, `ReadFault`, `InputTooLong` (more than 67,108,864 octets), `WriteFault` and `Memory` are outputs of every
 /// program; any other refusal is the job's.
 pub fn answer<J: Job + Drop, I: Source, O: Sink, D: Draw, L: Ledger>(
     alloc: Global,

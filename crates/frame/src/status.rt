@@ -4,7 +4,7 @@ ghost use Rattle.frame.specs.Status.{status_code, status_name};
 
 use std::fmt;
 
-/// What a program answers. `Done`, `Usage`, `ReadFault`, `WriteFault`, `InputTooLong` and `Memory` are answers of every
+/// What a program answers. `Done`, `Usage`, `ReadFault`, `WriteFault`, `InputTooLong` and `Memory` are outputs of every
 /// program; the others are refusals of a program's own, and each says which of them it answers, and when.
 #[derive(Clone, Copy, Debug, PartialEq, Eq)]
 pub enum Status {
@@ -76,7 +76,7 @@ impl Status {
         }
     }
 
-    /// The name, which stands behind `error: ` in the output.
+    /// The name, which comes after `error: ` in the output.
     #[tactic(auto, unfolding(crate::specs::Status::status_name))]
     pub fn name(self) -> &'static str
         ensures is { result.now ≡ status_name self }

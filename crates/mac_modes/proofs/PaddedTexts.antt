@@ -99,7 +99,7 @@ padded_whole m n low =
     length-append m _ ∙ ap (λ (x : ℕ). length m + x) (length-replicate (n - length m % n) (n - length m % n)) ∙ omega arith in
     ap (λ (x : ℕ). x % n) long ∙ mod-mul-add (q + 1) n 0 low
 
--- the buffer b with the padding of its first pos octets written behind them
+-- the buffer b with the padding of its first pos octets written after them
 pub filled : (b made : List ℕ) (pos n k count : ℕ) → 1 ≤ n → pos ≤ length b → count ≡ n - pos % n → count ≤ length b - pos → k ≡ count
     → made ≡ replicate (length (take k (drop pos b))) count
     → (take (pos + count) (put_mid pos k b made) ≡ padded (take pos b) n)
@@ -122,7 +122,7 @@ filled b made pos n k count low le ec room ek written =
       ),
     )
 
--- what stands in the buffer when its front p of length end has been encrypted into new
+-- what is in the buffer when its front p of length end has been encrypted into new
 pub sealed : (D : List ℕ → List ℕ) (n : ℕ) (iv m b p new : List ℕ) (end : ℕ)
     → length new ≡ length (take end p) → end ≤ length p → length p ≡ length b
     → uncbc D n iv new ≡ take end p → take end p ≡ padded m n → drop end p ≡ drop end b

@@ -1,4 +1,4 @@
--- A text under the stream in the front of a buffer, and its tag behind it.
+-- A text under the stream in the front of a buffer, and its tag after it.
 use Rattle.std.proofs.Common.{◌≡◌, ◌∙◌, sym, ap, ℕ, ◌+◌, ◌-◌, ◌≤◌, List, ◌++◌, length, take, drop, refl, arith}
 use borrow.Rule.Slice.PartMut.{put_mid}
 use Rattle.std.proofs.lemmas.List.{take_at, length-append, drop-drop, drop_at, length-take-le, take-append-drop}

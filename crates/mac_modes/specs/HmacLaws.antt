@@ -4,7 +4,7 @@ use Rattle.mac_modes.specs.HashFn.{HashSizes}
 use Rattle.mac_modes.specs.Prf.{PrfSizes}
 use Rattle.mac_modes.specs.Hmac.{hmac}
 
--- an answer of HMAC is as long as the hash function's
+-- an output of HMAC is as long as the hash function's
 pub length-hmac : (h : List ℕ → List ℕ) (b u : ℕ) → ((m : List ℕ) → length (h m) ≡ u) → (k m : List ℕ) → length (hmac h b k m) ≡ u
 unfolding hmac
 length-hmac h b u len k m = len _

@@ -68,8 +68,8 @@ fn decrypt_blocks<C: BlockCipher>(cipher: &C, iv: &[u8], buffer: &mut [u8])
     }
 }
 
-/// Encrypts the text `buffer[..pos]` in place, with its padding, and answers the length of the ciphertext in octets;
-/// the octets behind it stay as they were. `iv` has `C::BLOCK` octets.
+/// Encrypts the text `buffer[..pos]` in place, with its padding, and returns the length of the ciphertext in octets;
+/// the octets after it stay as they were. `iv` has `C::BLOCK` octets.
 ///
 /// `NoRoom` exactly where the padded text does not fit the buffer; nothing is changed then.
 pub fn cbc_encrypt_padded<C: BlockCipher>(
@@ -103,8 +103,8 @@ pub fn cbc_encrypt_padded<C: BlockCipher>(
     Ok(end)
 }
 
-/// Decrypts the ciphertext `buffer` in place, and answers the length of the text that now stands in its front, in
-/// octets; its padding stands behind it. `iv` has `C::BLOCK` octets.
+/// Decrypts the ciphertext `buffer` in place, and returns the length of the text that is now in its front, in
+/// octets; its padding comes after it. `iv` has `C::BLOCK` octets.
 ///
 /// `BadLength` exactly where the buffer is empty or not whole blocks; nothing is changed then. `BadPadding` exactly
 /// where the decrypted blocks do not end in a padding; the buffer holds them then.

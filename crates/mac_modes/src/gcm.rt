@@ -124,8 +124,8 @@ fn is_same(a: &[u8], b: &[u8]) -> bool
     a == b
 }
 
-/// Encrypts the text `buffer[..pos]` in place, writes its tag of 16 octets behind it, and answers the length of both;
-/// the octets behind them stay as they were. `C::BLOCK` is 16.
+/// Encrypts the text `buffer[..pos]` in place, writes its tag of 16 octets after it, and returns the length of both;
+/// the octets after them stay as they were. `C::BLOCK` is 16.
 ///
 /// `NoRoom` exactly where text and tag do not fit the buffer; nothing is changed then.
 pub fn gcm_encrypt<C: BlockCipher>(
@@ -151,8 +151,8 @@ pub fn gcm_encrypt<C: BlockCipher>(
     Ok(pos + 16)
 }
 
-/// Decrypts the ciphertext and tag `buffer` in place, and answers the length of the text that now stands in its front;
-/// the tag behind it stays as it was. `C::BLOCK` is 16.
+/// Decrypts the ciphertext and tag `buffer` in place, and returns the length of the text that is now in its front;
+/// the tag after it stays as it was. `C::BLOCK` is 16.
 ///
 /// `BadLength` exactly where there are fewer than 16 octets, `BadTag` exactly where the tag is not that of the
 /// ciphertext, so that no text opens from the buffer; nothing is changed then.

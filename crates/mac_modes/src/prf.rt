@@ -19,10 +19,10 @@ impl fmt::Display for InvalidLength {
 
 impl Error for InvalidLength {}
 
-/// A function of a key and of a message that comes in pieces, each of any length. Its answer depends on these two
+/// A function of a key and of a message that comes in pieces, each of any length. Its result depends on these two
 /// alone: `holds` says which key and message a value has taken, and `prf` what it answers.
 pub trait Prf: Sized + Drop {
-    /// The length of an answer in octets, 1 to 64.
+    /// The length of a result in octets, 1 to 64.
     const OUTPUT: usize;
 
     ghost OUTPUT: { ℕ };
@@ -33,7 +33,7 @@ pub trait Prf: Sized + Drop {
     // the function has taken this key and this message
     ghost holds: { Self → List ℕ → List ℕ → Type 0 };
 
-    // the answer at a key and a message
+    // the result at a key and a message
     ghost prf: { List ℕ → List ℕ → List ℕ };
 
     /// The function under a key, before its first piece. `InvalidLength` exactly where the function's own test
@@ -52,7 +52,7 @@ pub trait Prf: Sized + Drop {
     fn update(&mut self, piece: &[u8])
         ensures { (k m : List ℕ) → holds self.old k m → holds self.new k (m ++ piece.now) };
 
-    /// Writes the answer into the first `OUTPUT` octets of `out`. Those behind stay as they were.
+    /// Writes the result into the first `OUTPUT` octets of `out`. Those after stay as they were.
     fn finalize_into(self, out: &mut [u8; 64])
         ensures { (k m : List ℕ) → holds self k m → out.new ≡ prf k m ++ drop OUTPUT out.old };
 
@@ -61,8 +61,8 @@ pub trait Prf: Sized + Drop {
     ghost prf_length: { (k m : List ℕ) → length (prf k m) ≡ OUTPUT };
 }
 
-/// Writes the answer at `message` into the first `P::OUTPUT` octets of `out`, under the key of a function that was
-/// fed no piece yet. Those behind stay as they were, and `keyed` can be used again.
+/// Writes the result at `message` into the first `P::OUTPUT` octets of `out`, under the key of a function that was
+/// fed no piece yet. Those after stay as they were, and `keyed` can be used again.
 pub fn answer_at<P: Prf>(keyed: &P, message: &[u8], out: &mut [u8; 64])
     ensures { (k : List ℕ) → P.holds keyed.now k [] → out.new
         ≡ P.prf k message.now ++ drop P.OUTPUT out.old }

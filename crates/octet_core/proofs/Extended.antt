@@ -1,4 +1,4 @@
--- Octets that are put behind others in an array.
+-- Octets that are put after others in an array.
 use Rattle.std.proofs.Common.{◌≡◌, ℕ, ◌+◌, ◌-◌, ◌≤◌, List, length, drop, ap, sym, ◌∙◌, arith, length-drop}
 use Rattle.std.proofs.lemmas.List.{drop-drop, drop-replicate, length-take-le}
 use Rattle.std.specs.Prelude.{replicate}

@@ -2,7 +2,7 @@
 use Rattle.std.proofs.Common.{◌≡◌, ℕ, ◌+◌, ◌≤◌, List, ◌++◌, length, take, drop, sym, ap, ◌∙◌}
 use Rattle.std.proofs.lemmas.List.{take_at, drop-drop, take-append-drop, length-take-le}
 
--- A read of n octets at a place: what stands in the buffer and what is left make up what was left before.
+-- A read of n octets at a place: what is in the buffer and what is left make up what was left before.
 pub given : (octets copied tail : List ℕ) (at n : ℕ) → copied ≡ take n (drop at octets) → n ≤ length (drop at octets)
     → drop at octets ≡ take n (copied ++ tail) ++ drop (at + n) octets
 given octets copied tail at n e h =

@@ -11,7 +11,7 @@ Fills before now result buffer = MatchResult result (λ _. Consumes before now b
 abbrev pub FailsShort : {T E : Type 0} → Option (List ℕ) → Result T E → List ℕ → Type 0
 FailsShort before result buffer = IfSome before (λ left. IsErr result ↔ (length left < length buffer))
 
--- a draw did not give n octets: its count of faults rose, or stands at its last value, and where the octets to come are
+-- a draw did not give n octets: its count of faults rose, or is at its last value, and where the octets to come are
 -- told there are fewer
 abbrev pub Lacks : ℕ → ℕ → Option (List ℕ) → ℕ → Type 0
 Lacks before now left n = Rose before now × IfSome left (λ octets. length octets < n)

@@ -7,6 +7,6 @@ use Rattle.octet_core.specs.contracts.octets.Octets.{the_row}
 abbrev pub written_over : List ℕ → List ℕ → List ℕ
 written_over octets w = take (length octets) (w ++ drop (length w) octets)
 
--- they end as what is left behind the slice
+-- they end as what is left after the slice
 abbrev pub LendsAll : MutBor (List ℕ) → MutBor (List ℕ) → Fml
 LendsAll s r = Lends the_row (Array u8 0) s r (written_over s.now)

@@ -3,11 +3,11 @@ use Rattle.std.proofs.Common.{sym, ◌∙◌, ap, subst, arith, length-append}
 use Rattle.std.proofs.lemmas.List.{take-append-drop, length-take-le, length-replicate}
 use Rattle.std.proofs.Math.Seq.{drop-append_seam, take-append_seam}
 
--- the octets and zeros behind them, up to n
+-- the octets and zeros after them, up to n
 abbrev pub padded : ℕ → List ℕ → List ℕ
 padded n d = d ++ replicate (n - length d) 0
 
--- An array of n places that holds `size` octets, with zeros behind them.
+-- An array of n places that holds `size` octets, with zeros after them.
 abbrev pub IsPadded : ℕ → ℕ → List ℕ → Type 0
 IsPadded n size all = (size ≤ n) × (length all ≡ n) × (drop size all ≡ replicate (n - size) 0)
 

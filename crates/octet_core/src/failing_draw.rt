@@ -1,15 +1,17 @@
 //! A draw that fails at chosen calls.
-ghost use Rattle.std.specs.Prelude.{◌≡◌, List, None, OnOk, OnErr, IsErr};
+ghost use Rattle.std.specs.Prelude.{◌≡◌, List, None, OnOk, OnErr, IfOk, IsErr};
 ghost use Rattle.octet_core.specs.Draw.{FailsShort, Fills};
 ghost use Rattle.octet_core.specs.FailingDraw.{FailingState, IsListed};
 ghost use Rattle.octet_core.specs.Faults.{HasCause, one_more};
 
 use crate::draw::Draw;
+use crate::drawn_bytes::DrawnBytes;
 use crate::failed::Failed;
-use crate::items::Items;
+use crate::items::{Items, copied_numbers};
+use std::alloc::{AllocError, Global};
 use std::marker::Model;
 
-/// A draw that fails at chosen calls of `fill`, and else answers as the draw behind it. It does not tell its octets.
+/// A draw that fails at chosen calls of `fill`, and else returns as the draw behind it. It does not tell its octets.
 #[derive(Debug, Drop)]
 pub struct FailingDraw<D> {
     inner: D,
@@ -30,8 +32,8 @@ impl<D> Model for FailingDraw<D> {
 }
 
 impl<D: Draw> FailingDraw<D> {
-    /// The draw `inner` behind calls that fail. `failing` holds their numbers, counted from 0; the number of a call
-    /// stays at `u64::MAX` once it stands there.
+    /// The draw `inner` after calls that fail. `failing` holds their numbers, counted from 0; the number of a call
+    /// stays at `u64::MAX` once it is there.
     pub fn new(inner: D, failing: Items<u64>) -> FailingDraw<D>
         ensures { result ≡ record { inner = inner; failing = failing; call = 0; faults = 0 } }
     {
@@ -44,13 +46,27 @@ impl<D: Draw> FailingDraw<D> {
     }
 }
 
+impl FailingDraw<DrawnBytes> {
+    /// An equal draw in memory of its own. `AllocError` where there is no memory.
+    pub fn try_clone(&self, alloc: Global) -> Result<FailingDraw<DrawnBytes>, AllocError>
+        ensures { IfOk result (λ d. d ≡ self.now) }
+    {
+        Ok(FailingDraw {
+            inner: self.inner.try_clone(alloc)?,
+            failing: copied_numbers(alloc, &self.failing)?,
+            call: self.call,
+            faults: self.faults,
+        })
+    }
+}
+
 impl<D: Draw> Draw for FailingDraw<D> {
     ghost left = { λ _. None };
 
     ghost faults = { λ d. d.faults };
 
     /// Fills `out`. `Failed` exactly at a listed call, which does not reach the draw behind, and where the draw
-    /// behind fails.
+    /// after fails.
     fn fill(&mut self, out: &mut [u8]) -> Result<(), Failed>
         ensures drawn { Fills None None result out.new }
         ensures short { FailsShort None result out.old }
@@ -63,6 +79,8 @@ impl<D: Draw> Draw for FailingDraw<D> {
             → FailsShort (D.left self.old.inner) result out.old }
         ensures inner_cause { ¬ IsListed self.old → HasCause (D.faults self.old.inner)
             (D.faults self.new.inner) result }
+        ensures inner_no_fault { ¬ IsListed self.old → OnOk result
+            (D.faults self.new.inner ≡ D.faults self.old.inner) }
         ensures no_fault { OnOk result (self.new.faults ≡ self.old.faults) }
         ensures fault { OnErr result (self.new.faults ≡ one_more self.old.faults) }
         ensures next { (self.new.call ≡ one_more self.old.call)

@@ -26,7 +26,7 @@ impl<T> Items<T> {
         }
     }
 
-    /// One item more behind the others. `AllocError` where there is no memory, and nothing is changed then; the item is let go.
+    /// One item more after the others. `AllocError` where there is no memory, and nothing is changed then; the item is let go.
     pub fn push(&mut self, item: T) -> Result<(), AllocError>
     where
         T: Drop,

@@ -54,7 +54,7 @@ impl Octets {
         Octets { octets }
     }
 
-    /// One octet more behind the others. `AllocError` where there is no memory, and nothing is changed then.
+    /// One octet more after the others. `AllocError` where there is no memory, and nothing is changed then.
     pub fn push(&mut self, octet: u8) -> Result<(), AllocError>
         ensures ok { OnOk result (self.new ≡ self.old ++ octet ∷ []) }
         ensures unchanged { OnErr result (self.new ≡ self.old) }
@@ -63,7 +63,7 @@ impl Octets {
         Ok(())
     }
 
-    /// These octets behind the others. `AllocError` where there is no memory, and nothing is changed then.
+    /// These octets after the others. `AllocError` where there is no memory, and nothing is changed then.
     pub fn extend(&mut self, octets: &[u8]) -> Result<(), AllocError>
         ensures ok { OnOk result (self.new ≡ self.old ++ octets.now) }
         ensures unchanged { OnErr result (self.new ≡ self.old) }

@@ -37,7 +37,8 @@ impl<R: Read + Drop> Draw for ReadDraw<R> {
 
     ghost faults = { λ d. d.faults };
 
-    /// Fills `out` with the reader's next octets. `Failed` where the reader fails or ends before `out` is full.
+    /// Fills `out` with the reader's next octets. `Failed` where a read fails, also one that was only interrupted, or gives
+    /// nothing before `out` is full; that read is the last.
     fn fill(&mut self, out: &mut [u8]) -> Result<(), Failed>
         ensures drawn { Fills None None result out.new }
         ensures short { FailsShort None result out.old }
@@ -47,12 +48,16 @@ impl<R: Read + Drop> Draw for ReadDraw<R> {
         ensures no_fault { OnOk result (self.new.faults ≡ self.old.faults) }
         ensures fault { OnErr result (self.new.faults ≡ one_more self.old.faults) }
     {
-        match self.reader.read_exact(out) {
-            Ok(()) => Ok(()),
-            Err(_) => {
-                self.faults = self.faults.saturating_add(1);
-                Err(Failed)
+        let mut at = 0;
+        while at < out.len() {
+            match self.reader.read(&mut out[at..]) {
+                Ok(count) if count > 0 => at += count,
+                _ => {
+                    self.faults = self.faults.saturating_add(1);
+                    return Err(Failed);
+                }
             }
         }
+        Ok(())
     }
 }

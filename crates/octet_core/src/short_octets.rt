@@ -62,7 +62,7 @@ impl<const MAX: usize> ShortOctets<MAX> {
         self.size == 0
     }
 
-    /// These octets behind the others. Caller: together they are at most `MAX`.
+    /// These octets after the others. Caller: together they are at most `MAX`.
     pub fn extend(&mut self, octets: &[u8])
         requires { length self.old + length octets.now ≤ MAX }
         ensures { self.new ≡ self.old ++ octets.now }

@@ -8,7 +8,7 @@ ghost use Rattle.octet_core.specs.Sink.{Writes};
 use crate::failed::Failed;
 
 /// Where octets go. A sink may tell which octets were written, in `written`, or nothing, and it counts its faults: the
-/// count never falls, stays at `u64::MAX` once it stands there, and a write that does not fail leaves it as it is.
+/// count never falls, stays at `u64::MAX` once it is there, and a write that does not fail leaves it as it is.
 pub trait Sink {
     // the octets written, where the sink tells them
     ghost written: { Self → Option (List ℕ) };
@@ -16,7 +16,7 @@ pub trait Sink {
     // how often a write failed
     ghost faults: { Self → ℕ };
 
-    /// Takes octets from the front of the piece, and answers how many: of a piece that has any at least one. A write
+    /// Takes octets from the front of the piece, and returns how many: of a piece that has any at least one. A write
     /// that fails takes nothing.
     fn write(&mut self, piece: &[u8]) -> Result<usize, Failed>
         ensures bound { WritesAtMost result piece.now }

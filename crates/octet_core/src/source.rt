@@ -8,7 +8,7 @@ ghost use Rattle.octet_core.specs.Source.{Reads};
 use crate::failed::Failed;
 
 /// Where octets come from. A source may tell which octets are to come, in `left`, or nothing, and it counts its faults:
-/// the count never falls, stays at `u64::MAX` once it stands there, and a read that does not fail leaves it as it is.
+/// the count never falls, stays at `u64::MAX` once it is there, and a read that does not fail leaves it as it is.
 pub trait Source {
     // the octets still to come, where the source tells them
     ghost left: { Self → Option (List ℕ) };
@@ -16,7 +16,7 @@ pub trait Source {
     // how often a read failed
     ghost faults: { Self → ℕ };
 
-    /// Puts the next octets into the front of `buf`, and answers how many. For a buffer with room that is 0 only at the
+    /// Puts the next octets into the front of `buf`, and returns how many. For a buffer with room that is 0 only at the
     /// end. A read that fails takes nothing.
     fn read(&mut self, buf: &mut [u8]) -> Result<usize, Failed>
         ensures bound { ReadsAtMost result buf.new }

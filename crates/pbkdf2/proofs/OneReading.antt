@@ -1,15 +1,16 @@
 -- A parameter text gives one value, and an identifier names one algorithm.
-use Rattle.std.proofs.Common.{◌≡◌, ◌≢◌, ℕ, ◌<◌, ◌^◌, inl, inr, List, [], ◌∷◌, sym, refl, ap, ◌∙◌, subst, arith, rules}
-use Rattle.std.specs.Prelude.{codes, decimal, Some}
+use Rattle.std.proofs.Common.{◌≡◌, ◌≢◌, ℕ, ◌<◌, ◌^◌, inl, inr, length, List, [], ◌∷◌, sym, refl, ap, ◌∙◌, subst, arith, rules}
+use Rattle.std.specs.Prelude.{codes, decimal, Option, Some, None, IfSome}
 use Rattle.std.proofs.lemmas.Fmt.{decimal_injective}
 use Rattle.phc_core.specs.ParamsString.{name_in, value_in, pairs_of}
+use Rattle.phc_core.specs.declared.error.Error.{Error}
 use Rattle.phc_core.specs.declared.password_hash.PasswordHash.{PasswordHash}
 use Rattle.pbkdf2.specs.declared.algorithm.Algorithm.{Algorithm}
 use Rattle.pbkdf2.specs.declared.algorithm.Algorithm.TheVariants.{Pbkdf2Sha256, Pbkdf2Sha512}
 use Rattle.pbkdf2.specs.Settings.{Settings, recommended}
 use Rattle.pbkdf2.specs.Algorithm.{identifier_of, derived}
-use Rattle.pbkdf2.specs.Params.{PairLeads, Leads}
-use Rattle.pbkdf2.specs.Hashes.{HasSettings, Agrees}
+use Rattle.pbkdf2.specs.Params.{PairLeads, PairFault, Leads, Fails, GivesSettings, Refuses}
+use Rattle.pbkdf2.specs.Hashes.{HasSettings, RefusesSettings, Agrees}
 use Rattle.pbkdf2.proofs.Written.{i_not_l}
 
 -- a value writes one number
@@ -36,6 +37,39 @@ leads_one (p ∷ ps) s t u h k =
 -- a hash has one value of settings
 pub settings_one : (h : PasswordHash) (s t : Settings) → HasSettings h s → HasSettings h t → s ≡ t
 settings_one h s t a b = leads_one (pairs_of h.params) recommended s t a.params.0 b.params.0
+
+-- settings that are given are not refused
+pair_fault : (name value : List ℕ) (s t : Settings) (e : Error) → PairLeads name value s t → PairFault name value e → ⊥
+pair_fault name value s t e (inl a) (inl f) = f.1 t.rounds a.0
+pair_fault name value s t e (inl a) (inr (inl f)) = i_not_l (sym a.0.0 ∙ f.0)
+pair_fault name value s t e (inl a) (inr (inr f)) = f.0 a.0.0
+pair_fault name value s t e (inr a) (inl f) = i_not_l (sym f.0 ∙ a.0.0)
+pair_fault name value s t e (inr a) (inr (inl f)) = f.1 t.output_len a.0
+pair_fault name value s t e (inr a) (inr (inr f)) = f.1 a.0.0
+
+leads_fail : (ps : List (List ℕ)) (s t : Settings) (e : Error) → Leads ps s t → Fails ps s e → ⊥
+leads_fail [] s t e h f = f
+leads_fail (p ∷ ps) s t e h (inl f) = pair_fault (name_in p) (value_in p) s h.0 e h.1.0 f
+leads_fail (p ∷ ps) s t e h (inr f) =
+    let same = pair_one (name_in p) (value_in p) s h.0 f.0 h.1.0 f.1.0 in
+    leads_fail ps f.0 t e (subst (λ (m : Settings). Leads ps m t) same h.1.1) f.1.1
+
+gives_refuses : (t : List ℕ) (s : Settings) (e : Error) → GivesSettings t s → Refuses t e → ⊥
+gives_refuses t s e h (inl f) = leads_fail (pairs_of t) recommended s e h.0 f
+gives_refuses t s e h (inr f) =
+    let same = leads_one (pairs_of t) recommended s f.0 h.0 f.1.0 in
+    omega (arith, h.1, f.1.1, ap (λ (m : Settings). m.output_len) same)
+
+other_length : (hash : Option (List ℕ)) (n m : ℕ) → n ≡ m → hash ≢ None → IfSome hash (λ o. length o ≡ n) → IfSome hash (λ o. length o ≢ m) → ⊥
+other_length None n m e some is not = some refl
+other_length (Some o) n m e some is not = not (is ∙ e)
+
+pub settings_not_refused : (h : PasswordHash) (s : Settings) (e : Error) → HasSettings h s → RefusesSettings h e → ⊥
+settings_not_refused h s e has (inl f) = f.0 has.version
+settings_not_refused h s e has (inr (inl f)) = gives_refuses h.params s e has.params f.1
+settings_not_refused h s e has (inr (inr f)) =
+    let same = leads_one (pairs_of h.params) recommended s f.1.0 has.params.0 f.1.1.0 in
+    other_length h.hash s.output_len f.1.0.output_len (ap (λ (m : Settings). m.output_len) same) f.2 has.output f.1.2
 
 -- an identifier names one algorithm
 differs : codes "pbkdf2-sha256" ≢ codes "pbkdf2-sha512"

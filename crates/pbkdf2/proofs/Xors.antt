@@ -29,7 +29,7 @@ length-xor_through f u first h e (suc j) =
     let before = length-xor_through f u first h e j in
     length-xor_each (xor_through f first j) (chained f first (suc j)) (before ∙ sym (length-chained f u first h e (suc j))) ∙ before
 
--- a block has the length of an answer
+-- a block has the length of a result
 pub length-block : (f : List ℕ → List ℕ) (u : ℕ) (salt : List ℕ) (r i : ℕ) → ((m : List ℕ) → length (f m) ≡ u) → length (block f salt r i) ≡ u
 length-block f u salt r i h = length-xor_through f u _ h (h _) (max r 1 - 1)
 

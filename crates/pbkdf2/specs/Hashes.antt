@@ -28,7 +28,7 @@ abbrev pub ChosenNone : Option (List ℕ) → Type 0
 ChosenNone None = ⊥
 ChosenNone (Some t) = NamesNone t
 
--- the answer of hashing with an identifier, a version and settings: the hash, or the first of an algorithm that is
+-- the result of hashing with an identifier, a version and settings: the hash, or the first of an algorithm that is
 -- none, a version that is there and a salt of a wrong length
 abbrev pub Customizes : method.Algorithm → List ℕ → List ℕ → Option (List ℕ) → Option ℕ → Settings → Result PasswordHash Error → Type 0
 Customizes own q salt id version s r = MatchResult r
@@ -50,6 +50,10 @@ RefusesSettings h e =
     ⊎ ((h.version ≡ None) × Refuses h.params e)
     ⊎ ((h.version ≡ None) × ((s : Settings) × GivesSettings h.params s × IfSome h.hash (λ o. length o ≢ s.output_len)) × (h.hash ≢ None) × (e ≡ OutputSize))
 
+-- settings that a hash has are not refused
+abbrev pub GivenIsNotRefused : Type 0
+GivenIsNotRefused = (h : PasswordHash) (s : Settings) (e : Error) → HasSettings h s → RefusesSettings h e → ⊥
+
 -- the password is the one of the hash
 pub record Agrees (q : List ℕ) (h : PasswordHash) : Type 0 where
   pub settings : Settings
@@ -70,6 +74,6 @@ Disagrees q h e =
     ⊎ ((h.salt ≢ None) × (h.hash ≢ None) × ((s : Settings) × HasSettings h s) × ((a : method.Algorithm) × (h.algorithm ≡ identifier_of a))
     × (Agrees q h → ⊥) × (e ≡ PasswordInvalid))
 
--- the answer of a test of a password against a hash
+-- the result of a test of a password against a hash
 abbrev pub Verifies : List ℕ → PasswordHash → Result (Unit {0}) Error → Type 0
 Verifies q h r = MatchResult r (λ _. Agrees q h) (Disagrees q h)

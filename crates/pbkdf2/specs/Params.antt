@@ -1,9 +1,9 @@
 -- Parameters of PBKDF2 as a parameter text: `i`, the rounds, and `l`, the length of the output.
 use Rattle.std.specs.Prelude.{◌≡◌, ◌≢◌, ℕ, ◌<◌, ◌≤◌, ◌^◌, ◌⊎◌, List, [], ◌∷◌, ◌++◌, codes, decimal}
-use Rattle.phc_core.specs.ParamsString.{name_in, value_in, pairs_of, decimal_pair}
+use Rattle.phc_core.specs.ParamsString.{IsParams, name_in, value_in, pairs_of, decimal_pair}
 use Rattle.phc_core.specs.declared.error.Error.{Error}
 use Rattle.phc_core.specs.declared.error.Error.TheVariants.{ParamInvalid, ParamsInvalid}
-use Rattle.pbkdf2.specs.Settings.{Settings, recommended}
+use Rattle.pbkdf2.specs.Settings.{InBounds, Settings, recommended}
 
 -- the pair is `i=n`, with n of 1,000 or more
 abbrev pub IsRounds : List ℕ → List ℕ → ℕ → Type 0
@@ -49,3 +49,7 @@ Refuses t e =
 -- the parameter text of settings: the rounds, then the length
 abbrev pub params_text : Settings → List ℕ
 params_text s = decimal_pair (codes "i") s.rounds ++ 44 ∷ decimal_pair (codes "l") s.output_len
+
+-- settings within their bounds have a parameter text, and it gives them back
+abbrev pub WrittenIsReadBack : Type 0
+WrittenIsReadBack = (s : Settings) → InBounds s → IsParams (params_text s) × GivesSettings (params_text s) s

@@ -26,11 +26,11 @@ blocks f salt r (suc n) = blocks f salt r n ++ block f salt r (suc n)
 abbrev pub block_count : ℕ → ℕ → ℕ
 block_count n u = (n + (u - 1)) / u
 
--- n octets, where an answer of f has u
+-- n octets, where an output of f has u
 unfoldable pub pbkdf2 : (List ℕ → List ℕ) → ℕ → List ℕ → ℕ → ℕ → List ℕ
 pbkdf2 f u salt r n = take n (blocks f salt r (block_count n u))
 
--- a shorter output is a prefix of a longer one, for answers of u octets
+-- a shorter output is a prefix of a longer one, for outputs of u octets
 abbrev pub ShorterIsPrefix : Type 0
 ShorterIsPrefix = (f : List ℕ → List ℕ) (u : ℕ) (salt : List ℕ) (r m n : ℕ) → 0 < u → ((t : List ℕ) → length (f t) ≡ u)
     → m ≤ n → take m (pbkdf2 f u salt r n) ≡ pbkdf2 f u salt r m

@@ -8,7 +8,7 @@ use std::sync::ledger::Ledger;
 use steps::Steps;
 
 /// The block of this number, counted from 1, in the first `P::OUTPUT` of 64 octets. `keyed` is the function under the
-/// password, before its first piece. Each answer of the function is a step.
+/// password, before its first piece. Each output of the function is a step.
 pub(crate) fn derive_block<P: Prf, L: Ledger>(
     keyed: &P,
     salt: &[u8],

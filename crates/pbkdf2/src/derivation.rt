@@ -9,7 +9,7 @@ use std::sync::ledger::{Blank, Ledger};
 use steps::Steps;
 
 /// Fills `res` with a key that is derived from a password and a salt, in this number of rounds (RFC 8018 section 5.2);
-/// 0 rounds run like 1. Each answer of the function is a step. `InvalidLength` exactly where the function does not take the password as its
+/// 0 rounds run like 1. Each output of the function is a step. `InvalidLength` exactly where the function does not take the password as its
 /// key; then nothing changes. Caller: `res` has fewer than 2^32 blocks of `P::OUTPUT` octets.
 pub fn pbkdf2_counted<P: Prf, L: Ledger>(
     password: &[u8],
@@ -81,7 +81,7 @@ pub fn pbkdf2<P: Prf>(
     pbkdf2_from::<P, Brand>(password, salt, rounds, res, Blank::new(1))
 }
 
-/// `pbkdf2` that answers an array of `N` octets. `InvalidLength` as there. Caller: they are fewer than 2^32 blocks of
+/// `pbkdf2` that returns an array of `N` octets. `InvalidLength` as there. Caller: they are fewer than 2^32 blocks of
 /// `P::OUTPUT` octets.
 pub fn pbkdf2_array<P: Prf, const N: usize>(
     password: &[u8],

@@ -61,7 +61,10 @@ impl From<Algorithm> for Pbkdf2 {
     ghost from_gives = { λ a h. h ≡ record { algorithm = a; params = recommended_for a } };
 
     fn from(algorithm: Algorithm) -> Self {
-        Pbkdf2::new(algorithm, Params::recommended_for(algorithm))
+        match algorithm {
+            Algorithm::Pbkdf2Sha256 => Pbkdf2::SHA256,
+            Algorithm::Pbkdf2Sha512 => Pbkdf2::SHA512,
+        }
     }
 }
 

@@ -89,7 +89,7 @@ impl PasswordHasher<PasswordHash> for Pbkdf2 {
 
 impl Pbkdf2 {
     /// The hash of a password under a salt of 16 octets that are drawn, by the hasher's algorithm and parameters. `Rng`
-    /// only where the draw failed: where its count of faults rose, or stands at its last value; over a draw that tells
+    /// only where the draw failed: where its count of faults rose, or is at its last value; over a draw that tells
     /// its octets exactly where fewer than 16 remain, and none is taken then.
     pub fn hash_password<D: Draw>(
         &self,

@@ -21,7 +21,7 @@ pub fn pbkdf2_hmac<H: HashFn>(password: &[u8], salt: &[u8], rounds: u32, res: &m
     let _ = pbkdf2::<Hmac<H>>(password, salt, rounds, res);
 }
 
-/// `pbkdf2_hmac` that counts each answer of HMAC as a step. Caller: as there.
+/// `pbkdf2_hmac` that counts each output of HMAC as a step. Caller: as there.
 pub fn pbkdf2_hmac_counted<H: HashFn, L: Ledger>(
     password: &[u8],
     salt: &[u8],
@@ -37,7 +37,7 @@ pub fn pbkdf2_hmac_counted<H: HashFn, L: Ledger>(
     let _ = pbkdf2_counted::<Hmac<H>, L>(password, salt, rounds, res, steps);
 }
 
-/// `pbkdf2_hmac` that answers an array of `N` octets. Caller: they are fewer than 2^32 blocks of `H::OUTPUT` octets.
+/// `pbkdf2_hmac` that returns an array of `N` octets. Caller: they are fewer than 2^32 blocks of `H::OUTPUT` octets.
 pub fn pbkdf2_hmac_array<H: HashFn, const N: usize>(
     password: &[u8],
     salt: &[u8],

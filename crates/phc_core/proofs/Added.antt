@@ -25,7 +25,7 @@ name_comma b h = tests_false 44 b (λ e. grind (arith, h, e))
 value_comma : (b : ℕ) → IsValueOctet b → (b == 44) ≡ false
 value_comma b h = tests_false 44 b (λ e. grind (arith, h, e))
 
--- the first `=` stands behind a name
+-- the first `=` comes after a name
 front_at : (t v : List ℕ) (k : ℕ) → k < length t → get_or (t ++ v) k 0 ≡ get_or t k 0
 front_at t v k lt = get_or_append_left t v 0 k lt
 
@@ -79,6 +79,9 @@ pair_plain name n ident small =
 
 pub name_pair : (name : List ℕ) (n : ℕ) → IsIdent name → name_in (decimal_pair name n) ≡ name
 name_pair name n ident = name_at name (decimal n) (All-weaker IsNameOctet (λ b. (b == 61) ≡ false) name_equals name ident.2)
+
+pub value_pair : (name : List ℕ) (n : ℕ) → IsIdent name → value_in (decimal_pair name n) ≡ decimal n
+value_pair name n ident = value_at name (decimal n) (All-weaker IsNameOctet (λ b. (b == 61) ≡ false) name_equals name ident.2)
 
 -- the text with the pair is a parameter text
 pub params_added : (t name : List ℕ) (n : ℕ) → IsParams t → n < 2 ^ 32 → TakesDecimal t name n → IsParams (with_pair t (decimal_pair name n))

@@ -36,7 +36,7 @@ name_octet b h = λ e. grind (arith, h, e)
 pub ident_no_dollar : (t : List ℕ) → IsIdent t → All (λ b. b ≢ 36) t
 ident_no_dollar t h = All-weaker IsNameOctet (λ b. b ≢ 36) name_octet t h.2
 
-own : IsNumeralModel (AllDigits 10) (digits_value 10)
+pub own : IsNumeralModel (AllDigits 10) (digits_value 10)
 own = numerals_by_value (AllDigits 10) tells_digits
 
 pub decimal_no_dollar : (n : ℕ) → n < 2 ^ 64 → All (λ b. b ≢ 36) (decimal n)

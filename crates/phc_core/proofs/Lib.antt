@@ -6,3 +6,4 @@ pub mod OneValue
 pub mod Ascii
 pub mod Append
 pub mod Added
+pub mod OneLine

@@ -1,6 +1,6 @@
 -- The symbols of Base64.
-use Rattle.std.proofs.Common.{◌≡◌, ◌≢◌, ℕ, zero, suc, ◌+◌, ◌*◌, ◌/◌, ◌%◌, false, List, [], ◌∷◌, length, refl, sym, ap, ◌∙◌, arith, rules, All, slice_index}
-use Rattle.std.specs.Prelude.{Ok, Err, ◌==◌}
+use Rattle.std.proofs.Common.{◌≡◌, ◌≢◌, ℕ, zero, suc, ◌+◌, ◌*◌, ◌/◌, ◌%◌, false, List, [], ◌∷◌, length, refl, sym, ap, ◌∙◌, arith, rules, All, slice_index, ◌<◌, true}
+use Rattle.std.specs.Prelude.{Ok, Err, ◌==◌, nat_lt}
 use Rattle.std.specs.List.{AllByRecursion}
 use Rattle.std.proofs.lemmas.Bool.Decides.{nat_tests}
 use Rattle.std.proofs.lemmas.List.{append-nil}
@@ -13,9 +13,9 @@ use Rattle.base64.specs.GeneralPurpose.{decode_of, IsBytes}
 use Rattle.base64.proofs.EngineFacts.{decode_of-encode_of, decode_of_strict}
 use Rattle.phc_core.specs.PasswordHash.{base64}
 
--- No symbol of Base64 is `$` or `=`.
+-- No symbol of Base64 is `$`, `=` or a line feed, and all are ASCII.
 abbrev pub IsPlain : ℕ → Type 0
-IsPlain b = (b ≢ 36) × (b ≢ 61)
+IsPlain b = (b ≢ 36) × (b ≢ 61) × (b ≢ 10) × (b < 128)
 
 plain_one : (t : List ℕ) (i : ℕ) → ((i : ℕ) → IsPlain (slice_index t i)) → All IsPlain (slice_index t i ∷ [])
 plain_one t i h = All-cons IsPlain (slice_index t i) [] (h i) (All-nil IsPlain)
@@ -40,11 +40,16 @@ symbols_plain t (a ∷ b ∷ c ∷ rest) h =
     (symbols_plain t rest h)
 
 abbrev all_plain : List ℕ → Type 0
-all_plain bs = AllByRecursion (λ b. ((b == 36) ≡ false) × ((b == 61) ≡ false)) bs
+all_plain bs = AllByRecursion (λ b. ((b == 36) ≡ false) × ((b == 61) ≡ false) × ((b == 10) ≡ false) × (nat_lt b 128 ≡ true)) bs
 
 index_plain : (t : List ℕ) → all_plain t → (i : ℕ) → IsPlain (slice_index t i)
-index_plain [] h i = ((λ e. grind (arith, nat_tests, e)), (λ e. grind (arith, nat_tests, e)))
-index_plain (x ∷ xs) h zero = ((λ e. grind (arith, nat_tests, e, h.0.0)), (λ e. grind (arith, nat_tests, e, h.0.1)))
+index_plain [] h i = ((λ e. grind (arith, nat_tests, e)), (λ e. grind (arith, nat_tests, e)), (λ e. grind (arith, nat_tests, e)), omega arith)
+index_plain (x ∷ xs) h zero = (
+  (λ e. grind (arith, nat_tests, e, h.0.0)),
+  (λ e. grind (arith, nat_tests, e, h.0.1)),
+  (λ e. grind (arith, nat_tests, e, h.0.2)),
+  grind (arith, nat_tests, h.0.3),
+)
 index_plain (x ∷ xs) h (suc i) = index_plain xs h.1 i
 
 table_plain : (i : ℕ) → IsPlain (slice_index (standard_no_pad.encode_table) i)

@@ -3,7 +3,7 @@ use Rattle.std.specs.Prelude.{ℕ, List, codes}
 use Rattle.phc_core.specs.declared.error.Error.{Error}
 use Rattle.phc_core.specs.declared.error.Error.TheVariants.{Algorithm, EncodingInvalid, OutputSize, ParamInvalid, ParamsInvalid, PasswordInvalid, SaltInvalid, Version, Rng, Memory}
 
--- a refusal is printed as its name, and want of memory in words
+-- a refusal is printed as its name, and running out of memory in words
 abbrev pub error_text : Error → List ℕ
 error_text Algorithm = codes "Algorithm"
 error_text EncodingInvalid = codes "EncodingInvalid"

@@ -12,11 +12,11 @@ pieces t = slice_split (λ b. b == 44) t
 abbrev pub name_in : List ℕ → List ℕ
 name_in p = before_first (λ b. b == 61) p
 
--- what stands behind the first `=` of a piece
+-- what comes after the first `=` of a piece
 abbrev pub value_in : List ℕ → List ℕ
 value_in p = after_first (λ b. b == 61) p
 
--- a piece that has an `=`, a name in front of it that is not `v`, and a value behind it
+-- a piece that has an `=`, a name in front of it that is not `v`, and a value after it
 abbrev pub IsPair : List ℕ → Type 0
 IsPair p = (position_or_len (λ b. b == 61) p < length p) × IsIdent (name_in p) × (name_in p ≢ codes "v") × IsValue (value_in p)
 

@@ -1,6 +1,6 @@
 -- PHC strings: `$id`, then `$v=n`, `$name=value,name=value`, `$salt` and `$hash`, each where it is there
 -- (the PHC string format, "Specification").
-use Rattle.std.specs.Prelude.{◌≡◌, ℕ, ◌<◌, ◌^◌, Option, Some, None, IfSome, List, [], ◌∷◌, ◌++◌, decimal}
+use Rattle.std.specs.Prelude.{◌≡◌, ◌≢◌, ℕ, All, ◌<◌, ◌^◌, Option, Some, None, IfSome, List, [], ◌∷◌, ◌++◌, decimal}
 use Rattle.base64.specs.Engines.{standard_no_pad}
 use Rattle.base64.specs.GeneralPurpose.{encode_of}
 use Rattle.phc_core.specs.Ident.{IsIdent}
@@ -9,7 +9,7 @@ use Rattle.phc_core.specs.Salt.{IsSalt}
 use Rattle.phc_core.specs.Output.{IsOutput}
 use Rattle.phc_core.specs.declared.password_hash.PasswordHash.{PasswordHash}
 
--- what stands behind a field: nothing, or `$` and the remainder
+-- what comes after a field: nothing, or `$` and the remainder
 abbrev pub tail : Option (List ℕ) → List ℕ
 tail None = []
 tail (Some r) = 36 ∷ r
@@ -64,3 +64,11 @@ OneValue = (t : List ℕ) (h g : PasswordHash) → Phc t h → Phc t g → h ≡
 -- one value has one text
 abbrev pub OneText : Type 0
 OneText = (t u : List ℕ) (h : PasswordHash) → Phc t h → Phc u h → t ≡ u
+
+-- a text is one line of ASCII: each octet is below 128, and none is a line feed (10)
+abbrev pub IsOneLine : List ℕ → Type 0
+IsOneLine t = All (λ b. (b ≢ 10) × (b < 128)) t
+
+-- each text is one line
+abbrev pub OneLine : Type 0
+OneLine = (t : List ℕ) (h : PasswordHash) → Phc t h → IsOneLine t

@@ -1,4 +1,4 @@
--- Remainders of PHC strings, as they are read: nothing, or what stands behind a `$`.
+-- Remainders of PHC strings, as they are read: nothing, or what comes after a `$`.
 use Rattle.std.specs.Prelude.{◌≡◌, ◌≢◌, ℕ, ◌<◌, ◌^◌, Option, Some, None, IfSome, List, ◌++◌, All}
 use Rattle.phc_core.specs.ParamsString.{IsParams}
 use Rattle.phc_core.specs.Salt.{IsSalt}
@@ -11,7 +11,7 @@ abbrev pub seen : Option (Bor (List ℕ)) → Option (List ℕ)
 seen None = None
 seen (Some x) = Some x.now
 
--- f is all before the first `$` of t, and r is what stands behind it
+-- f is all before the first `$` of t, and r is what comes after it
 abbrev pub Cuts : List ℕ → List ℕ → Option (List ℕ) → Type 0
 Cuts t f r = (t ≡ f ++ tail r) × All (λ b. b ≢ 36) f
 

@@ -1,13 +1,16 @@
 //! Identifiers.
-ghost use Rattle.std.specs.Prelude.{◌≡◌, All, IfOk, IfErr, nat_eq};
+ghost use Rattle.std.specs.Prelude.{◌≡◌, All, IfOk, IfErr, nat_eq, refl};
 ghost use Rattle.std.specs.Bool.{Decides};
-ghost use Rattle.std.specs.Cmp.Lexicographic.{pointwise};
+ghost use Rattle.std.specs.Cmp.{partial_order_from_own_ties};
+ghost use Rattle.std.specs.Cmp.Lexicographic.{pointwise, slice_cmp};
+ghost use Rattle.std.specs.Ordering.{as_partial_cmp, nat_cmp};
 ghost use Rattle.std.specs.Cmp.Rules.{comparing};
 ghost use Rattle.std.proofs.Common.{rules};
 ghost use Rattle.phc_core.specs.Ident.{IsNameOctet, IsIdent};
 
 use crate::error::Error;
 use octet_core::ShortOctets;
+use std::cmp::Ordering;
 use std::marker::Model;
 
 /// An identifier, as of an algorithm, or the name of a parameter: 1 to 32 characters of `a-z0-9-`.
@@ -67,6 +70,32 @@ impl PartialEq for Ident {
 
 impl Eq for Ident {
     ghost laws = { Prim.search (comparing, rules) };
+}
+
+impl PartialOrd for Ident {
+    ghost partial_cmp = { as_partial_cmp (slice_cmp nat_cmp) };
+
+    ghost laws = { partial_order_from_own_ties (Prim.search (comparing, rules))
+        (Prim.search (comparing, rules)) };
+
+    fn partial_cmp(&self, other: &Ident) -> Option<Ordering> {
+        Some(self.cmp(other))
+    }
+}
+
+/// By octets.
+impl Ord for Ident {
+    ghost cmp = { slice_cmp nat_cmp };
+
+    ghost total = { Prim.search (comparing, rules) };
+
+    ghost matches_partial_cmp = { λ x y. refl };
+
+    ghost matches_eq = { Prim.search (comparing, rules) };
+
+    fn cmp(&self, other: &Ident) -> Ordering {
+        self.octets.as_slice().cmp(other.octets.as_slice())
+    }
 }
 
 fn is_name_octet(b: u8) -> bool

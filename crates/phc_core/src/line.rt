@@ -51,7 +51,7 @@ impl Line {
     }
 }
 
-/// The text and a comma, which a pair comes behind; nothing where the text is empty. `ParamsInvalid` exactly where it has
+/// The text and a comma, which a pair comes after; nothing where the text is empty. `ParamsInvalid` exactly where it has
 /// more than 127 octets.
 fn line_before_pair(text: &str) -> Result<Line, Error>
     ensures ok { IfOk result (λ l. l ≡ with_pair text.now []) }

@@ -6,7 +6,7 @@ ghost use Rattle.phc_core.specs.ParamsString.{IsPair, LacksName, ArePairs, piece
 use crate::ident::{Ident, is_ident};
 use crate::value::{Value, is_value};
 
-/// The first piece of a parameter text, and what stands behind its comma.
+/// The first piece of a parameter text, and what comes after its comma.
 fn first_piece(text: &str) -> Option<(&str, &str)>
     ensures { MatchOption result (pieces text.now ≡ text.now ∷ [])
         (λ x. (pieces text.now ≡ x.0.now ∷ pieces x.1.now) × (length x.1.now < length text.now)) }

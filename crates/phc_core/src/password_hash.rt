@@ -24,7 +24,7 @@ pub struct PasswordHash {
     pub version: Option<Decimal>,
     pub params: ParamsString,
     pub salt: Option<Salt>,
-    /// The output. It has a place in the text only behind a salt.
+    /// The output. It has a place in the text only after a salt.
     pub hash: Option<Output>,
 }
 

@@ -1,5 +1,5 @@
 //! Reading a PHC string, field by field. Each step takes a remainder: nothing where the text has ended, or what stands
-//! behind a `$`.
+//! after a `$`.
 ghost use Rattle.std.specs.Prelude.{◌≡◌, ◌≢◌, ℕ, ◌∷◌, List, All, IfOk, IfErr, MatchOption};
 ghost use Rattle.std.specs.Bool.{Decides};
 ghost use Rattle.phc_core.specs.Remainders.{seen, Cuts, HashRest, SaltRest, ParamsRest, VersionRest, NoHashRest, NoSaltRest, NoParamsRest, NoVersionRest};
@@ -11,7 +11,7 @@ use crate::params_string::ParamsString;
 use crate::salt::Salt;
 use octet_core::decimal_of;
 
-/// The first field of a text, and what stands behind its `$`.
+/// The first field of a text, and what comes after its `$`.
 pub(crate) fn cut(text: &str) -> (&str, Option<&str>)
     ensures { Cuts text.now result.0.now (seen result.1) }
 {
@@ -21,7 +21,7 @@ pub(crate) fn cut(text: &str) -> (&str, Option<&str>)
     }
 }
 
-/// What stands behind `v=` in a field that begins so.
+/// What comes after `v=` in a field that begins so.
 fn version_digits(field: &str) -> Option<&str>
     ensures { MatchOption result ((r : List ℕ) → field.now ≡ 118 ∷ 61 ∷ r → ⊥)
         (λ x. field.now ≡ 118 ∷ 61 ∷ x.now) }

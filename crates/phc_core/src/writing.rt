@@ -56,7 +56,7 @@ fn write_params<W: fmt::Write>(
     write_salt(salt, hash, f)
 }
 
-/// Writes all that stands behind the identifier.
+/// Writes all that comes after the identifier.
 pub(crate) fn write_version<W: fmt::Write>(
     hash: &PasswordHash,
     f: &mut fmt::Formatter<W>,

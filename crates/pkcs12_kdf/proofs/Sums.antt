@@ -25,7 +25,7 @@ number_drop xs i k e =
     let n : length (drop (i + 1) xs) ≡ k = length-drop (i + 1) xs ∙ omega arith in
     ap number (drop_more xs i 0 l) ∙ ap (λ m. get_or xs i 0 * 256 ^ m + number (drop (i + 1) xs)) n
 
--- one octet more is added: p is the worth of the octet, o and a what the octets behind it denote
+-- one octet more is added: p is the worth of the octet, o and a what the octets after it denote
 pub carry_step : (x y c p n o a : ℕ) → n + c * p ≡ o + a + 1 → ((x + y + c) % 256 * p + n) + (x + y + c) / 256 * (256 * p) ≡ (x * p + o) + (y * p + a) + 1
 carry_step x y c p n o a h =
     let s = x + y + c in

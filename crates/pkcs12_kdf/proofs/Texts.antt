@@ -75,7 +75,7 @@ length-fill x = length-map-range_with_len (λ i. get_or x (i % length x) 0) 0 (6
 pub length-fills : (q s : List ℕ) → length (fill s ++ fill q) ≡ 64 * ((length s + 63) / 64 + (length q + 63) / 64)
 length-fills q s = length-append (fill s) (fill q) ∙ omega (arith, length-fill s, length-fill q)
 
--- the first n octets of answers of u octets each
+-- the first n octets of outputs of u octets each
 pub length-answers : (run : List ℕ → List ℕ) (first : List ℕ) (u j : ℕ) → ((i : List ℕ) → length (run i) ≡ u) → length (answers run first j) ≡ j * u
 unfolding answers
 length-answers run first u zero h = sym (zero-mul u)

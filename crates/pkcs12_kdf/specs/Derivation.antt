@@ -21,21 +21,21 @@ hashed h (suc r) m = h (hashed h r m)
 abbrev pub answer : (List ℕ → List ℕ) → ℕ → ℕ → List ℕ → List ℕ
 answer h r id inputs = hashed h r (replicate 64 id ++ flat_map (octets 64) inputs)
 
--- each input plus the answer, repeated to a block, plus 1
+-- each input plus the result, repeated to a block, plus 1
 abbrev pub next_inputs : List ℕ → List ℕ → List ℕ
 next_inputs a inputs = map (λ x. (x + number (repeat_to 64 a) + 1) % 2 ^ 512) inputs
 
--- the inputs of turn j, counted from 0, where `run` gives the answer at inputs
+-- the inputs of turn j, counted from 0, where `run` gives the result at inputs
 unfoldable pub inputs_at : (List ℕ → List ℕ) → List ℕ → ℕ → List ℕ
 inputs_at run first zero = first
 inputs_at run first (suc j) = next_inputs (run (inputs_at run first j)) (inputs_at run first j)
 
--- the answers of the first j turns
+-- the outputs of the first j turns
 unfoldable pub answers : (List ℕ → List ℕ) → List ℕ → ℕ → List ℕ
 answers run first zero = []
 answers run first (suc j) = answers run first j ++ run (inputs_at run first j)
 
--- the least number of answers of u octets that have n octets together
+-- the least number of outputs of u octets that have n octets together
 abbrev pub turns : ℕ → ℕ → ℕ
 turns n u = (n + (u - 1)) / u
 

@@ -32,7 +32,7 @@ pub struct Derivation<'a> {
     pub rounds: u64,
 }
 
-/// The answer at the inputs, which come as blocks of octets. Each application of the hash is a step.
+/// The result at the inputs, which come as blocks of octets. Each application of the hash is a step.
 fn hash_rounds<H: HashFn, L: Ledger>(
     id: u8,
     input: &[u8],
@@ -70,7 +70,7 @@ fn push_filled(out: &mut Vec<u8>, text: &[u8]) -> Result<(), AllocError>
     Ok(())
 }
 
-/// The salt and the password behind it, each repeated to a multiple of 64 octets.
+/// The salt and the password after it, each repeated to a multiple of 64 octets.
 fn first_inputs(alloc: Global, salt: &[u8], password: &[u8]) -> Result<Vec<u8>, AllocError>
     requires salt { length salt.now < 2 ^ 59 }
     requires password { length password.now < 2 ^ 59 }
@@ -110,7 +110,7 @@ fn hmac_of<H: HashFn>(key: &[u8], content: &[u8]) -> [u8; 64]
 
 impl<'a> Derivation<'a> {
     /// `size` octets for the purpose `id`: `KEY_ID`, `IV_ID` or `MAC_ID` (RFC 7292 appendix B.2); another number is not refused.
-    /// The only refusal is want of memory. Each answer of the hash that `size` octets need takes `rounds` steps; a refusal takes
+    /// The only refusal is `Memory`. Each output of the hash that `size` octets need takes `rounds` steps; a refusal takes
     /// no more than all of them.
     ///
     /// Caller: `H::BLOCK` is 64, `rounds` at least 1, `size` at most 2^32, password and salt of fewer than 2^59 octets each.
@@ -180,8 +180,8 @@ impl<'a> Derivation<'a> {
         self.key_from::<H, Brand>(alloc, id, size, Blank::new(1))
     }
 
-    /// The MAC of a content under the hash `H`, whose key has as many octets as an answer of the hash (RFC 7292 appendix B.4). The
-    /// only refusal is want of memory. Each round is a step.
+    /// The MAC of a content under the hash `H`, whose key has as many octets as an output of the hash (RFC 7292 appendix B.4). The
+    /// only refusal is running out of memory. Each round is a step.
     ///
     /// Caller: `H::BLOCK` is 64, `rounds` at least 1, password and salt of fewer than 2^59 octets each.
     pub fn mac_counted<H: HashFn, L: Ledger>(

@@ -18,8 +18,8 @@ fn push_char(out: &mut Vec<u8>, character: char) -> Result<(), AllocError>
 }
 
 /// A password as `Derivation` takes it (RFC 7292 appendix B.1): its UTF-16, the higher octet of each unit first, and two zero
-/// octets behind it, also for the empty password. These are at most four octets for each of the text, and two. The only refusal
-/// is want of memory.
+/// octets after it, also for the empty password. These are at most four octets for each of the text, and two. The only refusal
+/// is running out of memory.
 pub fn utf16_password(alloc: Global, text: &str) -> Result<Octets, AllocError>
     ensures ok { IfOk result (λ q. q ≡ bmp_password text.now) }
     ensures size { IfOk result (λ q. length q ≤ 4 * length text.now + 2) }

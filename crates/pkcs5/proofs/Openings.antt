@@ -32,7 +32,7 @@ des_blocks : (key : List ℕ) → GivesBlocks 8 (inv_des key)
 unfolding under_keys
 des_blocks key b = length-octets_of_bits 8 _
 
-tdes_blocks : (key : List ℕ) → GivesBlocks 8 (inv_tdes key)
+pub tdes_blocks : (key : List ℕ) → GivesBlocks 8 (inv_tdes key)
 unfolding inv_tdes under_keys
 tdes_blocks key b = length-octets_of_bits 8 _
 
@@ -54,14 +54,14 @@ length_16 D blocks iv c m h =
     sym (length_opened 16 D blocks iv c (length c / 16) (omega arith) ∙ all) ∙ ap length h.text
     ∙ length-append m (replicate (pad_count 16 (length m)) (pad_count 16 (length m))) ∙ ap (λ (n : ℕ). length m + n) (length-replicate (pad_count 16 (length m)) (pad_count 16 (length m)))
 
-length_8 : (D : List ℕ → List ℕ) → GivesBlocks 8 D → (iv c m : List ℕ) → Decrypts 8 D iv c m → length c ≡ length m + pad_count 8 (length m)
+pub length_8 : (D : List ℕ → List ℕ) → GivesBlocks 8 D → (iv c m : List ℕ) → Decrypts 8 D iv c m → length c ≡ length m + pad_count 8 (length m)
 length_8 D blocks iv c m h =
     let whole : length c % 8 ≡ 0 = h.blocks.whole in
     let all : 8 * (length c / 8) ≡ length c = omega arith in
     sym (length_opened 8 D blocks iv c (length c / 8) (omega arith) ∙ all) ∙ ap length h.text
     ∙ length-append m (replicate (pad_count 8 (length m)) (pad_count 8 (length m))) ∙ ap (λ (n : ℕ). length m + n) (length-replicate (pad_count 8 (length m)) (pad_count 8 (length m)))
 
-length_by : (e : EncryptionScheme) (key c m : List ℕ) → OpensBy e key c m → length c ≡ ciphertext_size e (length m)
+pub length_by : (e : EncryptionScheme) (key c m : List ℕ) → OpensBy e key c m → length c ≡ ciphertext_size e (length m)
 unfolding OpensBy
 length_by (Aes128Cbc iv) key c m h = length_16 _ (aes_blocks _ _) iv c m h
 length_by (Aes192Cbc iv) key c m h = length_16 _ (aes_blocks _ _) iv c m h

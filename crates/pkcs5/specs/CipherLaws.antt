@@ -16,10 +16,11 @@ use Rattle.asn1_core.specs.StandLaws.{whole_found}
 use Rattle.der_core.specs.Any.{AnyText}
 use Rattle.spki.specs.Algorithm.{algorithm, AlgorithmOf}
 use Rattle.pkcs5.specs.Kinds.{cipher_oid, iv_of, iv_size}
-use Rattle.pkcs5.specs.Cipher.{IsCipher, cipher_content, CipherOf, CipherText, cipher_named, cipher_with, cipher_in, cipher_of, cipher_at}
+use Rattle.pkcs5.specs.Cipher.{IsCipher, cipher_content, CipherOf, CipherText}
 use Rattle.pkcs5.specs.JudgedLaws.{Judges, made_of-exact, if_test, any_is}
 use Rattle.pkcs5.specs.declared.pbes2.encryption_scheme.EncryptionScheme.{EncryptionScheme}
 use Rattle.pkcs5.specs.declared.pbes2.encryption_scheme.EncryptionScheme.TheVariants.{Aes128Cbc, Aes192Cbc, Aes256Cbc, Aes128Gcm, Aes256Gcm, DesEde3Cbc, DesCbc}
+use Rattle.pkcs5.specs.Reading.{cipher_named, cipher_with, cipher_in, cipher_of, cipher_at}
 
 -- the identifier and the initialization vector of a cipher
 abbrev Named : List ℕ → List ℕ → EncryptionScheme → Type 0

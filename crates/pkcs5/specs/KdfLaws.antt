@@ -13,14 +13,15 @@ use Rattle.asn1_core.specs.ElementLaws.{within-exact}
 use Rattle.der_core.specs.Any.{AnyText}
 use Rattle.spki.specs.Algorithm.{AlgorithmOf}
 use Rattle.pkcs5.specs.Identifiers.{pbkdf2_oid, scrypt_oid}
-use Rattle.pkcs5.specs.Pbkdf2Params.{Pbkdf2ParamsOf, pbkdf2_params_of, pbkdf2_params_in, pbkdf2_params_content}
+use Rattle.pkcs5.specs.Pbkdf2Params.{Pbkdf2ParamsOf, pbkdf2_params_content}
 use Rattle.pkcs5.specs.Pbkdf2ParamsLaws.{pbkdf2_params_of-exact, pbkdf2_params_canonical, pbkdf2_params_spelled}
-use Rattle.pkcs5.specs.ScryptParams.{ScryptParamsOf, scrypt_params_of, scrypt_params_in, scrypt_params_content}
+use Rattle.pkcs5.specs.ScryptParams.{ScryptParamsOf, scrypt_params_content}
 use Rattle.pkcs5.specs.ScryptParamsLaws.{scrypt_params_of-exact, scrypt_params_canonical, scrypt_params_spelled}
-use Rattle.pkcs5.specs.Kdf.{KdfOf, KdfText, kdf_content, IsKdf, SpellsKdf, kdf_with, kdf_in, kdf_of, kdf_at}
+use Rattle.pkcs5.specs.Kdf.{KdfOf, KdfText, kdf_content, IsKdf, SpellsKdf}
 use Rattle.pkcs5.specs.JudgedLaws.{Judges, JudgesWith, with_judges, made_of-exact, if_test, row_found, row_again}
 use Rattle.pkcs5.specs.declared.pbes2.kdf.Kdf.{Kdf}
 use Rattle.pkcs5.specs.declared.pbes2.kdf.Kdf.TheVariants.{Pbkdf2, Scrypt}
+use Rattle.pkcs5.specs.Reading.{pbkdf2_params_of, pbkdf2_params_in, scrypt_params_of, scrypt_params_in, kdf_with, kdf_in, kdf_of, kdf_at}
 
 pbkdf2_found : (o : ObjectIdentifier) (x : ℕ × List ℕ) (k : Kdf) → oid_octets o ≡ pbkdf2_oid → (pbkdf2_params_in x >>= λ v. Ok (Pbkdf2 v)) ≡ Ok k → KdfOf (oid (oid_octets o) ++ el x.0 x.1) k
 pbkdf2_found o x k same e =

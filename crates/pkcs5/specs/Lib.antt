@@ -11,6 +11,7 @@ pub mod Cipher
 pub mod Parameters
 pub mod Pbes1
 pub mod Scheme
+pub mod Reading
 pub mod JudgedLaws
 pub mod PrfLaws
 pub mod Pbkdf2ParamsLaws

@@ -60,7 +60,7 @@ StatesLength kdf n = IfSome (stated_length kdf) (λ stated. stated ≡ n)
 abbrev pub states_length : Kdf → ℕ → Bool
 states_length kdf n = elim (stated_length kdf) [ None ↦ true | Some stated ↦ stated == n ]
 
--- the answers of the pseudorandom function of PBKDF2 that a round of n octets of key takes
+-- the outputs of the pseudorandom function of PBKDF2 that a round of n octets of key takes
 abbrev pub answers_of : Kdf → ℕ → ℕ
 answers_of (Pbkdf2 p) n = block_count n (prf_output p.prf)
 answers_of (Scrypt p) n = 0
@@ -114,7 +114,7 @@ LeftBy (Aes256Gcm nonce) key before now = now ≡ before
 LeftBy (DesEde3Cbc iv) key before now = LeftBlocks 8 (inv_tdes key) iv before now
 LeftBy (DesCbc iv) key before now = LeftBlocks 8 (inv_des key) iv before now
 
--- what stands behind len octets of text in a buffer where they were decrypted: the padding in CBC, and in GCM the tag
+-- what comes after len octets of text in a buffer where they were decrypted: the padding in CBC, and in GCM the tag
 unfoldable pub IsBehind : EncryptionScheme → List ℕ → List ℕ → ℕ → Type 0
 IsBehind (Aes128Cbc iv) before now len = now ≡ padded (take len now) 16
 IsBehind (Aes192Cbc iv) before now len = now ≡ padded (take len now) 16
@@ -140,7 +140,7 @@ ciphertext_size (DesCbc iv) n = n + pad_count 8 n
 abbrev pub FitsKey : Parameters → Type 0
 FitsKey par = GivesKey par.kdf (key_size par.encryption)
 
--- the answers of the pseudorandom function that a round takes
+-- the outputs of the pseudorandom function that a round takes
 abbrev pub steps_of : Parameters → ℕ
 steps_of par = answers_of par.kdf (key_size par.encryption)
 

@@ -1,12 +1,9 @@
 -- PBES2-params (RFC 8018 appendix A.4): SEQUENCE { keyDerivationFunc, encryptionScheme }.
-use Rattle.std.specs.Prelude.{◌≡◌, ℕ, List, ◌++◌, Result}
+use Rattle.std.specs.Prelude.{◌≡◌, ℕ, List, ◌++◌}
 use Rattle.asn1_core.specs.Der.{seq, el}
-use Rattle.asn1_core.specs.Reading.{Fault, All, Front, ◌>>=◌, any_tag, on, ended, whole, within}
 use Rattle.asn1_core.specs.Texts.{Within}
-use Rattle.der_core.specs.Any.{any_at}
-use Rattle.spki.specs.Algorithm.{algorithm_at}
-use Rattle.pkcs5.specs.Kdf.{KdfText, kdf_content, IsKdf, SpellsKdf, kdf_in}
-use Rattle.pkcs5.specs.Cipher.{CipherText, cipher_content, IsCipher, cipher_in}
+use Rattle.pkcs5.specs.Kdf.{KdfText, kdf_content, IsKdf, SpellsKdf}
+use Rattle.pkcs5.specs.Cipher.{CipherText, cipher_content, IsCipher}
 use Rattle.pkcs5.specs.declared.pbes2.kdf.Kdf.{Kdf}
 use Rattle.pkcs5.specs.declared.pbes2.encryption_scheme.EncryptionScheme.{EncryptionScheme}
 use Rattle.pkcs5.specs.declared.pbes2.parameters.Parameters.{Parameters}
@@ -33,17 +30,3 @@ AreParameters v = IsKdf v.kdf × IsCipher v.encryption
 -- which texts spell the parameters: a spelling of the function, and the cipher
 abbrev pub SpellsParameters : List ℕ → Parameters → Type 0
 SpellsParameters b v = (k : List ℕ) × SpellsKdf k v.kdf × (b ≡ seq (k ++ seq (cipher_content v.encryption)))
-
--- ---- reading
-
--- both are read as algorithms with any parameters before one of them is judged
-abbrev pub parameters_of : All Parameters
-parameters_of = on (algorithm_at any_tag any_at) (λ f. on (algorithm_at any_tag any_at) (λ e rest.
-    kdf_in f >>= λ k. cipher_in e >>= λ c. ended (parameters k c) rest))
-
-abbrev pub parameters_at : Front Parameters
-parameters_at = within 0x30 parameters_of
-
--- the parameters that an element is, given by its tag octet and its value
-abbrev pub parameters_in : ℕ × List ℕ → Result Parameters Fault
-parameters_in p = whole parameters_at (el p.0 p.1)

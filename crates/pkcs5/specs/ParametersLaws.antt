@@ -11,13 +11,14 @@ use Rattle.der_core.specs.Any.{AnyText, any_at}
 use Rattle.spki.specs.Algorithm.{AlgorithmOf, AlgorithmText, algorithm_at}
 use Rattle.spki.specs.AlgorithmLaws.{algorithm-exact}
 use Rattle.spki.specs.AnyLaws.{any-exact, any-whole}
-use Rattle.pkcs5.specs.Kdf.{KdfOf, KdfText, kdf_content, kdf_in}
+use Rattle.pkcs5.specs.Kdf.{KdfOf, KdfText, kdf_content}
 use Rattle.pkcs5.specs.KdfLaws.{kdf-judges, kdf_canonical, kdf_spelled}
-use Rattle.pkcs5.specs.Cipher.{CipherOf, CipherText, cipher_content, cipher_in}
+use Rattle.pkcs5.specs.Cipher.{CipherOf, CipherText, cipher_content}
 use Rattle.pkcs5.specs.CipherLaws.{cipher-judges, cipher_canonical, cipher_spelled}
-use Rattle.pkcs5.specs.Parameters.{parameters, ParametersOf, ParametersText, parameters_content, AreParameters, SpellsParameters, parameters_of, parameters_at}
+use Rattle.pkcs5.specs.Parameters.{parameters, ParametersOf, ParametersText, parameters_content, AreParameters, SpellsParameters}
 use Rattle.pkcs5.specs.JudgedLaws.{inside_judges, Together, together-exact}
 use Rattle.pkcs5.specs.declared.pbes2.parameters.Parameters.{Parameters}
+use Rattle.pkcs5.specs.Reading.{kdf_in, cipher_in, parameters_of, parameters_at}
 
 abbrev Both : List ℕ → Parameters → Type 0
 Both = Together (AlgorithmText AnyText) (AlgorithmText AnyText) (algorithm_at any_tag any_at) (algorithm_at any_tag any_at) kdf_in cipher_in KdfText CipherText parameters

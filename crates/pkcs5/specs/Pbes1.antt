@@ -1,13 +1,7 @@
 -- PBES1 (RFC 8018 section 6.1 and appendix A.3): an algorithm of six, SEQUENCE { algorithm, PBEParameter }.
-use Rattle.std.specs.Prelude.{if◌then◌else◌, ◌≡◌, ◌≤◌, ℕ, List, ◌++◌, length, Option, Some, None, Result, Ok, Err, nat_eq}
-use Rattle.std.specs.Str.{bytes_eq}
+use Rattle.std.specs.Prelude.{◌≡◌, ◌≤◌, ℕ, List, ◌++◌, length}
 use Rattle.asn1_core.specs.Der.{oid, octets, uint, el}
-use Rattle.asn1_core.specs.Oid.{oid_octets}
-use Rattle.asn1_core.specs.Reading.{Fault, Bad, All, Front, ◌>>=◌, where_ok, whole, on, ended, within, uint_at, known_in}
 use Rattle.asn1_core.specs.Texts.{Within, Uint}
-use Rattle.asn1_core.specs.declared.identifier.ObjectIdentifier.{ObjectIdentifier}
-use Rattle.spki.specs.Made.{made_of}
-use Rattle.spki.specs.Seen.{AnyAlgorithm}
 use Rattle.pkcs5.specs.Identifiers.{pbe_with_md2_and_des_cbc_oid, pbe_with_md5_and_des_cbc_oid, pbe_with_md2_and_rc2_cbc_oid, pbe_with_md5_and_rc2_cbc_oid, pbe_with_sha1_and_des_cbc_oid, pbe_with_sha1_and_rc2_cbc_oid}
 use Rattle.pkcs5.specs.declared.pbes1.algorithm.Algorithm.{Algorithm}
 use Rattle.pkcs5.specs.declared.pbes1.parameters.Parameters.{Parameters}
@@ -64,19 +58,6 @@ pbe_params_content v = octets v.salt ++ uint v.iteration_count
 abbrev pub ArePbeParams : Parameters → Type 0
 ArePbeParams v = (length v.salt ≡ 8) × (v.iteration_count ≤ 65535)
 
-abbrev pub pbe_salt_of : All (List ℕ)
-pbe_salt_of b = where_ok (nat_eq (length b) 8) b
-
-abbrev pub pbe_params_of : All Parameters
-pbe_params_of = on (within 0x04 pbe_salt_of) (λ s. on (uint_at 65535) (λ n. ended (pbe_params s n)))
-
-abbrev pub pbe_params_at : Front Parameters
-pbe_params_at = within 0x30 pbe_params_of
-
--- the parameters that an element is, given by its tag octet and its value
-abbrev pub pbe_params_in : ℕ × List ℕ → Result Parameters Fault
-pbe_params_in p = whole pbe_params_at (el p.0 p.1)
-
 -- ---- the algorithm
 
 abbrev pub pbe : EncryptionScheme → Parameters → Algorithm
@@ -92,29 +73,3 @@ PbeText = Within 0x30 PbeOf
 -- the value octets that are written: no others
 abbrev pub pbe_content : Algorithm → List ℕ
 pbe_content a = oid (pbe_oid a.encryption) ++ el 0x30 (pbe_params_content a.parameters)
-
--- ---- reading
-
--- the scheme that an identifier names
-abbrev pub pbe_named : ObjectIdentifier → Option EncryptionScheme
-pbe_named o =
-    if bytes_eq (oid_octets o) pbe_with_md2_and_des_cbc_oid then Some PbeWithMd2AndDesCbc
-    else (if bytes_eq (oid_octets o) pbe_with_md2_and_rc2_cbc_oid then Some PbeWithMd2AndRc2Cbc
-    else (if bytes_eq (oid_octets o) pbe_with_md5_and_des_cbc_oid then Some PbeWithMd5AndDesCbc
-    else (if bytes_eq (oid_octets o) pbe_with_md5_and_rc2_cbc_oid then Some PbeWithMd5AndRc2Cbc
-    else (if bytes_eq (oid_octets o) pbe_with_sha1_and_des_cbc_oid then Some PbeWithSha1AndDesCbc
-    else (if bytes_eq (oid_octets o) pbe_with_sha1_and_rc2_cbc_oid then Some PbeWithSha1AndRc2Cbc else None)))))
-
--- by the identifier, which has to be one of the six, and then the parameters
-unfoldable pub pbe_with : ObjectIdentifier → ℕ × List ℕ → Result Algorithm Fault
-pbe_with o p = known_in Bad (pbe_named o) >>= λ e. (pbe_params_in p >>= λ v. Ok (pbe e v))
-
--- the algorithm of PBES1 that an algorithm is: it has to have parameters
-unfoldable pub pbe_in : AnyAlgorithm → Result Algorithm Fault
-pbe_in a = elim a.parameters [ None ↦ Err Bad | Some p ↦ pbe_with a.oid p ]
-
-abbrev pub pbe_of : All Algorithm
-pbe_of = made_of pbe_in
-
-abbrev pub pbe_at : Front Algorithm
-pbe_at = within 0x30 pbe_of

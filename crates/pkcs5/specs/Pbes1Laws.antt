@@ -17,12 +17,13 @@ use Rattle.asn1_core.specs.NumberLaws.{uint-exact}
 use Rattle.der_core.specs.Any.{AnyText}
 use Rattle.spki.specs.Algorithm.{AlgorithmOf}
 use Rattle.pkcs5.specs.Identifiers.{pbes2_oid}
-use Rattle.pkcs5.specs.Pbes1.{pbe_oid, pbe_params, PbeSaltOf, PbeParamsOf, PbeParamsText, pbe_params_content, ArePbeParams, pbe_salt_of, pbe_params_of, pbe_params_in, pbe, PbeOf, PbeText, pbe_content, pbe_named, pbe_with, pbe_in, pbe_of, pbe_at}
+use Rattle.pkcs5.specs.Pbes1.{pbe_oid, pbe_params, PbeSaltOf, PbeParamsOf, PbeParamsText, pbe_params_content, ArePbeParams, pbe, PbeOf, PbeText, pbe_content}
 use Rattle.pkcs5.specs.JudgedLaws.{Judges, JudgesWith, with_judges, made_of-exact, if_test, row_found, row_again}
 use Rattle.pkcs5.specs.declared.pbes1.algorithm.Algorithm.{Algorithm}
 use Rattle.pkcs5.specs.declared.pbes1.parameters.Parameters.{Parameters}
 use Rattle.pkcs5.specs.declared.pbes1.encryption_scheme.EncryptionScheme.{EncryptionScheme}
 use Rattle.pkcs5.specs.declared.pbes1.encryption_scheme.EncryptionScheme.TheVariants.{PbeWithMd2AndDesCbc, PbeWithMd2AndRc2Cbc, PbeWithMd5AndDesCbc, PbeWithMd5AndRc2Cbc, PbeWithSha1AndDesCbc, PbeWithSha1AndRc2Cbc}
+use Rattle.pkcs5.specs.Reading.{pbe_salt_of, pbe_params_of, pbe_params_in, pbe_named, pbe_with, pbe_in, pbe_of, pbe_at}
 
 -- ---- parameters
 

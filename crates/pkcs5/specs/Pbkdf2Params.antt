@@ -1,12 +1,11 @@
 -- PBKDF2-params (RFC 8018 appendix A.2): SEQUENCE { salt, iterationCount, keyLength OPTIONAL, prf DEFAULT algid-hmacWithSHA1 }.
-use Rattle.std.specs.Prelude.{◌≡◌, ◌≤◌, ℕ, List, ◌++◌, Option, Some, None, Result, ◌==◌}
+use Rattle.std.specs.Prelude.{◌≡◌, ◌≤◌, ℕ, List, ◌++◌, Option, Some, None}
 use Rattle.asn1_core.specs.Der.{octets, uint, seq, el}
 use Rattle.asn1_core.specs.Fields.{OrNothing}
-use Rattle.asn1_core.specs.Reading.{Fault, All, Front, whole, on, ended, within, option_at, uint_at}
 use Rattle.asn1_core.specs.Texts.{Within, Uint, Perhaps}
 use Rattle.der_core.specs.Optional.{canon_option, writable_option}
-use Rattle.pkcs5.specs.Salt.{IsSalt, SaltOf, salt_of}
-use Rattle.pkcs5.specs.Pbkdf2Prf.{PrfText, SpellsPrf, prf_content, prf_of}
+use Rattle.pkcs5.specs.Salt.{IsSalt, SaltOf}
+use Rattle.pkcs5.specs.Pbkdf2Prf.{PrfText, SpellsPrf, prf_content}
 use Rattle.pkcs5.specs.declared.pbes2.pbkdf2_params.Pbkdf2Params.{Pbkdf2Params}
 use Rattle.pkcs5.specs.declared.pbes2.pbkdf2_prf.Pbkdf2Prf.{Pbkdf2Prf}
 use Rattle.pkcs5.specs.declared.pbes2.pbkdf2_prf.Pbkdf2Prf.TheVariants.{HmacWithSha1, HmacWithSha224, HmacWithSha256, HmacWithSha384, HmacWithSha512}
@@ -48,20 +47,3 @@ ArePbkdf2Params v = IsSalt v.salt × (v.iteration_count ≤ 4294967295) × writa
 -- which texts spell the parameters: HMAC over SHA-1 is left out, or the function is spelled
 abbrev pub SpellsPbkdf2Params : List ℕ → Pbkdf2Params → Type 0
 SpellsPbkdf2Params b v = (f : List ℕ) × OrNothing HmacWithSha1 SpellsPrf f v.prf × (b ≡ seq (before_prf v ++ f))
-
--- ---- reading
-
-abbrev pub prf_or_default : Option Pbkdf2Prf → Pbkdf2Prf
-prf_or_default None = HmacWithSha1
-prf_or_default (Some f) = f
-
-abbrev pub pbkdf2_params_of : All Pbkdf2Params
-pbkdf2_params_of = on (within 0x04 salt_of) (λ s. on (uint_at 4294967295) (λ n. on (option_at (λ t. t == 0x02) (uint_at 65535)) (λ k.
-    on (option_at (λ t. t == 0x30) (within 0x30 prf_of)) (λ f. ended (pbkdf2_params s n k (prf_or_default f))))))
-
-abbrev pub pbkdf2_params_at : Front Pbkdf2Params
-pbkdf2_params_at = within 0x30 pbkdf2_params_of
-
--- the parameters that an element is, given by its tag octet and its value
-abbrev pub pbkdf2_params_in : ℕ × List ℕ → Result Pbkdf2Params Fault
-pbkdf2_params_in p = whole pbkdf2_params_at (el p.0 p.1)

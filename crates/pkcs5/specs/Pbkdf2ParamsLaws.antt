@@ -13,13 +13,14 @@ use Rattle.asn1_core.specs.ElementLaws.{within-exact, within-whole}
 use Rattle.asn1_core.specs.NumberLaws.{uint-exact}
 use Rattle.asn1_core.specs.OptionLaws.{OnOption, on_option-exact}
 use Rattle.der_core.specs.Optional.{canon_option, writable_option}
-use Rattle.pkcs5.specs.Salt.{IsSalt, SaltOf, salt_of}
-use Rattle.pkcs5.specs.Pbkdf2Prf.{PrfOf, PrfText, SpellsPrf, prf_content, prf_of}
+use Rattle.pkcs5.specs.Salt.{IsSalt, SaltOf}
+use Rattle.pkcs5.specs.Pbkdf2Prf.{PrfOf, PrfText, SpellsPrf, prf_content}
 use Rattle.pkcs5.specs.PrfLaws.{prf-exact, prf_canonical, prf_spelled}
-use Rattle.pkcs5.specs.Pbkdf2Params.{pbkdf2_params, Pbkdf2ParamsOf, Pbkdf2ParamsText, stated_prf, before_prf, pbkdf2_params_content, ArePbkdf2Params, SpellsPbkdf2Params, prf_or_default, pbkdf2_params_of, pbkdf2_params_at}
+use Rattle.pkcs5.specs.Pbkdf2Params.{pbkdf2_params, Pbkdf2ParamsOf, Pbkdf2ParamsText, stated_prf, before_prf, pbkdf2_params_content, ArePbkdf2Params, SpellsPbkdf2Params}
 use Rattle.pkcs5.specs.declared.pbes2.pbkdf2_params.Pbkdf2Params.{Pbkdf2Params}
 use Rattle.pkcs5.specs.declared.pbes2.pbkdf2_prf.Pbkdf2Prf.{Pbkdf2Prf}
 use Rattle.pkcs5.specs.declared.pbes2.pbkdf2_prf.Pbkdf2Prf.TheVariants.{HmacWithSha1, HmacWithSha224, HmacWithSha256, HmacWithSha384, HmacWithSha512}
+use Rattle.pkcs5.specs.Reading.{salt_of, prf_of, prf_or_default, pbkdf2_params_of, pbkdf2_params_at}
 
 -- ---- salts
 

@@ -19,10 +19,11 @@ use Rattle.spki.specs.Algorithm.{algorithm, AlgorithmOf}
 use Rattle.spki.specs.AlgorithmLaws.{algorithm_of-exact}
 use Rattle.spki.specs.AnyLaws.{any-exact, any-whole}
 use Rattle.pkcs5.specs.Kinds.{prf_oid}
-use Rattle.pkcs5.specs.Pbkdf2Prf.{PrfOf, PrfText, prf_content, SpellsPrf, prf_named, null_or_none, prf_in, prf_of, prf_at}
+use Rattle.pkcs5.specs.Pbkdf2Prf.{PrfOf, PrfText, prf_content, SpellsPrf}
 use Rattle.pkcs5.specs.JudgedLaws.{Judges, judged-exact, if_test, any_is}
 use Rattle.pkcs5.specs.declared.pbes2.pbkdf2_prf.Pbkdf2Prf.{Pbkdf2Prf}
 use Rattle.pkcs5.specs.declared.pbes2.pbkdf2_prf.Pbkdf2Prf.TheVariants.{HmacWithSha1, HmacWithSha224, HmacWithSha256, HmacWithSha384, HmacWithSha512}
+use Rattle.pkcs5.specs.Reading.{prf_named, null_or_none, prf_in, prf_of, prf_at}
 
 null-exact : Exact (Within 5 (Ended nothing)) (within 5 (ended nothing))
 null-exact = within-exact 5 (Ended nothing) (ended nothing) refl (ended-exact nothing)

@@ -1,6 +1,5 @@
 -- Salts (RFC 8018 section 4.1), of at most 32 octets here, as OCTET STRING.
-use Rattle.std.specs.Prelude.{◌≡◌, ℕ, ◌≤◌, List, length, nat_lt}
-use Rattle.asn1_core.specs.Reading.{All, where_ok}
+use Rattle.std.specs.Prelude.{◌≡◌, ℕ, ◌≤◌, List, length}
 
 -- a salt that is not too long
 abbrev pub IsSalt : List ℕ → Type 0
@@ -8,8 +7,3 @@ IsSalt s = length s ≤ 32
 
 abbrev pub SaltOf : List ℕ → List ℕ → Type 0
 SaltOf b s = (s ≡ b) × IsSalt s
-
--- ---- reading
-
-abbrev pub salt_of : All (List ℕ)
-salt_of b = where_ok (nat_lt (length b) 33) b

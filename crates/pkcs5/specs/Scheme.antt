@@ -1,17 +1,11 @@
 -- A scheme of encryption under a password (RFC 8018 section 6): an algorithm, one of PBES1 (appendix A.3) or
 -- PBES2 (appendix A.4).
-use Rattle.std.specs.Prelude.{if◌then◌else◌, ◌≡◌, ⊤, ℕ, List, ◌++◌, Some, None, Result, Ok, Err}
-use Rattle.std.specs.Str.{bytes_eq}
+use Rattle.std.specs.Prelude.{◌≡◌, ⊤, ℕ, List, ◌++◌}
 use Rattle.asn1_core.specs.Der.{oid, seq, el}
-use Rattle.asn1_core.specs.Oid.{oid_octets}
-use Rattle.asn1_core.specs.Reading.{Fault, Bad, All, Front, ◌>>=◌, within}
 use Rattle.asn1_core.specs.Texts.{Within}
-use Rattle.asn1_core.specs.declared.identifier.ObjectIdentifier.{ObjectIdentifier}
-use Rattle.spki.specs.Made.{made_of}
-use Rattle.spki.specs.Seen.{AnyAlgorithm}
 use Rattle.pkcs5.specs.Identifiers.{pbes2_oid}
-use Rattle.pkcs5.specs.Parameters.{ParametersText, parameters_content, AreParameters, SpellsParameters, parameters_in}
-use Rattle.pkcs5.specs.Pbes1.{pbe_oid, PbeOf, pbe_content, ArePbeParams, pbe_with}
+use Rattle.pkcs5.specs.Parameters.{ParametersText, parameters_content, AreParameters, SpellsParameters}
+use Rattle.pkcs5.specs.Pbes1.{pbe_oid, PbeOf, pbe_content, ArePbeParams}
 use Rattle.pkcs5.specs.declared.encryption_scheme.EncryptionScheme.{EncryptionScheme}
 use Rattle.pkcs5.specs.declared.encryption_scheme.EncryptionScheme.TheVariants.{Pbes1, Pbes2}
 
@@ -56,21 +50,3 @@ IsScheme (Pbes2 v) = AreParameters v
 abbrev pub SpellsScheme : List ℕ → EncryptionScheme → Type 0
 SpellsScheme b (Pbes1 a) = b ≡ seq (pbe_content a)
 SpellsScheme b (Pbes2 v) = (p : List ℕ) × SpellsParameters p v × (b ≡ seq (oid pbes2_oid ++ p))
-
--- ---- reading
-
--- by the identifier, PBES2's or one of PBES1; a scheme of another identifier is none
-abbrev pub scheme_with : ObjectIdentifier → ℕ × List ℕ → Result EncryptionScheme Fault
-scheme_with o p =
-    if bytes_eq (oid_octets o) pbes2_oid then (parameters_in p >>= λ v. Ok (Pbes2 v)) else (pbe_with o p >>= λ a. Ok (Pbes1 a))
-
--- the scheme that an algorithm is: it has to have parameters
-unfoldable pub scheme_in : AnyAlgorithm → Result EncryptionScheme Fault
-scheme_in a = elim a.parameters [ None ↦ Err Bad | Some p ↦ scheme_with a.oid p ]
-
--- octets behind the parameters come last
-abbrev pub scheme_of : All EncryptionScheme
-scheme_of = made_of scheme_in
-
-abbrev pub scheme_at : Front EncryptionScheme
-scheme_at = within 0x30 scheme_of

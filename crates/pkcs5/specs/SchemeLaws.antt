@@ -14,14 +14,15 @@ use Rattle.asn1_core.specs.ElementLaws.{within-exact}
 use Rattle.der_core.specs.Any.{AnyText}
 use Rattle.spki.specs.Algorithm.{AlgorithmOf}
 use Rattle.pkcs5.specs.Identifiers.{pbes2_oid}
-use Rattle.pkcs5.specs.Parameters.{ParametersOf, parameters_of, parameters_in, parameters_content}
+use Rattle.pkcs5.specs.Parameters.{ParametersOf, parameters_content}
 use Rattle.pkcs5.specs.ParametersLaws.{parameters_of-exact, parameters_canonical, parameters_spelled}
-use Rattle.pkcs5.specs.Pbes1.{pbe_oid, pbe_with}
+use Rattle.pkcs5.specs.Pbes1.{pbe_oid}
 use Rattle.pkcs5.specs.Pbes1Laws.{pbe_found, pbe_again, pbe_is_identifier, pbe_other, pbe_canonical, pbe_content_is}
-use Rattle.pkcs5.specs.Scheme.{SchemeOf, SchemeText, scheme_content, IsScheme, SpellsScheme, scheme_with, scheme_in, scheme_of, scheme_at}
+use Rattle.pkcs5.specs.Scheme.{SchemeOf, SchemeText, scheme_content, IsScheme, SpellsScheme}
 use Rattle.pkcs5.specs.JudgedLaws.{Judges, JudgesWith, with_judges, made_of-exact, if_test, row_found, row_again}
 use Rattle.pkcs5.specs.declared.encryption_scheme.EncryptionScheme.{EncryptionScheme}
 use Rattle.pkcs5.specs.declared.encryption_scheme.EncryptionScheme.TheVariants.{Pbes1, Pbes2}
+use Rattle.pkcs5.specs.Reading.{parameters_of, parameters_in, pbe_with, scheme_with, scheme_in, scheme_of, scheme_at}
 
 pbes2_found : (o : ObjectIdentifier) (x : ℕ × List ℕ) (s : EncryptionScheme) → oid_octets o ≡ pbes2_oid → (parameters_in x >>= λ v. Ok (Pbes2 v)) ≡ Ok s → SchemeOf (oid (oid_octets o) ++ el x.0 x.1) s
 pbes2_found o x s same e =

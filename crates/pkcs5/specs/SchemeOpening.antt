@@ -34,7 +34,7 @@ abbrev pub SchemeLeftUnopened : EncryptionScheme → List ℕ → List ℕ → L
 SchemeLeftUnopened (Pbes1 a) q before now e = now ≡ before
 SchemeLeftUnopened (Pbes2 par) q before now e = LeftUnopened par q before now e
 
--- what stands behind len octets of text where they were decrypted
+-- what comes after len octets of text where they were decrypted
 abbrev pub SchemeIsBehind : EncryptionScheme → List ℕ → List ℕ → ℕ → Type 0
 SchemeIsBehind (Pbes1 a) before now len = ⊥
 SchemeIsBehind (Pbes2 par) before now len = IsBehind par.encryption before now len

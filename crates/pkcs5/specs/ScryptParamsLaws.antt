@@ -11,10 +11,11 @@ use Rattle.asn1_core.specs.ElementLaws.{within-exact, within-whole}
 use Rattle.asn1_core.specs.NumberLaws.{uint-exact}
 use Rattle.asn1_core.specs.OptionLaws.{OnOption, on_option-exact}
 use Rattle.der_core.specs.Optional.{canon_option}
-use Rattle.pkcs5.specs.Salt.{SaltOf, salt_of}
+use Rattle.pkcs5.specs.Salt.{SaltOf}
 use Rattle.pkcs5.specs.Pbkdf2ParamsLaws.{salt_of-exact, salt_canonical, salt_spelled, length_written, length_spelled}
-use Rattle.pkcs5.specs.ScryptParams.{scrypt_params, ScryptParamsOf, ScryptParamsText, scrypt_params_content, AreScryptParams, scrypt_params_of, scrypt_params_at}
+use Rattle.pkcs5.specs.ScryptParams.{scrypt_params, ScryptParamsOf, ScryptParamsText, scrypt_params_content, AreScryptParams}
 use Rattle.pkcs5.specs.declared.pbes2.scrypt_params.ScryptParams.{ScryptParams}
+use Rattle.pkcs5.specs.Reading.{salt_of, scrypt_params_of, scrypt_params_at}
 
 abbrev Last : List ℕ → ℕ → ℕ → ℕ → Option ℕ → List ℕ → ScryptParams → Type 0
 Last s n r p k = Ended (scrypt_params s n r p k)

@@ -7,12 +7,13 @@ ghost use Rattle.spki.specs.Seen.{borrowed_any, borrowed_algorithm};
 ghost use Rattle.octet_core.specs.Draw.{DrawsIvAndSalt, Lacks};
 ghost use Rattle.pkcs5.specs.Generation.{recommended};
 ghost use Rattle.pkcs5.specs.declared.error.Error.TheVariants as errors;
-ghost use Rattle.pkcs5.specs.Scheme.{IsPbes1, IsPbes2, scheme_oid, SchemeOf, scheme_content, IsScheme, SpellsScheme, scheme_with, scheme_in, scheme_of, scheme_at};
+ghost use Rattle.pkcs5.specs.Scheme.{IsPbes1, IsPbes2, scheme_oid, SchemeOf, scheme_content, IsScheme, SpellsScheme};
 ghost use Rattle.pkcs5.specs.SchemeLaws.{scheme_of-exact, scheme_canonical, scheme_spelled};
 ghost use Rattle.pkcs5.specs.Alike.{alike};
 ghost use Rattle.pkcs5.specs.SameLaws.{kdf_same, cipher_same, parameters_same, scheme_same};
 ghost use Rattle.pkcs5.specs.declared.encryption_scheme.EncryptionScheme.{EncryptionScheme};
 ghost use Rattle.pkcs5.specs.declared.encryption_scheme.EncryptionScheme.TheVariants.{Pbes1, Pbes2};
+ghost use Rattle.pkcs5.specs.Reading.{scheme_with, scheme_in, scheme_of, scheme_at};
 
 use crate::pbes1;
 use crate::pbes2::{self, PBES2_OID};
@@ -121,7 +122,7 @@ impl TryFrom<AlgorithmIdentifierRef<'_>> for EncryptionScheme {
 
     /// The scheme that an algorithm is. `Malformed` exactly where it has no parameters or is neither PBES2 nor one of
     /// PBES1; else the refusals of the parameters.
-    #[tactic(auto, unfolding(crate::specs::Scheme::scheme_in))]
+    #[tactic(auto, unfolding(crate::specs::Reading::scheme_in))]
     fn try_from(algorithm: AlgorithmIdentifierRef<'_>) -> Result<EncryptionScheme, Error> {
         match &algorithm.parameters {
             Some(parameters) => scheme_with(algorithm.oid, parameters),
@@ -156,7 +157,7 @@ impl<'a> DecodeValue<&'a [u8]> for EncryptionScheme {
 
     ghost text = { λ t. SchemeOf };
 
-    /// Refusals as of the algorithm; octets behind its parameters are `Malformed` last.
+    /// Refusals as of the algorithm; octets after its parameters are `Malformed` last.
     fn decode_value<R: Reader<&'a [u8]>>(
         r: &mut R,
         header: Header,

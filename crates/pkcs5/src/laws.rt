@@ -3,14 +3,14 @@ ghost use Rattle.std.specs.Prelude.{◌≡◌, ◌≤◌, ◌↔◌, ℕ, List, 
 ghost use Rattle.asn1_core.specs.Der.{IsShort, seq};
 ghost use Rattle.asn1_core.specs.Reading.{whole};
 ghost use Rattle.der_core.specs.Optional.{writable_option};
-ghost use Rattle.pkcs5.specs.Cipher.{IsCipher, cipher_at, cipher_content};
-ghost use Rattle.pkcs5.specs.Kdf.{IsKdf, SpellsKdf, kdf_at};
-ghost use Rattle.pkcs5.specs.Parameters.{AreParameters, SpellsParameters, parameters_at};
-ghost use Rattle.pkcs5.specs.Pbes1.{ArePbeParams, pbe_at, pbe_content};
-ghost use Rattle.pkcs5.specs.Pbkdf2Params.{ArePbkdf2Params, SpellsPbkdf2Params, pbkdf2_params_at};
-ghost use Rattle.pkcs5.specs.Pbkdf2Prf.{SpellsPrf, prf_at};
-ghost use Rattle.pkcs5.specs.Scheme.{SchemeText, scheme_text, IsScheme, SpellsScheme, scheme_at};
-ghost use Rattle.pkcs5.specs.ScryptParams.{AreScryptParams, scrypt_params_at, scrypt_params_content};
+ghost use Rattle.pkcs5.specs.Cipher.{IsCipher, cipher_content};
+ghost use Rattle.pkcs5.specs.Kdf.{IsKdf, SpellsKdf};
+ghost use Rattle.pkcs5.specs.Parameters.{AreParameters, SpellsParameters};
+ghost use Rattle.pkcs5.specs.Pbes1.{ArePbeParams, pbe_content};
+ghost use Rattle.pkcs5.specs.Pbkdf2Params.{ArePbkdf2Params, SpellsPbkdf2Params};
+ghost use Rattle.pkcs5.specs.Pbkdf2Prf.{SpellsPrf};
+ghost use Rattle.pkcs5.specs.Scheme.{SchemeText, scheme_text, IsScheme, SpellsScheme};
+ghost use Rattle.pkcs5.specs.ScryptParams.{AreScryptParams, scrypt_params_content};
 ghost use Rattle.pkcs5.specs.declared.encryption_scheme.EncryptionScheme.{EncryptionScheme};
 ghost use Rattle.pkcs5.specs.declared.pbes1.algorithm.Algorithm.{Algorithm};
 ghost use Rattle.pkcs5.specs.declared.pbes2.encryption_scheme.EncryptionScheme.{EncryptionScheme as Cipher};
@@ -19,6 +19,7 @@ ghost use Rattle.pkcs5.specs.declared.pbes2.parameters.Parameters.{Parameters};
 ghost use Rattle.pkcs5.specs.declared.pbes2.pbkdf2_params.Pbkdf2Params.{Pbkdf2Params};
 ghost use Rattle.pkcs5.specs.declared.pbes2.pbkdf2_prf.Pbkdf2Prf.{Pbkdf2Prf};
 ghost use Rattle.pkcs5.specs.declared.pbes2.scrypt_params.ScryptParams.{ScryptParams};
+ghost use Rattle.pkcs5.specs.Reading.{cipher_at, kdf_at, parameters_at, pbe_at, pbkdf2_params_at, prf_at, scheme_at, scrypt_params_at};
 
 use crate::encryption_scheme::EncryptionScheme;
 use crate::pbes1;
@@ -161,7 +162,7 @@ fn pbes1_has_a_text(algorithm: &pbes1::Algorithm)
 }
 
 /// Each scheme has a text: its numbers fit their types, and its salt and its initialization vector or nonce have
-/// their lengths. So writing one never answers `Malformed`.
+/// their lengths. So writing one never returns `Malformed`.
 pub fn schemes_have_texts(scheme: &EncryptionScheme)
     ensures { IsScheme scheme.now }
 {

@@ -26,7 +26,7 @@ impl EncryptionScheme {
         }
     }
 
-    /// `decrypt_in_place_len` that answers the text.
+    /// `decrypt_in_place_len` that returns the text.
     pub fn decrypt_in_place<'a>(
         &self,
         alloc: Global,
@@ -41,8 +41,8 @@ impl EncryptionScheme {
         Ok(&buffer[..len])
     }
 
-    /// Decrypts the ciphertext `buffer` in place under a password (RFC 8018 section 6.2.2), and answers the length in
-    /// octets of the text that now stands in its front; its padding stands behind it, or its tag in GCM. It takes
+    /// Decrypts the ciphertext `buffer` in place under a password (RFC 8018 section 6.2.2), and returns the length in
+    /// octets of the text that is now in its front; its padding comes after it, or its tag in GCM. It takes
     /// memory only where the function is scrypt.
     ///
     /// `NoPbes1CryptSupport` exactly for PBES1. `AlgorithmParametersInvalid` with the identifier of the key
@@ -91,7 +91,7 @@ impl EncryptionScheme {
         }
     }
 
-    /// `encrypt_in_place_len` that answers the ciphertext.
+    /// `encrypt_in_place_len` that returns the ciphertext.
     pub fn encrypt_in_place<'a>(
         &self,
         alloc: Global,
@@ -110,8 +110,8 @@ impl EncryptionScheme {
         Ok(&buffer[..len])
     }
 
-    /// Encrypts the text `buffer[..pos]` in place under a password (RFC 8018 section 6.2.1), and answers the length
-    /// of the ciphertext in octets, as `encrypt` has it; the octets behind it stay as they were. It takes memory only
+    /// Encrypts the text `buffer[..pos]` in place under a password (RFC 8018 section 6.2.1), and returns the length
+    /// of the ciphertext in octets, as `encrypt` has it; the octets after it stay as they were. It takes memory only
     /// where the function is scrypt.
     ///
     /// `NoPbes1CryptSupport` exactly for PBES1. `AlgorithmParametersInvalid` with the identifier of the key

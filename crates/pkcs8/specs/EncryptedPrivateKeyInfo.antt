@@ -3,9 +3,10 @@ use Rattle.std.specs.Prelude.{◌≡◌, ℕ, List, ◌++◌}
 use Rattle.asn1_core.specs.Der.{el, seq, octets, IsShort}
 use Rattle.asn1_core.specs.Reading.{Front, All, on, ended, within}
 use Rattle.asn1_core.specs.Texts.{Within, Inside}
-use Rattle.pkcs5.specs.Scheme.{SchemeText, scheme_at, scheme_content, SpellsScheme}
+use Rattle.pkcs5.specs.Scheme.{SchemeText, scheme_content, SpellsScheme}
 use Rattle.pkcs5.specs.declared.encryption_scheme.EncryptionScheme.{EncryptionScheme}
 use Rattle.pkcs8.specs.declared.encrypted_private_key_info.EncryptedPrivateKeyInfo.{EncryptedPrivateKeyInfo}
+use Rattle.pkcs5.specs.Reading.{scheme_at}
 
 -- an encrypted key: the scheme, and the ciphertext
 abbrev pub encrypted_key : {W : Type 0} → EncryptionScheme → W → EncryptedPrivateKeyInfo W

@@ -10,11 +10,12 @@ use Rattle.asn1_core.specs.Texts.{Exact, ExactAll, On, Ended}
 use Rattle.asn1_core.specs.ExactLaws.{on-exact, ended-exact, same-exact}
 use Rattle.asn1_core.specs.ElementLaws.{within-exact}
 use Rattle.spki.specs.SameLaws.{Tells}
-use Rattle.pkcs5.specs.Scheme.{SchemeText, scheme_at, scheme_content, IsScheme}
+use Rattle.pkcs5.specs.Scheme.{SchemeText, scheme_content, IsScheme}
 use Rattle.pkcs5.specs.SchemeLaws.{scheme-exact, scheme_canonical, scheme_spelled}
 use Rattle.pkcs5.specs.declared.encryption_scheme.EncryptionScheme.{EncryptionScheme}
 use Rattle.pkcs8.specs.declared.encrypted_private_key_info.EncryptedPrivateKeyInfo.{EncryptedPrivateKeyInfo}
 use Rattle.pkcs8.specs.EncryptedPrivateKeyInfo.{encrypted_key, encrypted_key_of, encrypted_key_at, EncryptedKeyOf, EncryptedKeyText, encrypted_key_content, SpellsEncryptedKey}
+use Rattle.pkcs5.specs.Reading.{scheme_at}
 
 module _ {W : Type 0} (D : List ℕ → W → Type 0) (q : Front W) (exact_data : Exact D q) where
   abbrev Parts : List ℕ → EncryptedPrivateKeyInfo W → Type 0

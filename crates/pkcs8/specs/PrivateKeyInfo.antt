@@ -44,7 +44,7 @@ abbrev pub AreFurther : List ℕ → Type 0
 AreFurther y = (fs : List (Unit {0})) × Many FurtherText y fs
 
 -- The value octets of a private key, whose parameters have texts by P, whose key has texts by K, and whose public key has value octets
--- by Q, behind the tag octet of [1] IMPLICIT, primitive.
+-- by Q, after the tag octet of [1] IMPLICIT, primitive.
 abbrev pub PrivateKeyOf : {V K W : Type 0} → (List ℕ → V → Type 0) → (List ℕ → K → Type 0) → (List ℕ → W → Type 0) → List ℕ → PrivateKeyInfo V K W → Type 0
 PrivateKeyOf P K Q b v = (a : List ℕ) × (k : List ℕ) × (x : List ℕ) × (q : List ℕ) × (y : List ℕ)
     × AlgorithmText P a v.algorithm × K k v.private_key × AreAttributes x × Perhaps (Within 0x81 Q) q v.public_key × AreFurther y
@@ -86,7 +86,7 @@ further_at = by_tag is_further (λ t. skipped)
 abbrev pub further_of : All (Unit {0})
 further_of = made (λ fs. tt) (many further_at)
 
--- behind the place of the public key: the version agrees with it, and further fields follow
+-- after the place of the public key: the version agrees with it, and further fields follow
 abbrev pub ended_further : {A W : Type 0} → ℕ → Option W → A → All A
 ended_further n q v b = where_ok (n == version_of q) v >>= λ w. made (λ u. w) further_of b
 

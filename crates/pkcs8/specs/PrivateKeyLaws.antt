@@ -18,7 +18,7 @@ use Rattle.pkcs8.specs.declared.private_key_info.PrivateKeyInfo.{PrivateKeyInfo}
 use Rattle.pkcs8.specs.PrivateKeyInfo.{private_key, version_of, Skipped, AttributesText, AreAttributes, AreFurther, attributes_at, ended_further, PrivateKeyOf, PrivateKeyText, private_key_of, private_key_at, public_key_content, private_key_content}
 use Rattle.pkcs8.specs.FieldLaws.{attributes-exact, ended_further-exact, EndedFurther, follows_public_key, follows_attributes}
 
--- six parts, one behind the other
+-- six parts, one after the other
 six : (u a k x q y : List ℕ) → u ++ (a ++ (k ++ (x ++ (q ++ y)))) ≡ u ++ a ++ k ++ x ++ q ++ y
 six u a k x q y =
     sym (append_assoc u a (k ++ (x ++ (q ++ y)))) ∙ sym (append_assoc (u ++ a) k (x ++ (q ++ y))) ∙ sym (append_assoc (u ++ a ++ k) x (q ++ y)) ∙ sym (append_assoc (u ++ a ++ k ++ x) q y)
@@ -52,7 +52,7 @@ module _ {V K W : Type 0} (can : ℕ → Bool) (P : List ℕ → V → Type 0) (
   parts = on-exact (Uint 1) _ (uint_at 1) _ (uint-exact 1) (λ n. on-exact (AlgorithmText P) _ (algorithm_at can p) _ (algorithm-exact can P p exact whole)
       (λ a. on-exact L _ l _ exact_key (λ k. tail-exact n (λ w. private_key a k w))))
 
-  -- what stands behind the key
+  -- what comes after the key
   pub record Behind (n : ℕ) (v : Option W → PrivateKeyInfo V K W) (b : List ℕ) (w : PrivateKeyInfo V K W) : Type 0 where
     pub attributes : List ℕ
     pub public : List ℕ

@@ -13,9 +13,9 @@ pub enum Error {
     Asn1(asn1_core::Error),
     /// A private key could not be encrypted or decrypted.
     EncryptedPrivateKey(pkcs5::Error),
-    /// The key is none of its algorithm. Key types answer this; no call of this crate does.
+    /// The key is none of its algorithm. Key types return this; no call of this crate does.
     KeyMalformed(KeyError),
-    /// The parameters are none of the key's algorithm. Key types answer this; no call of this crate does.
+    /// The parameters are none of the key's algorithm. Key types return this; no call of this crate does.
     ParametersMalformed,
     /// The public key of a private key has a fault.
     PublicKey(spki::Error),

@@ -1,4 +1,4 @@
-//! The parts of a private key that stand behind the key.
+//! The parts of a private key that come after the key.
 ghost use Rattle.std.specs.Prelude.{◌≡◌, ◌==◌, ◌<◌, ℕ, length, refl, OnOk};
 ghost use Rattle.asn1_core.specs.Gives.{Gives, ReadsAs};
 ghost use Rattle.asn1_core.specs.Reading.{option_at, within};

@@ -1,4 +1,4 @@
-//! Public keys that stand behind an implicit tag.
+//! Public keys that come after an implicit tag.
 ghost use Rattle.std.specs.Prelude.{◌≡◌, ℕ, List, ◌∷◌};
 ghost use Rattle.pkcs8.specs.ImplicitLaws.{implicit_canonical, implicit_spelled};
 
@@ -6,7 +6,7 @@ use crate::bit_string_like::BitStringLike;
 use der_core::{BitStringRef, DecodeValue};
 use std::convert::AsSlice;
 
-/// A type of which the value octets behind the implicit tag [1] are those of its BIT STRING, and no others are.
+/// A type of which the value octets after the implicit tag [1] are those of its BIT STRING, and no others are.
 pub trait ImplicitBitString<S: AsSlice<u8>>: DecodeValue<S> + BitStringLike {
     ghost implicit: { (k : Self) → Self.text 0x81 ((Self.bits k).0 ∷ (Self.bits k).1)
         (Self.seen k) };

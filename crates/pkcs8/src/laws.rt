@@ -31,7 +31,7 @@ pub fn texts_have_one_private_key()
     ensures { (b : List ℕ) (k l : AnyPrivateKey) → IsPrivateKey b k → IsPrivateKey b l → k ≡ l }
 {}
 
-/// The texts of a private key are its spellings, by the attributes and the further fields that stand in them, and
+/// The texts of a private key are its spellings, by the attributes and the further fields that are in them, and
 /// nothing else is a text of it.
 pub fn private_keys_are_spelled()
     ensures { (b : List ℕ) (k : AnyPrivateKey) → IsPrivateKey b k
@@ -63,7 +63,7 @@ pub fn written_keys_are_shortest()
 {}
 
 /// Under parameters that give a key, and to a cipher other than DES, a private key of which at most 2^31 octets are
-/// written is encrypted: want of memory is the one refusal.
+/// written is encrypted: running out of memory is the one refusal.
 pub fn short_keys_are_encrypted<'a>(key: &PrivateKeyInfoRef<'a>)
     ensures { (par : Parameters) (q : List ℕ) (e : Error) → ArePbes2 par → FitsKey par
         → ¬ IsDes par.encryption

@@ -11,6 +11,6 @@ pub record Lawful (log_n r p : ℕ) : Type 0 where
   pub some_pieces : 1 ≤ p
   -- RFC 7914: r * p is at most 2 ^ 30 - 1, which is what PBKDF2 has blocks for
   pub product : r * p < 2 ^ 30
-  -- what stands in memory can be counted
+  -- what is in memory can be counted
   pub memory : 128 * r * 2 ^ log_n < 2 ^ 63
   pub pieces : 128 * r * p < 2 ^ 63

@@ -15,7 +15,7 @@ pub unordered_more : {X : Type 0} (A B C D : Type 0) → (A → C) → (B → D)
 unordered_more A B C D f g (Ok x) h = tt
 unordered_more A B C D f g (Err e) h = unordered A B C D f g e h
 
--- a text behind another is not longer than both
+-- a text after another is not longer than both
 pub overlong_behind : (a : List ℕ) (t : ℕ) (v : List ℕ) → IsOverlong (length v) → IsOverlong (length (a ++ el t v))
 overlong_behind a t v h = omega (arith, h, length-append a (el t v), el_length t (length v) v refl)
 

@@ -18,7 +18,7 @@ ParametersOid (Some p) r = Parses (errors.Asn1 below.Malformed) Oid (λ o. o) (e
 abbrev pub IsNull : ℕ × List ℕ → Type 0
 IsNull p = (p.0 ≡ 0x05) × (p.1 ≡ [])
 
--- the algorithm's identifier, and behind it that of the parameters
+-- the algorithm's identifier, and after it that of the parameters
 abbrev pub WithOid : ObjectIdentifier → List ℕ → Result (ObjectIdentifier × Option ObjectIdentifier) Below → Type 0
 WithOid a b (Ok x) = (o : ObjectIdentifier) × Oid b o × (x ≡ (a, Some o))
 WithOid a b (Err e) = (e ≡ below.Malformed) × IsNone Oid b

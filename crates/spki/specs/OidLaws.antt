@@ -1,5 +1,5 @@
 -- lemmas only: nothing to believe here
--- From reading functions to what calls answer.
+-- From reading functions to what calls return.
 use Rattle.std.proofs.Common.{◌≡◌, ◌≢◌, ℕ, List, length, Option, Some, None, Result, Ok, Err, refl, subst, inr, arith}
 use Rattle.std.specs.Prelude.{MatchResult}
 use Rattle.asn1_core.specs.Der.{IsShort, IsHeader, el}

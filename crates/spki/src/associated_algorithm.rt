@@ -110,7 +110,7 @@ impl<T: SignatureAlgorithmIdentifier> DynSignatureAlgorithmIdentifier for T {
     }
 }
 
-/// A signature that can stand in a BIT STRING.
+/// A signature that can be in a BIT STRING.
 ///
 /// `bits` are its number of unused bits and its octets, and `unwritten` says which refusals it may meet.
 pub trait SignatureBitStringEncoding {

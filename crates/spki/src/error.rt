@@ -14,7 +14,7 @@ pub enum Error {
     AlgorithmParametersMissing,
     /// The octets are not in the grammar, or a text or a file has a fault.
     Asn1(asn1_core::Error),
-    /// The key is none of its algorithm. Key types answer this; no call of this crate does.
+    /// The key is none of its algorithm. Key types return this; no call of this crate does.
     KeyMalformed,
     /// This identifier stands where another is expected, or is unknown there.
     OidUnknown { oid: ObjectIdentifier },

@@ -40,33 +40,37 @@ pub fn texts_have_one_public_key()
 {}
 
 /// What is written of an algorithm with any parameters is its one text.
-pub fn algorithms_are_written<'a>(
-    borrowed: &AlgorithmIdentifierRef<'a>,
-    owned: &AlgorithmIdentifierOwned,
-)
-    ensures of_borrowed { ⟦<AlgorithmIdentifierRef<'a> as Encode>⟧.canon borrowed.now
-        ≡ algorithm_text (borrowed_algorithm borrowed.now) }
-    ensures of_owned { ⟦<AlgorithmIdentifierOwned as Encode>⟧.canon owned.now
-        ≡ algorithm_text (owned_algorithm owned.now) }
+pub fn algorithms_are_written(algorithm: &AlgorithmIdentifierOwned)
+    ensures { ⟦<AlgorithmIdentifierOwned as Encode>⟧.canon algorithm.now
+        ≡ algorithm_text (owned_algorithm algorithm.now) }
 {
-    let _ = borrowed;
-    let _ = owned;
+    let _ = algorithm;
+}
+
+/// The same of an algorithm that borrows its parameters.
+pub fn borrowed_algorithms_are_written<'a>(algorithm: &AlgorithmIdentifierRef<'a>)
+    ensures { ⟦<AlgorithmIdentifierRef<'a> as Encode>⟧.canon algorithm.now
+        ≡ algorithm_text (borrowed_algorithm algorithm.now) }
+{
+    let _ = algorithm;
 }
 
 /// What is written of a public key of any algorithm is its one text, of which its fingerprint is the digest.
-pub fn public_keys_are_written<'a>(
-    borrowed: &SubjectPublicKeyInfoRef<'a>,
-    owned: &SubjectPublicKeyInfoOwned,
-)
-    ensures of_borrowed { ⟦<SubjectPublicKeyInfoRef<'a> as Encode>⟧.canon borrowed.now
-        ≡ public_key_text (seen_public_key borrowed_any
-        (λ s. seen_bits s.unused_bits s.octets.now) borrowed.now) }
-    ensures of_owned { ⟦<SubjectPublicKeyInfoOwned as Encode>⟧.canon owned.now
+pub fn public_keys_are_written(key: &SubjectPublicKeyInfoOwned)
+    ensures { ⟦<SubjectPublicKeyInfoOwned as Encode>⟧.canon key.now
         ≡ public_key_text (seen_public_key owned_any
-        (λ s. seen_bits s.unused_bits s.octets) owned.now) }
+        (λ s. seen_bits s.unused_bits s.octets) key.now) }
 {
-    let _ = borrowed;
-    let _ = owned;
+    let _ = key;
+}
+
+/// The same of a public key that borrows its parts.
+pub fn borrowed_public_keys_are_written<'a>(key: &SubjectPublicKeyInfoRef<'a>)
+    ensures { ⟦<SubjectPublicKeyInfoRef<'a> as Encode>⟧.canon key.now
+        ≡ public_key_text (seen_public_key borrowed_any
+        (λ s. seen_bits s.unused_bits s.octets.now) key.now) }
+{
+    let _ = key;
 }
 
 /// Octets are read as this algorithm exactly where they are what is written of it or another of its spellings, for

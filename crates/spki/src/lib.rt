@@ -35,8 +35,9 @@ pub use error::{Error, Result};
 pub use fingerprint::FingerprintBytes;
 pub use laws::{
     algorithms_are_spelled, algorithms_are_written, algorithms_have_one_text,
-    public_keys_are_spelled, public_keys_are_written, public_keys_have_one_text,
-    texts_have_one_algorithm, texts_have_one_public_key,
+    borrowed_algorithms_are_written, borrowed_public_keys_are_written, public_keys_are_spelled,
+    public_keys_are_written, public_keys_have_one_text, texts_have_one_algorithm,
+    texts_have_one_public_key,
 };
 pub use read_algorithm::read_algorithm_as;
 pub use subject_public_key_info::{

@@ -24,9 +24,9 @@ where
     Ok(made)
 }
 
-/// Takes the value octets of an algorithm behind this header, and answers what `T::try_from` makes of it: the body of
+/// Takes the value octets of an algorithm after this header, and returns what `T::try_from` makes of it: the body of
 /// `decode_value` for a type whose text is an algorithm. `Malformed` where the identifier or the parameters are none;
-/// then what `T::try_from` refuses; then `Malformed` where octets are left behind the parameters. A refusal does not
+/// then what `T::try_from` refuses; then `Malformed` where octets are left after the parameters. A refusal does not
 /// move the reader.
 pub fn read_algorithm_as<'a, T, R>(r: &mut R, header: Header) -> Result<T, Error>
 where

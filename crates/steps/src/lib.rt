@@ -1,4 +1,4 @@
-//! A counter of steps that takes no octets when a program runs: what a call costs stands in its contract, and no
+//! A counter of steps that takes no octets when a program runs: what a call costs is in its contract, and no
 //! program can read it.
 //!
 //! A counted call takes a `&mut Steps<L>` as its last parameter and states how far it moves it. The same call without

@@ -4,10 +4,11 @@ ghost use Rattle.asn1_core.specs.Der.{el};
 ghost use Rattle.asn1_core.specs.Gives.{Gives};
 ghost use Rattle.asn1_core.specs.Oid.{oid_octets};
 ghost use Rattle.spki.specs.Seen.{borrowed_any, borrowed_algorithm};
-ghost use Rattle.pkcs5.specs.Pbes1.{ArePbeParams, PbeOf, pbe_content, pbe_in, pbe_of, pbe_oid, pbe_with};
+ghost use Rattle.pkcs5.specs.Pbes1.{ArePbeParams, PbeOf, pbe_content, pbe_oid};
 ghost use Rattle.pkcs5.specs.Pbes1Laws.{pbe_of-exact, pbe_canonical, pbe_spelled};
 ghost use Rattle.pkcs5.specs.SameLaws.{pbe_same};
 ghost use Rattle.pkcs5.specs.declared.pbes1.algorithm.Algorithm.{Algorithm};
+ghost use Rattle.pkcs5.specs.Reading.{pbe_in, pbe_of, pbe_with};
 
 use crate::pbes1::encryption_scheme::EncryptionScheme;
 use crate::pbes1::parameters::Parameters;
@@ -37,7 +38,7 @@ impl Algorithm {
 }
 
 /// The algorithm of this identifier with these parameters. `Malformed` exactly where it is none.
-#[tactic(auto, unfolding(crate::specs::Pbes1::pbe_with))]
+#[tactic(auto, unfolding(crate::specs::Reading::pbe_with))]
 pub(crate) fn algorithm_with(
     oid: ObjectIdentifier,
     parameters: &AnyRef<'_>,
@@ -62,7 +63,7 @@ impl TryFrom<AlgorithmIdentifierRef<'_>> for Algorithm {
     ghost try_from_gives = { λ a r. Gives (λ v. v) r (pbe_in (borrowed_algorithm a)) };
 
     /// The algorithm of PBES1 that an algorithm is. `Malformed` exactly where it is none.
-    #[tactic(auto, unfolding(crate::specs::Pbes1::pbe_in))]
+    #[tactic(auto, unfolding(crate::specs::Reading::pbe_in))]
     fn try_from(algorithm: AlgorithmIdentifierRef<'_>) -> Result<Algorithm, Error> {
         match &algorithm.parameters {
             Some(parameters) => algorithm_with(algorithm.oid, parameters),

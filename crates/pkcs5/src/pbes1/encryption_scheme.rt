@@ -4,7 +4,8 @@ ghost use Rattle.asn1_core.specs.Der.{oid};
 ghost use Rattle.asn1_core.specs.Gives.{Gives};
 ghost use Rattle.asn1_core.specs.Oid.{oid_octets};
 ghost use Rattle.asn1_core.specs.Reading.{UnknownOid, known};
-ghost use Rattle.pkcs5.specs.Pbes1.{pbe_cipher, pbe_digest, pbe_named, pbe_oid};
+ghost use Rattle.pkcs5.specs.Pbes1.{pbe_cipher, pbe_digest, pbe_oid};
+ghost use Rattle.pkcs5.specs.Reading.{pbe_named};
 
 use crate::pbes1::identifiers::{
     PBE_WITH_MD2_AND_DES_CBC_OID, PBE_WITH_MD2_AND_RC2_CBC_OID, PBE_WITH_MD5_AND_DES_CBC_OID,

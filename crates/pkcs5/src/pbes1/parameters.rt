@@ -4,10 +4,11 @@ ghost use Rattle.asn1_core.specs.Der.{el};
 ghost use Rattle.asn1_core.specs.Gives.{Gives};
 ghost use Rattle.asn1_core.specs.declared.error.Error.TheVariants.{Malformed};
 ghost use Rattle.spki.specs.Seen.{borrowed_any};
-ghost use Rattle.pkcs5.specs.Pbes1.{PbeSaltOf, PbeParamsOf, pbe_params_content, ArePbeParams, pbe_salt_of, pbe_params_of, pbe_params_in};
+ghost use Rattle.pkcs5.specs.Pbes1.{PbeSaltOf, PbeParamsOf, pbe_params_content, ArePbeParams};
 ghost use Rattle.pkcs5.specs.Pbes1Laws.{pbe_salt_of-exact, pbe_params_of-exact, pbe_params_canonical, pbe_params_spelled};
 ghost use Rattle.pkcs5.specs.SameLaws.{pbe_params_same};
 ghost use Rattle.pkcs5.specs.declared.pbes1.parameters.Parameters.{Parameters};
+ghost use Rattle.pkcs5.specs.Reading.{pbe_salt_of, pbe_params_of, pbe_params_in};
 
 use asn1_core::{Error, Header, Length, Reader, SliceReader, Tag, Writer};
 use der_core::{

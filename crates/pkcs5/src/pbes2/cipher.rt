@@ -13,7 +13,7 @@ use mac_modes::{cbc_decrypt_padded, cbc_encrypt_padded, gcm_decrypt, gcm_encrypt
 
 // ---- CBC
 
-/// Decrypts `buffer` in place, and answers the length of the text.
+/// Decrypts `buffer` in place, and returns the length of the text.
 fn decrypt_with<C: BlockCipher>(cipher: &C, iv: &[u8], buffer: &mut [u8]) -> Result<usize>
     requires { length iv.now ≡ C.BLOCK }
     ensures text { IfOk result (λ len. (len ≤ length buffer.old)
@@ -29,7 +29,7 @@ fn decrypt_with<C: BlockCipher>(cipher: &C, iv: &[u8], buffer: &mut [u8]) -> Res
     }
 }
 
-/// Encrypts the text `buffer[..pos]` in place, and answers the length of the ciphertext.
+/// Encrypts the text `buffer[..pos]` in place, and returns the length of the ciphertext.
 fn encrypt_with<C: BlockCipher>(
     cipher: &C,
     iv: &[u8],
@@ -92,7 +92,7 @@ fn encrypt_by<C: BlockCipher + Drop>(
 
 // ---- GCM
 
-/// Opens `buffer`, a ciphertext and its tag, in place, and answers the length of the text.
+/// Opens `buffer`, a ciphertext and its tag, in place, and returns the length of the text.
 fn unseal_with<C: BlockCipher>(cipher: &C, nonce: &[u8; 12], buffer: &mut [u8]) -> Result<usize>
     requires { C.BLOCK ≡ 16 }
     ensures text { IfOk result (λ len. (len ≤ length buffer.old)
@@ -108,7 +108,7 @@ fn unseal_with<C: BlockCipher>(cipher: &C, nonce: &[u8; 12], buffer: &mut [u8]) 
     }
 }
 
-/// Seals the text `buffer[..pos]` in place, its tag behind it, and answers the length of both.
+/// Seals the text `buffer[..pos]` in place, its tag after it, and returns the length of both.
 fn seal_with<C: BlockCipher>(
     cipher: &C,
     nonce: &[u8; 12],
@@ -171,7 +171,7 @@ fn seal_by<C: BlockCipher + Drop>(
 
 // ---- by the cipher
 
-/// Decrypts `buffer` in place under a key, and answers the length of the text in octets.
+/// Decrypts `buffer` in place under a key, and returns the length of the text in octets.
 #[tactic(auto, unfolding(crate::specs::Opening::OpensBy, crate::specs::Opening::LeftBy, crate::specs::Opening::IsBehind))]
 pub(crate) fn decrypt_under(
     scheme: &EncryptionScheme,
@@ -197,7 +197,7 @@ pub(crate) fn decrypt_under(
     }
 }
 
-/// Encrypts the text `buffer[..pos]` in place under a key, and answers the length of the ciphertext in octets.
+/// Encrypts the text `buffer[..pos]` in place under a key, and returns the length of the ciphertext in octets.
 /// `UnsupportedAlgorithm` exactly for DES; then `EncryptFailed` exactly where the ciphertext does not fit the buffer.
 #[tactic(auto, unfolding(crate::specs::Opening::OpensBy))]
 pub(crate) fn encrypt_under(

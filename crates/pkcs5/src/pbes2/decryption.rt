@@ -31,7 +31,7 @@ impl Parameters {
         Ok(Octets::from_vec(text))
     }
 
-    /// `decrypt_in_place_len` that answers the text.
+    /// `decrypt_in_place_len` that returns the text.
     pub fn decrypt_in_place<'a>(
         &self,
         alloc: Global,
@@ -46,8 +46,8 @@ impl Parameters {
         Ok(&buffer[..len])
     }
 
-    /// Decrypts the ciphertext `buffer` in place under a password (RFC 8018 section 6.2.2), and answers the length in
-    /// octets of the text that now stands in its front; its padding stands behind it, or its tag in GCM. It takes
+    /// Decrypts the ciphertext `buffer` in place under a password (RFC 8018 section 6.2.2), and returns the length in
+    /// octets of the text that is now in its front; its padding comes after it, or its tag in GCM. It takes
     /// memory only where the function is scrypt.
     ///
     /// `AlgorithmParametersInvalid` with the identifier of the key derivation function exactly where a length of the
@@ -74,7 +74,7 @@ impl Parameters {
         decrypt_under(&self.encryption, key.as_slice(), buffer)
     }
 
-    /// `decrypt_in_place_len` that counts a step for each answer of the pseudorandom function of PBKDF2: `max(r, 1)`
+    /// `decrypt_in_place_len` that counts a step for each output of the pseudorandom function of PBKDF2: `max(r, 1)`
     /// times the blocks of the key for r rounds, on Ok and where the text does not open; none where the parameters
     /// are refused. It takes no memory.
     ///

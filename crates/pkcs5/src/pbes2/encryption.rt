@@ -47,7 +47,7 @@ impl Parameters {
         Ok(Octets::from_vec(text))
     }
 
-    /// `encrypt_in_place_len` that answers the ciphertext.
+    /// `encrypt_in_place_len` that returns the ciphertext.
     pub fn encrypt_in_place<'a>(
         &self,
         alloc: Global,
@@ -66,8 +66,8 @@ impl Parameters {
         Ok(&buffer[..len])
     }
 
-    /// Encrypts the text `buffer[..pos]` in place under a password (RFC 8018 section 6.2.1), and answers the length
-    /// of the ciphertext in octets, as `encrypt` has it; the octets behind it stay as they were. It takes memory only
+    /// Encrypts the text `buffer[..pos]` in place under a password (RFC 8018 section 6.2.1), and returns the length
+    /// of the ciphertext in octets, as `encrypt` has it; the octets after it stay as they were. It takes memory only
     /// where the function is scrypt.
     ///
     /// `AlgorithmParametersInvalid` with the identifier of the key derivation function exactly where a length of the

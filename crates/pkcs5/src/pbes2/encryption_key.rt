@@ -38,7 +38,7 @@ impl Model for EncryptionKey {
     ghost view = { λ k. k.octets };
 }
 
-/// Fills `out` with the key that PBKDF2 derives from a password, and counts a step for each answer of its function.
+/// Fills `out` with the key that PBKDF2 derives from a password, and counts a step for each output of its function.
 #[tactic(auto, unfolding(crate::specs::Opening::derived, crate::specs::Opening::prf_of))]
 fn derive_by_pbkdf2<L: Ledger>(
     params: &Pbkdf2Params,
@@ -181,7 +181,7 @@ impl EncryptionKey {
         EncryptionKey::derive_from_password(alloc, password, &parameters.kdf, key_size)
     }
 
-    /// The key that PBKDF2 derives for these parameters under a password, with a step for each answer of its
+    /// The key that PBKDF2 derives for these parameters under a password, with a step for each output of its
     /// function, and none where it refuses. `AlgorithmParametersInvalid` exactly where a length of the key is stated
     /// that is not the cipher's; then `UnsupportedAlgorithm` exactly where the function is scrypt.
     #[tactic(auto, unfolding(crate::specs::Opening::key_under))]

@@ -9,12 +9,13 @@ ghost use Rattle.spki.specs.Seen.{borrowed_any, borrowed_algorithm};
 ghost use Rattle.std.specs.Cmp.{partial_equiv_from_equiv, and_equiv, on_equiv, nat_eq_equiv};
 ghost use Rattle.std.specs.Cmp.Lexicographic.{on_texts_equal};
 ghost use Rattle.pkcs5.specs.Alike.{alike, kind_of};
-ghost use Rattle.pkcs5.specs.Cipher.{IsCipher, cipher_content, CipherOf, cipher_named, cipher_with, cipher_in, cipher_of};
+ghost use Rattle.pkcs5.specs.Cipher.{IsCipher, cipher_content, CipherOf};
 ghost use Rattle.pkcs5.specs.CipherLaws.{cipher_of-exact, cipher_canonical, cipher_spelled};
 ghost use Rattle.pkcs5.specs.Error.{InvalidOf};
 ghost use Rattle.pkcs5.specs.Kinds.{cipher_oid, key_size, iv_of, iv_size};
 ghost use Rattle.pkcs5.specs.SameLaws.{cipher_same};
 ghost use Rattle.pkcs5.specs.declared.pbes2.encryption_scheme.EncryptionScheme.{EncryptionScheme};
+ghost use Rattle.pkcs5.specs.Reading.{cipher_named, cipher_with, cipher_in, cipher_of};
 
 use crate::error;
 use crate::pbes2::identifiers::{
@@ -190,7 +191,7 @@ impl TryFrom<AlgorithmIdentifierRef<'_>> for EncryptionScheme {
     /// The cipher that an algorithm is. `Malformed` exactly where it has no parameters or they are no OCTET STRING;
     /// else `OidUnknown` with its identifier exactly where that names none; else `Malformed` exactly where the string
     /// has not the cipher's length.
-    #[tactic(auto, unfolding(crate::specs::Cipher::cipher_in))]
+    #[tactic(auto, unfolding(crate::specs::Reading::cipher_in))]
     fn try_from(algorithm: AlgorithmIdentifierRef<'_>) -> Result<EncryptionScheme, Error> {
         match algorithm.parameters {
             Some(parameters) => {
@@ -233,7 +234,7 @@ impl<'a> DecodeValue<&'a [u8]> for EncryptionScheme {
 
     ghost text = { λ t. CipherOf };
 
-    /// Refusals as of the algorithm; octets behind its parameters are `Malformed` last.
+    /// Refusals as of the algorithm; octets after its parameters are `Malformed` last.
     fn decode_value<R: Reader<&'a [u8]>>(
         r: &mut R,
         header: Header,

@@ -78,7 +78,7 @@ impl Parameters {
     }
 
     /// PBKDF2 over HMAC-SHA-256 in 600,000 rounds, and AES-256-CBC. The initialization vector is the next 16 octets
-    /// of the draw, and the salt the 16 behind it. `Rng` exactly where the draw fails: over one that tells its
+    /// of the draw, and the salt the 16 after it. `Rng` exactly where the draw fails: over one that tells its
     /// octets, where fewer than 32 remain.
     pub fn generate_pbkdf2<D: Draw>(draw: &mut D) -> Result<Parameters>
         ensures ok { IfOk result (λ p. DrawsIvAndSalt (D.left draw.old) (D.left draw.new)
@@ -100,7 +100,7 @@ impl Parameters {
     }
 
     /// scrypt with 2^14 turns, blocks of 8 and one piece, and AES-256-CBC. The initialization vector is the next 16
-    /// octets of the draw, and the salt the 16 behind it. `Rng` exactly where the draw fails: over one that tells its
+    /// octets of the draw, and the salt the 16 after it. `Rng` exactly where the draw fails: over one that tells its
     /// octets, where fewer than 32 remain.
     pub fn generate_scrypt<D: Draw>(draw: &mut D) -> Result<Parameters>
         ensures ok { IfOk result (λ p. DrawsIvAndSalt (D.left draw.old) (D.left draw.new)

@@ -5,12 +5,13 @@ ghost use Rattle.asn1_core.specs.Oid.{oid_octets};
 ghost use Rattle.asn1_core.specs.Texts.{seen_option};
 ghost use Rattle.spki.specs.Seen.{borrowed_any, borrowed_algorithm};
 ghost use Rattle.pkcs5.specs.Error.{InvalidOf};
-ghost use Rattle.pkcs5.specs.Kdf.{KdfOf, kdf_content, IsKdf, SpellsKdf, kdf_with, kdf_in, kdf_of};
+ghost use Rattle.pkcs5.specs.Kdf.{KdfOf, kdf_content, IsKdf, SpellsKdf};
 ghost use Rattle.pkcs5.specs.KdfLaws.{kdf_of-exact, kdf_canonical, kdf_spelled};
 ghost use Rattle.pkcs5.specs.Kinds.{IsScrypt, is_pbkdf2, kdf_oid, stated_length};
 ghost use Rattle.pkcs5.specs.SameLaws.{kdf_same};
 ghost use Rattle.pkcs5.specs.declared.pbes2.kdf.Kdf.{Kdf};
 ghost use Rattle.pkcs5.specs.declared.pbes2.kdf.Kdf.TheVariants.{Pbkdf2, Scrypt};
+ghost use Rattle.pkcs5.specs.Reading.{kdf_with, kdf_in, kdf_of};
 
 use crate::error;
 use crate::pbes2::identifiers::{PBKDF2_OID, SCRYPT_OID};
@@ -152,7 +153,7 @@ impl TryFrom<AlgorithmIdentifierRef<'_>> for Kdf {
 
     /// The function that an algorithm is. `Malformed` exactly where it has no parameters; else `OidUnknown` with its
     /// identifier exactly where that names none; else the refusals of the parameters.
-    #[tactic(auto, unfolding(crate::specs::Kdf::kdf_in))]
+    #[tactic(auto, unfolding(crate::specs::Reading::kdf_in))]
     fn try_from(algorithm: AlgorithmIdentifierRef<'_>) -> Result<Kdf, Error> {
         match &algorithm.parameters {
             Some(parameters) => kdf_with(algorithm.oid, parameters),
@@ -176,7 +177,7 @@ impl<'a> DecodeValue<&'a [u8]> for Kdf {
 
     ghost text = { λ t. KdfOf };
 
-    /// Refusals as of the algorithm; octets behind its parameters are `Malformed` last.
+    /// Refusals as of the algorithm; octets after its parameters are `Malformed` last.
     fn decode_value<R: Reader<&'a [u8]>>(r: &mut R, header: Header) -> Result<Kdf, Error> {
         read_algorithm_as(r, header)
     }

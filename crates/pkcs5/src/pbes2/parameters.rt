@@ -2,11 +2,12 @@
 ghost use Rattle.std.specs.Prelude.{◌≡◌, refl};
 ghost use Rattle.asn1_core.specs.Gives.{Gives};
 ghost use Rattle.spki.specs.Seen.{borrowed_any};
-ghost use Rattle.pkcs5.specs.Parameters.{ParametersOf, parameters_content, AreParameters, SpellsParameters, parameters_of, parameters_in};
+ghost use Rattle.pkcs5.specs.Parameters.{ParametersOf, parameters_content, AreParameters, SpellsParameters};
 ghost use Rattle.pkcs5.specs.ParametersLaws.{parameters_of-exact, parameters_canonical, parameters_spelled};
 ghost use Rattle.pkcs5.specs.Alike.{alike};
 ghost use Rattle.pkcs5.specs.SameLaws.{kdf_same, cipher_same, parameters_same};
 ghost use Rattle.pkcs5.specs.declared.pbes2.parameters.Parameters.{Parameters};
+ghost use Rattle.pkcs5.specs.Reading.{parameters_of, parameters_in};
 
 use crate::pbes2::encryption_scheme::EncryptionScheme;
 use crate::pbes2::kdf::Kdf;
@@ -75,7 +76,7 @@ impl<'a> DecodeValue<&'a [u8]> for Parameters {
     ghost text = { λ t. ParametersOf };
 
     /// Refusals in this order: `Malformed` where one of the two is no algorithm with any parameters; those of the key
-    /// derivation function; those of the cipher; `Malformed` for octets behind them.
+    /// derivation function; those of the cipher; `Malformed` for octets after them.
     fn decode_value<R: Reader<&'a [u8]>>(r: &mut R, header: Header) -> Result<Parameters, Error> {
         let mut ahead = *r;
         let value = ahead.read_slice(header.length)?;

@@ -4,11 +4,12 @@ ghost use Rattle.asn1_core.specs.Gives.{Gives};
 ghost use Rattle.spki.specs.Seen.{borrowed_any};
 ghost use Rattle.pkcs5.specs.Error.{InvalidOf};
 ghost use Rattle.pkcs5.specs.Identifiers.{pbkdf2_oid};
-ghost use Rattle.pkcs5.specs.Pbkdf2Params.{pbkdf2_params, Pbkdf2ParamsOf, stated_prf, pbkdf2_params_content, ArePbkdf2Params, SpellsPbkdf2Params, prf_or_default, pbkdf2_params_of, pbkdf2_params_in};
+ghost use Rattle.pkcs5.specs.Pbkdf2Params.{pbkdf2_params, Pbkdf2ParamsOf, stated_prf, pbkdf2_params_content, ArePbkdf2Params, SpellsPbkdf2Params};
 ghost use Rattle.pkcs5.specs.Pbkdf2ParamsLaws.{pbkdf2_params_of-exact, pbkdf2_params_canonical, pbkdf2_params_spelled};
 ghost use Rattle.pkcs5.specs.SameLaws.{pbkdf2_params_same};
 ghost use Rattle.pkcs5.specs.declared.pbes2.pbkdf2_params.Pbkdf2Params.{Pbkdf2Params};
 ghost use Rattle.pkcs5.specs.declared.pbes2.pbkdf2_prf.Pbkdf2Prf.TheVariants.{HmacWithSha256};
+ghost use Rattle.pkcs5.specs.Reading.{prf_or_default, pbkdf2_params_of, pbkdf2_params_in};
 
 use crate::error;
 use crate::pbes2::identifiers::PBKDF2_OID;
@@ -150,7 +151,7 @@ impl<'a> DecodeValue<&'a [u8]> for Pbkdf2Params {
     ghost text = { λ t. Pbkdf2ParamsOf };
 
     /// Refusals in the order of the parts: each is `Malformed` where it is not as its row says; an unknown function
-    /// is `OidUnknown`; octets behind the function are `Malformed`.
+    /// is `OidUnknown`; octets after the function are `Malformed`.
     fn decode_value<R: Reader<&'a [u8]>>(r: &mut R, header: Header) -> Result<Pbkdf2Params, Error> {
         let mut ahead = *r;
         let value = ahead.read_slice(header.length)?;

@@ -6,10 +6,11 @@ ghost use Rattle.asn1_core.specs.Reading.{UnknownOid, known};
 ghost use Rattle.asn1_core.specs.Texts.{seen_option};
 ghost use Rattle.spki.specs.Seen.{borrowed_any, borrowed_algorithm};
 ghost use Rattle.pkcs5.specs.Kinds.{prf_oid};
-ghost use Rattle.pkcs5.specs.Pbkdf2Prf.{PrfOf, prf_content, SpellsPrf, prf_named, null_or_none, prf_in, prf_of};
+ghost use Rattle.pkcs5.specs.Pbkdf2Prf.{PrfOf, prf_content, SpellsPrf};
 ghost use Rattle.pkcs5.specs.PrfLaws.{prf_of-exact, prf_canonical, prf_spelled};
 ghost use Rattle.pkcs5.specs.SameLaws.{prf_same};
 ghost use Rattle.pkcs5.specs.declared.pbes2.pbkdf2_prf.Pbkdf2Prf.{Pbkdf2Prf};
+ghost use Rattle.pkcs5.specs.Reading.{prf_named, null_or_none, prf_in, prf_of};
 
 use crate::pbes2::identifiers::{
     HMAC_WITH_SHA1_OID, HMAC_WITH_SHA224_OID, HMAC_WITH_SHA256_OID, HMAC_WITH_SHA384_OID,

@@ -5,8 +5,9 @@ ghost use Rattle.std.specs.Cmp.Rules.{comparing};
 ghost use Rattle.std.proofs.Common.{rules};
 ghost use Rattle.asn1_core.specs.Der.{octets};
 ghost use Rattle.der_core.specs.SameLaws.{octets_same};
-ghost use Rattle.pkcs5.specs.Salt.{IsSalt, SaltOf, salt_of};
+ghost use Rattle.pkcs5.specs.Salt.{IsSalt, SaltOf};
 ghost use Rattle.pkcs5.specs.Pbkdf2ParamsLaws.{salt_of-exact, salt_canonical, salt_spelled};
+ghost use Rattle.pkcs5.specs.Reading.{salt_of};
 
 use asn1_core::{Error, Header, Length, Reader, Tag, Writer};
 use der_core::{Canonical, Compared, DecodeValue, EncodeValue, FixedTag, Spelled};

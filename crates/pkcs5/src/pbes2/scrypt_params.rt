@@ -8,11 +8,12 @@ ghost use Rattle.pkcs5.specs.Error.{InvalidOf};
 ghost use Rattle.pkcs5.specs.Generation.{RefusesScrypt, TakesScrypt, scrypt_of};
 ghost use Rattle.pkcs5.specs.Identifiers.{scrypt_oid};
 ghost use Rattle.pkcs5.specs.Opening.{TakesCosts};
-ghost use Rattle.pkcs5.specs.ScryptParams.{ScryptParamsOf, scrypt_params_content, AreScryptParams, scrypt_params_of, scrypt_params_in};
+ghost use Rattle.pkcs5.specs.ScryptParams.{ScryptParamsOf, scrypt_params_content, AreScryptParams};
 ghost use Rattle.pkcs5.specs.ScryptParamsLaws.{scrypt_params_of-exact, scrypt_params_canonical, scrypt_params_spelled};
 ghost use Rattle.pkcs5.specs.SameLaws.{scrypt_params_same};
 ghost use Rattle.pkcs5.specs.declared.pbes2.kdf.Kdf.TheVariants.{Scrypt};
 ghost use Rattle.pkcs5.specs.declared.pbes2.scrypt_params.ScryptParams.{ScryptParams};
+ghost use Rattle.pkcs5.specs.Reading.{scrypt_params_of, scrypt_params_in};
 
 use crate::error;
 use crate::pbes2::identifiers::SCRYPT_OID;

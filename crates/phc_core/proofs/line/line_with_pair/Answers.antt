@@ -7,7 +7,7 @@ use Rattle.phc_core.specs.declared.error.Error.TheVariants.{ParamsInvalid}
 use Rattle.phc_core.specs.ParamsString.{with_pair}
 use Rattle.phc_core.proofs.line.line_with_pair.Goals as goal
 
--- A pair comes behind all that stands before it: first its name, then `=`, then its value.
+-- A pair comes after all that stands before it: first its name, then `=`, then its value.
 from_pair : (t p : List ℕ) → with_pair t p ≡ with_pair t [] ++ p
 from_pair [] p = refl
 from_pair (c ∷ cs) p = sym (append_assoc (c ∷ cs) (44 ∷ []) p)
@@ -21,7 +21,7 @@ from_equals t n v l m is named = from_name t n (61 ∷ v) l is ∙ ap (λ x. x +
 whole : (t n v l m k : List ℕ) → l ≡ with_pair t [] → m ≡ l ++ n → k ≡ m ++ 61 ∷ [] → with_pair t (n ++ 61 ∷ v) ≡ k ++ v
 whole t n v l m k is named equals = from_equals t n v l m is named ∙ ap (λ x. x ++ v) (sym equals)
 
--- what does not fit does not fit with more behind it
+-- what does not fit does not fit with more after it
 refused : {A : Type 0} (r : Result A Error) (n : ℕ) (x : Error) (w : List ℕ) → IsErrAnd r (λ e. e ≡ x) → (x ≡ ParamsInvalid) × (127 < n) → n ≤ length w → IfErr r (λ e. (e ≡ ParamsInvalid) × (127 < length w))
 refused r n x w gives cause more = let p = err_from_is_err_and r gives in rw p.1 (p.2 ∙ cause.0, omega (arith, cause.1))
 

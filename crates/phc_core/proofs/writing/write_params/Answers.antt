@@ -6,7 +6,7 @@ use Rattle.phc_core.specs.PasswordHash.{tail, salt_rest, params_rest}
 use Rattle.phc_core.proofs.writing.write_params.Goals.{then-not-is_empty+in_ok-write, else-not-is_empty}
 use Rattle.phc_core.proofs.writing.write_params.Goals as goal
 
--- parameters stand behind a `$`
+-- parameters come after a `$`
 some_params : (d p : List ℕ) (s h : Option (List ℕ)) (empty : Bool) → empty ≡ (length d == 0) → empty ≡ false → d ≡ p → (36 ∷ d) ++ tail (salt_rest s h) ≡ tail (params_rest p s h)
 some_params d [] s h empty test some is = absurd (let n = ap length is in grind (arith, nat_tests))
 some_params d (x ∷ p) s h empty test some is = ap (λ t. (36 ∷ t) ++ tail (salt_rest s h)) is

@@ -3,7 +3,7 @@ use Rattle.std.proofs.lemmas.Grind.{put_two}
 use Rattle.phc_core.specs.PasswordHash.{base64, tail, hash_rest, salt_rest}
 use Rattle.phc_core.proofs.writing.write_salt.Goals as goal
 
--- the symbols of a salt behind a `$`, and the hash
+-- the symbols of a salt after a `$`, and the hash
 salt_text : (s h : Option (List ℕ)) (o x d : List ℕ) → s ≡ Some o → d ≡ base64 x → x ≡ o → (36 ∷ d) ++ tail (hash_rest h) ≡ tail (salt_rest s h)
 salt_text s h o x d is shown same =
     ap (λ t. (36 ∷ t) ++ tail (hash_rest h)) (shown ∙ ap base64 same) ∙ ap (λ t. tail (salt_rest t h)) (sym is)
