@@ -26,7 +26,7 @@ use Rattle.p12.specs.ContentInfo.{ContentCase, ContentText}
 use Rattle.p12.specs.EncryptedPrivateKeyInfo.{EncryptedKeyText}
 use Rattle.p12.specs.CertBag.{CertBagCase, CertBagText}
 use Rattle.p12.specs.Attribute.{AttributeCase, AttributeText, AttributesText}
-use Rattle.p12.specs.SafeBag.{BagText, KindCase, kind_oid}
+use Rattle.p12.specs.SafeBag.{BagText, KindCase, KindText, kind_oid}
 use Rattle.p12.specs.Pfx.{PfxText}
 use Rattle.p12.specs.Same.{CanBeWritten, IsReadAgain, IsReadAsSame, SameAttribute, SameBag}
 use Rattle.p12.specs.Canonical.{WritableAlgorithm, WritableAttribute, WritableBag, WritableCertBag, WritableContent, WritableDigest, WritableEncryptedContent, WritableEncryptedData, WritableKey, WritableKind, WritableMac, WritableStore, params_canon, algorithm_canon, digest_canon, mac_canon, encrypted_content_canon, encrypted_data_canon, content_canon, contents_canon, encrypted_key_canon, cert_bag_canon, set_of, attribute_canon, attributes_canon, kind_canon, bag_canon, bags_canon, store_canon}
@@ -50,7 +50,7 @@ use Rattle.p12.specs.declared.safe_bag.SafeBagKind.TheVariants as kind
 pub one_left : {A W : Type 0} (R : List ℕ → A → Type 0) (w : W) (get : W → A) (t : List ℕ) → R t (get w) → Field R get End t w
 one_left R w get t r = (t, [], r, refl, sym (append-nil t))
 
--- what stands behind a known identifier
+-- what comes after a known identifier
 pub known : {A : Type 0} (Case : ObjectIdentifier → List ℕ → A → Type 0) (k : ObjectIdentifier) (name q : List ℕ) (v : A) → oid_octets k ≡ name → Case k q v
     → Sequence (On Oid Case) (seq (oid name ++ q)) v
 known Case k name q v is c = (oid name ++ q, (oid name, q, k, (name, sym is, refl), c, refl), refl)
@@ -347,3 +347,27 @@ mac_there_writes q (Some m) r = mac_writes m (q, r)
 
 pub store_writes : CanBeWritten PfxText WritableStore
 store_writes s (t, (w, (x, y, r, (x2, y2, c, (x3, y3, m, e3, e2), e1), e), e0)) = (content_writes s.auth_safe (x2, c), mac_there_writes x3 s.mac_data m)
+
+-- ---- a bag's value by itself, and lists
+
+kind_element : (v : SafeBagKind) → WritableKind v → IsElement (kind_canon v)
+kind_element (kind.CertBag (X509 v)) w = (0x30, _, refl, refl)
+kind_element (kind.CertBag (SDSI v)) w = (0x30, _, refl, refl)
+kind_element (kind.Pkcs8ShroudedKeyBag e) w = (0x30, _, refl, refl)
+kind_element (kind.OtherBagKind o) w = w
+
+-- a bag's value by itself
+pub kind_text_again : (k : ObjectIdentifier) → IsReadAgain (KindText k) kind_canon
+kind_text_again k v (q, r) = ((kind_again k q v r.0).1, kind_element v (kind_writes k q v r.0))
+
+pub kind_tells : (k : ObjectIdentifier) (b : List ℕ) (v : SafeBagKind) → KindText k b v → kind_oid v ≡ oid_octets k
+kind_tells k b v r = sym (kind_again k b v r.0).0
+
+pub kind_text_writes : (k : ObjectIdentifier) → CanBeWritten (KindText k) WritableKind
+kind_text_writes k v (q, r) = kind_writes k q v r.0
+
+pub contents_write : CanBeWritten (Within 0x30 (Many ContentText)) (All WritableContent)
+contents_write vs (t, (w, m, e)) = many_write ContentText WritableContent content_writes w vs m
+
+pub bags_write : CanBeWritten (Within 0x30 (Many BagText)) (All WritableBag)
+bags_write vs (t, (w, m, e)) = many_write BagText WritableBag bag_writes w vs m

@@ -56,7 +56,7 @@ case_fits k q Sha1 r = omega arith
 case_fits k q Sha256 r = omega arith
 case_fits k q (Pbes2 par) r = omega arith
 case_fits k q (OtherAlg o) r = omega arith
-case_fits k q (PbewithSHAAnd40BitRC2CBC p) r = params_fit q p r.1
+case_fits k q (PbewithSHAAnd40BitRC2CBC p) r = omega arith
 case_fits k q (PbeWithSHAAnd3KeyTripleDESCBC p) r = params_fit q p r.1
 
 salt_fits : (b : List ℕ) (a : AlgorithmIdentifier) → AlgorithmText b a → Fits (salt_of a) b

@@ -1,4 +1,4 @@
--- Bags of contents, one content behind the other.
+-- Bags of contents, one content after the other.
 use Rattle.std.proofs.Common.{◌≡◌, ◌∙◌, ℕ, ◌+◌, ◌<◌, ◌≤◌, ◌-◌, ◌^◌, List, [], ◌∷◌, ◌++◌, length, take, drop, get_or, inl, inr, refl, sym, ap, subst, arith}
 use Rattle.std.specs.Prelude.{All, IfSome, Option, Some, None}
 use Rattle.std.proofs.lemmas.List.{append_assoc, append-nil, take-append-drop, take_more}
@@ -23,7 +23,7 @@ hold_more p [] c gs more none h = (more, [], h, refl, ap (λ (x : List SafeBag).
 hold_more p (d ∷ cs) c gs more (first, rest, holds, all, e) h =
     (first, rest ++ more, holds, hold_more p cs c rest more all h, ap (λ (x : List SafeBag). x ++ more) e ∙ append_assoc first rest more)
 
--- the first fault stands behind contents that have none
+-- the first fault comes after contents that have none
 pub fault_behind : (p : List ℕ) (cs : List ContentInfo) (c : ContentInfo) (ds : List ContentInfo) (gs : List SafeBag) (e : Error) → HoldAll p cs gs → ContentFault p c e → FirstFault p (cs ++ c ∷ ds) e
 fault_behind p [] c ds gs e none f = inl f
 fault_behind p (d ∷ cs) c ds gs e (first, rest, holds, all, is) f = inr (first, holds, fault_behind p cs c ds rest e all f)
@@ -72,14 +72,16 @@ plain_fits (content.Data v) f = omega (arith, f.0)
 plain_fits (content.EncryptedData d) f = omega arith
 plain_fits (content.OtherContext o) f = omega arith
 
-mac_opens : (c : ContentInfo) (o : Option MacData) → length (plain_of c) < 2 ^ 32 → IfSome o (λ m. length m.salt ≤ 2 ^ 32 - 1)
-    → IfSome o (λ m. (length m.salt < 2 ^ 59) × (length (plain_of c) < 2 ^ 32))
-mac_opens c None h f = tt
-mac_opens c (Some m) h f = (omega (arith, f), h)
+mac_opens : (c : ContentInfo) (o : Option MacData) → SealFits c → length (plain_of c) < 2 ^ 32 → IfSome o (λ m. length m.salt ≤ 2 ^ 32 - 1)
+    → IfSome o (λ m. SealFits c × (length m.salt < 2 ^ 59) × (length (plain_of c) < 2 ^ 32))
+mac_opens c None g h f = tt
+mac_opens c (Some m) g h f = (g, omega (arith, f), h)
 
 -- so a store that fits can be opened
 narrow_opens : (s : PFX) → StoreFits (2 ^ 32 - 1) s → OpeningFits s
-narrow_opens s f = (seal_fits s.auth_safe f.0, mac_opens s.auth_safe s.mac_data (plain_fits s.auth_safe f.0) f.1)
+narrow_opens s f =
+    let seal = seal_fits s.auth_safe f.0 in
+    (seal, mac_opens s.auth_safe s.mac_data seal (plain_fits s.auth_safe f.0) f.1)
 
 -- contents of a list fit: it has fewer than 2 ^ 32 octets
 pub listed_fit : (b : List ℕ) (cs : List ContentInfo) → IsContents b cs → All SealFits cs

@@ -24,5 +24,5 @@ pub mod Again
 pub mod Alike
 pub mod MadeTexts
 mod Made
-mod MadeSizes
+pub mod MadeSizes
 mod MadeRefusals

@@ -11,19 +11,19 @@ use Rattle.p12.specs.declared.content_info.ContentInfo.{ContentInfo}
 use Rattle.p12.specs.declared.content_info.ContentInfo.TheVariants as content
 use Rattle.p12.proofs.Fits.{Fits, left_fits, right_fits, through, value_fits}
 
-abbrev Same : List ℕ → List ℕ → Type 0
+abbrev pub Same : List ℕ → List ℕ → Type 0
 Same v w = length v ≡ length w
 
-el_same : (tag : ℕ) (v w : List ℕ) → Same v w → Same (el tag v) (el tag w)
+pub el_same : (tag : ℕ) (v w : List ℕ) → Same v w → Same (el tag v) (el tag w)
 el_same tag v w e = el_size tag v ∙ ap (λ (n : ℕ). 1 + length (len n) + n) e ∙ sym (el_size tag w)
 
-join_same : (a b c d : List ℕ) → Same a b → Same c d → Same (a ++ c) (b ++ d)
+pub join_same : (a b c d : List ℕ) → Same a b → Same c d → Same (a ++ c) (b ++ d)
 join_same a b c d e f = omega (arith, length-append a c, length-append b d, e, f)
 
-behind_same : (a c d : List ℕ) → Same c d → Same (a ++ c) (a ++ d)
+pub behind_same : (a c d : List ℕ) → Same c d → Same (a ++ c) (a ++ d)
 behind_same a c d e = join_same a a c d refl e
 
-front_same : (a b c : List ℕ) → Same a b → Same (a ++ c) (b ++ c)
+pub front_same : (a b c : List ℕ) → Same a b → Same (a ++ c) (b ++ c)
 front_same a b c e = join_same a b c c e refl
 
 algorithm_same : (s r : List ℕ) → Same s r → Same (algorithm_canon (triple_des s)) (algorithm_canon (triple_des r))

@@ -77,7 +77,7 @@ both_made salt count c v le short =
 abbrev pub bag_text : ObjectIdentifier → List ℕ → List ℕ → List ℕ
 bag_text k q a = seq (oid (oid_octets k) ++ (ctx 0 q ++ a))
 
-bag_made : (k : ObjectIdentifier) (q a : List ℕ) (g : SafeBag) → KindCase k q g.bag → AttributesText a g.attributes → BagText (bag_text k q a) g
+pub bag_made : (k : ObjectIdentifier) (q a : List ℕ) (g : SafeBag) → KindCase k q g.bag → AttributesText a g.attributes → BagText (bag_text k q a) g
 bag_made k q a g r s =
     (oid (oid_octets k) ++ (ctx 0 q ++ a), (oid (oid_octets k), ctx 0 q ++ a, k, (oid_octets k, refl, refl), (ctx 0 q, a, (q, r, refl), one_left AttributesText g (λ g. g.attributes) a s, refl), refl), refl)
 

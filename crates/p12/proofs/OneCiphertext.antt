@@ -11,8 +11,9 @@ use Rattle.mac_modes.specs.Cbc.{uncbc}
 use Rattle.mac_modes.specs.Padding.{padded}
 use Rattle.mac_modes.specs.Sha1Laws.{length-sha1}
 use Rattle.mac_modes.proofs.Uniqueness.{one_ciphertext}
+use Rattle.pkcs5.proofs.Openings.{length_8, tdes_blocks}
 use Rattle.pkcs12_kdf.specs.Derivation.{derive12}
-use Rattle.p12.specs.AlgorithmIdentifier.{is_blocks, triple_des_text, unlock_pbe, unpadded}
+use Rattle.p12.specs.AlgorithmIdentifier.{ciphertext_length, is_blocks, triple_des_text, unlock_pbe, unpadded}
 use Rattle.p12.specs.declared.pkcs12_pbe_params.Pkcs12PbeParams.{Pkcs12PbeParams}
 use Rattle.p12.specs.declared.algorithm_identifier.AlgorithmIdentifier.TheVariants.{PbeWithSHAAnd3KeyTripleDESCBC}
 use Rattle.p12.proofs.Paddings.{unpadded_is}
@@ -36,6 +37,7 @@ if_value false r m e = absurd cc
 
 record Opened (p : Pkcs12PbeParams) (q c m : List ℕ) : Type 0 where
   rounds : 1 ≤ p.iterations
+  some : 0 < length c
   whole : length c % 8 ≡ 0
   text : triple_des_text q p.salt p.iterations c ≡ padded m 8
 
@@ -45,7 +47,7 @@ opened p q c m e =
     let t = if_value (nat_lt 0 p.iterations && is_blocks c) (unpadded 8 (triple_des_text q p.salt p.iterations c)) m e in
     let u = both (nat_lt 0 p.iterations) (is_blocks c) t.0 in
     let v = both (nat_lt 0 (length c)) (length c % 8 == 0) u.1 in
-    record { rounds = omega (arith, ltb-true 0 p.iterations u.0); whole = eqb-true (length c % 8) 0 v.1; text = sym (unpadded_is 8 _ m t.1) }
+    record { rounds = omega (arith, ltb-true 0 p.iterations u.0); some = ltb-true 0 (length c) v.0; whole = eqb-true (length c % 8) 0 v.1; text = sym (unpadded_is 8 _ m t.1) }
 
 pub triple_des_sole : (p : Pkcs12PbeParams) (q c d m : List ℕ) → Octets c → Octets d → unlock_pbe (PbeWithSHAAnd3KeyTripleDESCBC p) q c ≡ Some m → unlock_pbe (PbeWithSHAAnd3KeyTripleDESCBC p) q d ≡ Some m → c ≡ d
 unfolding triple_des_text
@@ -54,3 +56,11 @@ triple_des_sole p q c d m oc od h k =
     let b = opened p q d m k in
     under_key (derive12 sha1 20 q p.salt p.iterations 1 24) (derive12 sha1 20 q p.salt p.iterations 2 8) c d
     (length-derive12 sha1 q p.salt p.iterations 2 8 a.rounds length-sha1) oc a.whole od b.whole (a.text ∙ sym b.text)
+
+-- a ciphertext is as long as its text makes it
+pub triple_des_length : (p : Pkcs12PbeParams) (q c m : List ℕ) → unlock_pbe (PbeWithSHAAnd3KeyTripleDESCBC p) q c ≡ Some m → length c ≡ ciphertext_length (length m)
+unfolding triple_des_text
+triple_des_length p q c m h =
+    let a = opened p q c m h in
+    length_8 _ (tdes_blocks (derive12 sha1 20 q p.salt p.iterations 1 24)) (derive12 sha1 20 q p.salt p.iterations 2 8) c m
+    (record { blocks = record { some = a.some; whole = a.whole }; text = a.text })

@@ -46,7 +46,7 @@ parts_are x y z c d p q e = e ∙ ap (λ (l : List ℕ). l ++ y) p ∙ ap (λ (l
 pub whole_is : (tag : ℕ) (b w v : List ℕ) → b ≡ el tag w → w ≡ v → b ≡ el tag v
 whole_is tag b w v e is = e ∙ ap (λ (x : List ℕ). el tag x) is
 
--- a SEQUENCE of a known identifier, and what stands behind it
+-- a SEQUENCE of a known identifier, and what comes after it
 pub behind : (k : ObjectIdentifier) (name p q w b : List ℕ) → Oid p k → oid_octets k ≡ name → w ≡ p ++ q → b ≡ el 0x30 w → b ≡ seq (oid name ++ q)
 behind k name p q w b o is e e0 = whole_is 0x30 b w (oid name ++ q) e0 (parts_are p q w (oid name) q (oid_is p k o ∙ ap oid is) refl e)
 

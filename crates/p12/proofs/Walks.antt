@@ -70,7 +70,7 @@ more_fuel p s (suc j) (suc k) (b ∷ bs) h i =
     let less = s (b ∷ bs) x.0 x.1 e in
     ap (λ (r : Result (List _) Fault). r >>= λ vs. Ok (x.0 ∷ vs)) (more_fuel p s j k x.1 (omega (arith, less, h)) (omega (arith, less, i))))
 
--- what is left behind the first part
+-- what is left after the first part
 pub behind : {A : Type 0} (p : Front A) → Shrinks p → (rest after : List ℕ) (v : A) (xs : List A) → p rest ≡ Ok (v, after) → many p rest ≡ Ok xs → (ys : List A) × (many p after ≡ Ok ys) × (xs ≡ v ∷ ys)
 behind p s [] after v xs e all = absurd (omega (arith, s [] v after e))
 behind p s (b ∷ bs) after v xs e all =

@@ -33,7 +33,7 @@ ParamsText = Sequence (Field (Inside 0x04) (λ p. p.salt) (Field (Uint (2 ^ 64 -
 abbrev pub NoScheme : List ℕ → Type 0
 NoScheme q = (par : Parameters) → ParametersText q par → IsShort q → ⊥
 
--- what stands behind the identifier k of an algorithm
+-- what comes after the identifier k of an algorithm
 abbrev pub AlgorithmCase : ObjectIdentifier → List ℕ → AlgorithmIdentifier → Type 0
 AlgorithmCase k q Sha1 = (oid_octets k ≡ sha1_oid) × ((q ≡ []) ⊎ (q ≡ null))
 AlgorithmCase k q Sha256 = (oid_octets k ≡ sha256_oid) × ((q ≡ []) ⊎ (q ≡ null))
@@ -78,7 +78,7 @@ count (Pbes2 par) = rounds_of par.kdf
 count (OtherAlg o) = 0
 
 -- its share of the work: for Triple DES the SHA-1 digests of the key's two blocks and of the IV's one block, for PBES2 the
--- answers of the pseudorandom function that make the key
+-- outputs of the pseudorandom function that make the key
 abbrev pub cost : AlgorithmIdentifier → ℕ
 cost Sha1 = 0
 cost Sha256 = 0
@@ -87,11 +87,11 @@ cost (PbeWithSHAAnd3KeyTripleDESCBC p) = 3 * p.iterations
 cost (Pbes2 par) = rounds_of par.kdf * steps_of par
 cost (OtherAlg o) = 0
 
--- its salt, where it is one of RFC 7292
+-- the salt that a key and an IV are derived from, where it is Triple DES of RFC 7292
 abbrev pub salt_of : AlgorithmIdentifier → List ℕ
 salt_of Sha1 = []
 salt_of Sha256 = []
-salt_of (PbewithSHAAnd40BitRC2CBC p) = p.salt
+salt_of (PbewithSHAAnd40BitRC2CBC p) = []
 salt_of (PbeWithSHAAnd3KeyTripleDESCBC p) = p.salt
 salt_of (Pbes2 par) = []
 salt_of (OtherAlg o) = []
@@ -183,7 +183,7 @@ ciphertext_length n = n + pad_count 8 n
 abbrev pub IsSealed : (List ℕ → Option (List ℕ)) → List ℕ → List ℕ → Type 0
 IsSealed opens m c = (opens c ≡ Some m) × (length c < 2 ^ 32)
 
--- when sealing the text m is refused, by cases on the error: one with ⊥ never comes, want of memory may come at any point, and
+-- when sealing the text m is refused, by cases on the error: one with ⊥ never comes, running out of memory may come at any point, and
 -- a text is too long where its ciphertext has more than 2 ^ 32 - 1 octets
 abbrev pub RefusesToSeal : (List ℕ → Option (List ℕ)) → List ℕ → Error → Type 0
 RefusesToSeal opens m errors.Malformed = ⊥

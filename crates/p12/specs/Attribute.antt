@@ -9,7 +9,7 @@ use Rattle.p12.specs.Identifiers.{friendly_name_oid, local_key_id_oid}
 use Rattle.p12.specs.declared.attribute.PKCS12Attribute.{PKCS12Attribute}
 use Rattle.p12.specs.declared.attribute.PKCS12Attribute.TheVariants.{FriendlyName, LocalKeyId, Other}
 
--- what stands behind the identifier k of an attribute; of several names or key ids the last counts
+-- what comes after the identifier k of an attribute; of several names or key ids the last counts
 abbrev pub AttributeCase : ObjectIdentifier → List ℕ → PKCS12Attribute → Type 0
 AttributeCase k q (FriendlyName t) = (oid_octets k ≡ friendly_name_oid) × Within 0x31 (Latest Bmp) q t
 AttributeCase k q (LocalKeyId v) = (oid_octets k ≡ local_key_id_oid) × Within 0x31 (Latest (Inside 0x04)) q v

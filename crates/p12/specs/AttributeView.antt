@@ -13,7 +13,7 @@ use Rattle.p12.specs.declared.attribute.AttributeView.TheVariants as view
 abbrev pub bmp_text : List ℕ → List ℕ
 bmp_text b = read_or_none (whole bmp_at b)
 
--- the elements, or the attributes, that stand in these octets
+-- the elements, or the attributes, that are in these octets
 abbrev pub seen_elements : List ℕ → List (List ℕ)
 seen_elements b = read_or_none (many raw_at b)
 
@@ -25,7 +25,7 @@ seen_attribute (view.Name x) = owned.FriendlyName (bmp_text x.now)
 seen_attribute (view.KeyId x) = owned.LocalKeyId x.now
 seen_attribute (view.Other o values) = owned.Other (record { oid = o; values = seen_elements values.now })
 
--- what stands in a view that was read
+-- what is in a view that was read
 abbrev pub IsAttribute : AttributeView → Type 0
 IsAttribute (view.Name x) = bmp_at x.now ≡ Ok (bmp_text x.now, [])
 IsAttribute (view.KeyId x) = ⊤

@@ -56,7 +56,7 @@ pub record DrawsSalts (old new : Option (List ℕ)) (P : Salts → Type 0) : Typ
 abbrev pub AreEnough : Option (List ℕ) → ℕ → Type 0
 AreEnough left n = IfSome left (λ octets. n ≤ length octets)
 
--- a call that draws n octets is refused, by cases on the error: one with ⊥ never comes, want of memory may come at any
+-- a call that draws n octets is refused, by cases on the error: one with ⊥ never comes, running out of memory may come at any
 -- point; `bad` is when a value cannot be written, `long` when a text would be too long, and both come only where there
 -- were enough octets
 abbrev pub RefusesDrawn : Type 0 → Type 0 → ℕ → ℕ → Option (List ℕ) → ℕ → Error → Type 0
@@ -169,7 +169,7 @@ IsTooLongStore e = IsTooLong e.key ⊎ (IsTooLong (bags_canon (certificate_bags 
 abbrev pub seen_entry : EntryParts → Entry
 seen_entry e = record { certificate = e.certificate.now; key = e.key.now; others = e.others.now; name = e.name.now }
 
--- an entry is refused, by cases on the error: one with ⊥ never comes, want of memory may come at any point
+-- an entry is refused, by cases on the error: one with ⊥ never comes, running out of memory may come at any point
 abbrev pub RefusesStore : Entry → Error → Type 0
 RefusesStore e errors.Malformed = ⊥
 RefusesStore e errors.Invalid = ⊥

@@ -1,4 +1,4 @@
--- The one text that is written of a value (RFC 7292 section 4; X.690 sections 10 and 11). NULL stands behind SHA-1 and
+-- The one text that is written of a value (RFC 7292 section 4; X.690 sections 10 and 11). NULL comes after SHA-1 and
 -- SHA-256, the count of a MAC is always there, and an empty set of attributes is left out. A name or key id stands
 -- alone in its set, and the elements of a set ascend. The parameters of PBES2 are written as `pkcs5` writes them: HMAC
 -- over SHA-1 is left out of those of PBKDF2. Octets of another kind stand as they are. A count of 1 is written too, as the

@@ -9,7 +9,7 @@ use Rattle.p12.specs.Identifiers.{x509_certificate_oid, sdsi_certificate_oid}
 use Rattle.p12.specs.declared.cert_bag.CertBag.{CertBag}
 use Rattle.p12.specs.declared.cert_bag.CertBag.TheVariants.{X509, SDSI}
 
--- what stands behind the identifier k of a certificate; another identifier has no text
+-- what comes after the identifier k of a certificate; another identifier has no text
 abbrev pub CertBagCase : ObjectIdentifier → List ℕ → CertBag → Type 0
 CertBagCase k q (X509 v) = (oid_octets k ≡ x509_certificate_oid) × Within 0xa0 (Inside 0x04) q v
 CertBagCase k q (SDSI t) = (oid_octets k ≡ sdsi_certificate_oid) × Within 0xa0 Ia5 q t

@@ -1,4 +1,4 @@
--- What the calls of a store give that collect its bags, one content behind the other, or why they give none.
+-- What the calls of a store give that collect its bags, one content after the other, or why they give none.
 use Rattle.std.specs.Prelude.{◌⊎◌, ◌≡◌, ℕ, List, [], ◌∷◌, ◌++◌, Option, Some, None, Bool, true, false}
 use Rattle.std.specs.List.{flat_map}
 use Rattle.p12.specs.AlgorithmIdentifier.{unlock}

@@ -11,7 +11,7 @@ use Rattle.p12.specs.AlgorithmIdentifier.{salt_of, unlock_pbe}
 use Rattle.p12.specs.declared.content_info.ContentInfo.{ContentInfo}
 use Rattle.p12.specs.declared.content_info.ContentInfo.TheVariants as content
 
--- what stands behind the identifier k of a content
+-- what comes after the identifier k of a content
 abbrev pub ContentCase : ObjectIdentifier → List ℕ → ContentInfo → Type 0
 ContentCase k q (content.Data v) = (oid_octets k ≡ data_oid) × Within 0xa0 (Inside 0x04) q v
 ContentCase k q (content.EncryptedData e) = (oid_octets k ≡ encrypted_data_oid) × Within 0xa0 EncryptedDataText q e

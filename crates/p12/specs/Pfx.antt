@@ -23,9 +23,10 @@ NoStore b = (s : PFX) → IsStore b s → ⊥
 abbrev pub StoreFits : ℕ → PFX → Type 0
 StoreFits n s = ContentFits n s.auth_safe × IfSome s.mac_data (λ m. length m.salt ≤ n)
 
--- where it has a MAC, the salt of that has fewer than 2 ^ 59 octets, and a plain outer content fewer than 2 ^ 32
+-- where it has a MAC, its outer content can be opened, the salt of the MAC has fewer than 2 ^ 59 octets, and a plain outer
+-- content fewer than 2 ^ 32
 abbrev pub MacFits : PFX → Type 0
-MacFits s = IfSome s.mac_data (λ m. (length m.salt < 2 ^ 59) × (length (plain_of s.auth_safe) < 2 ^ 32))
+MacFits s = IfSome s.mac_data (λ m. SealFits s.auth_safe × (length m.salt < 2 ^ 59) × (length (plain_of s.auth_safe) < 2 ^ 32))
 
 -- what the calls that open it ask of it
 abbrev pub OpeningFits : PFX → Type 0

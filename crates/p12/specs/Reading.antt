@@ -8,7 +8,6 @@ use Rattle.asn1_core.specs.Oid.{oid_octets}
 use Rattle.asn1_core.specs.declared.identifier.ObjectIdentifier.{ObjectIdentifier}
 use Rattle.p12.specs.Identifiers.{sha1_oid, sha256_oid, rc2_scheme_oid, triple_des_scheme_oid, data_oid, encrypted_data_oid, friendly_name_oid, local_key_id_oid, x509_certificate_oid, sdsi_certificate_oid, shrouded_key_bag_oid, cert_bag_oid}
 use Rattle.pkcs5.specs.Identifiers.{pbes2_oid}
-use Rattle.pkcs5.specs.Parameters.{parameters_at}
 use Rattle.p12.specs.declared.pkcs12_pbe_params.Pkcs12PbeParams.{Pkcs12PbeParams}
 use Rattle.p12.specs.declared.algorithm_identifier.AlgorithmIdentifier.{AlgorithmIdentifier}
 use Rattle.p12.specs.declared.algorithm_identifier.AlgorithmIdentifier.TheVariants.{Sha1, Sha256, PbewithSHAAnd40BitRC2CBC, PbeWithSHAAnd3KeyTripleDESCBC, Pbes2, OtherAlg}
@@ -27,6 +26,7 @@ use Rattle.p12.specs.declared.safe_bag.SafeBagKind.{SafeBagKind}
 use Rattle.p12.specs.declared.safe_bag.SafeBagKind.TheVariants as kind
 use Rattle.p12.specs.declared.safe_bag.SafeBag.{SafeBag}
 use Rattle.p12.specs.declared.pfx.PFX.{PFX}
+use Rattle.pkcs5.specs.Reading.{parameters_at}
 
 -- ---- algorithms
 

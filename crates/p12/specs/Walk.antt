@@ -4,7 +4,7 @@ use Rattle.asn1_core.specs.Reading.{Fault, Front, many}
 use Rattle.asn1_core.specs.Gives.{Fails}
 use Rattle.asn1_core.specs.declared.error.Error.{Error}
 
--- a walk over the parts in these octets: how many octets lie behind it, and the parts that are still to come
+-- a walk over the parts in these octets: how many octets lie after it, and the parts that are still to come
 pub record Walk (A : Type 0) : Type 0 where
   pub bytes : List ℕ
   pub passed : ℕ
@@ -22,7 +22,7 @@ walk_over p bytes rest = record { bytes = bytes; passed = length bytes - length 
 abbrev pub IsWalk : {A : Type 0} → Front A → List ℕ → List ℕ → Type 0
 IsWalk p bytes rest = (drop (length bytes - length rest) bytes ≡ rest) × (many p rest ≡ Ok (read_or_none (many p rest)))
 
--- what a call answers that reads and keeps nothing
+-- what a call returns that reads and keeps nothing
 abbrev pub Passes : {Y : Type 0} → Result (Unit {0}) Error → Result Y Fault → Type 0
 Passes {Y} (Ok u) read = (y : Y) × (read ≡ Ok y)
 Passes (Err e) read = Fails ⊥ e read

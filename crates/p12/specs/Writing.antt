@@ -1,4 +1,4 @@
--- What the calls answer that write a value: its canonical text (X.690 sections 8 to 11), or why there is none.
+-- What the calls return that write a value: its canonical text (X.690 sections 8 to 11), or why there is none.
 use Rattle.std.specs.Prelude.{◌≡◌, ℕ, List, length, Result, Ok, Err, None, ⊤}
 use Rattle.asn1_core.specs.Der.{IsShort}
 use Rattle.asn1_core.specs.Writing.{Sink, Cause, IsOverlong, Writes, in_memory}
@@ -15,7 +15,7 @@ abbrev pub MakesText : Type 0 → List ℕ → Result (List ℕ) Asn1Error → T
 MakesText can text (Ok t) = (t ≡ text) × IsShort text × can
 MakesText can text (Err e) = RefusesText can text e
 
--- the text was written whole, or a front of it and the answer says why
+-- the text was written whole, or a front of it and the result says why
 abbrev pub WritesText : {W : Type 0} → Sink W → Type 0 → List ℕ → W → Result (Unit {0}) Asn1Error → W → Type 0
 WritesText S can text old r new = Writes (in_memory S) (¬ can) (IsOverlong (length text)) text old r new
 

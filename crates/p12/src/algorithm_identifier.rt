@@ -7,9 +7,12 @@ ghost use Rattle.p12.specs.AlgorithmIdentifier.{IsUnderDes, AlgorithmText, IsSea
 ghost use Rattle.pkcs5.specs.Kinds as kinds;
 ghost use Rattle.pkcs5.specs.Opening as opening;
 ghost use Rattle.p12.specs.Error.{Reads};
-ghost use Rattle.asn1_core.specs.Reading.{made, perhaps};
+ghost use Rattle.asn1_core.specs.Reading.{made, perhaps, whole};
 ghost use Rattle.p12.specs.declared.algorithm_identifier.AlgorithmIdentifier.TheVariants as algorithm;
 ghost use Rattle.p12.specs.Reading.{null_at, digest_all, rc2_all, triple_des_all, pbes2_all, other_algorithm_all, algorithm_all, algorithm_at};
+ghost use Rattle.asn1_core.specs.Der.{IsShort};
+ghost use Rattle.p12.specs.Canonical.{WritableAlgorithm, algorithm_canon};
+ghost use Rattle.p12.specs.Writing.{WritesText};
 
 use crate::error::Error;
 use crate::identifiers::{
@@ -20,8 +23,10 @@ use crate::other_algorithm_identifier::OtherAlgorithmIdentifier;
 use crate::password::bmp_string;
 use crate::pkcs12_pbe_params::{ParamsView, Pkcs12PbeParams, params_view};
 use crate::sealing::{fitting, seal_blocks, seal_pbes2};
+use crate::writing::write_row;
 use asn1_core::{
-    ObjectIdentifier, Octets, Reader, SliceReader, Tag, read_identifier, read_inner, read_raw,
+    ObjectIdentifier, Octets, Reader, SliceReader, Tag, Writer, read_identifier, read_inner,
+    read_raw,
 };
 use der_core::Decode;
 use pkcs5::pbes2::{Kdf, PBES2_OID, Parameters, Pbkdf2Prf};
@@ -275,7 +280,7 @@ impl AlgorithmIdentifier {
     }
 }
 
-/// The octets of an answer of a pseudorandom function.
+/// The octets of an output of a pseudorandom function.
 fn prf_output(prf: Pbkdf2Prf) -> u64
     ensures { result ≡ opening.prf_output prf }
 {
@@ -288,7 +293,7 @@ fn prf_output(prf: Pbkdf2Prf) -> u64
     }
 }
 
-/// The answers of the pseudorandom function that a round takes, of which there are as many as the key wants.
+/// The outputs of the pseudorandom function that a round takes, of which there are as many as the key wants.
 fn answers_of(parameters: &Parameters) -> u64
     ensures value { result ≡ opening.steps_of parameters.now }
     ensures few { result ≤ 2 }
@@ -323,7 +328,7 @@ fn states_key(parameters: &Parameters) -> bool
     }
 }
 
-/// The answers of the pseudorandom function that make the key.
+/// The outputs of the pseudorandom function that make the key.
 fn key_answers(parameters: &Parameters) -> u128
     ensures { result ≡ kinds.rounds_of parameters.now.kdf * opening.steps_of parameters.now }
 {
@@ -363,7 +368,7 @@ impl<'a> AlgorithmView<'a> {
     }
 
     /// The steps of opening a text: for Triple DES three digests a round, two for the key and one for the IV; for PBES2 the
-    /// answers of the pseudorandom function that make the key; 0 for an algorithm that is neither Triple DES nor PBES2
+    /// outputs of the pseudorandom function that make the key; 0 for an algorithm that is neither Triple DES nor PBES2
     /// with PBKDF2.
     pub fn cost(&self) -> u128
         ensures { result ≡ cost (seen_algorithm self.now) }
@@ -412,7 +417,7 @@ impl AlgorithmIdentifier {
     }
 
     /// The steps of opening a text: for Triple DES three digests a round, two for the key and one for the IV; for PBES2 the
-    /// answers of the pseudorandom function that make the key; 0 for an algorithm that is neither Triple DES nor PBES2
+    /// outputs of the pseudorandom function that make the key; 0 for an algorithm that is neither Triple DES nor PBES2
     /// with PBKDF2.
     pub fn cost(&self) -> u128
         ensures { result ≡ cost self.now }
@@ -474,7 +479,7 @@ impl<'a> AlgorithmView<'a> {
         }
     }
 
-    /// Opens a ciphertext in place, and answers the length in octets of the plain octets, which then stand in its front. Triple
+    /// Opens a ciphertext in place, and returns the length in octets of the plain octets, which then are in its front. Triple
     /// DES takes the password as `bmp_string` gives it, PBES2 as its UTF-8.
     ///
     /// None exactly where the algorithm is neither, the function of PBES2 is scrypt, a length of the key is stated that is not the
@@ -636,7 +641,7 @@ impl AlgorithmIdentifier {
     /// exactly where the algorithm is neither, the function of PBES2 is scrypt, a length of the key is stated that is not the
     /// cipher's, the count is 0, in CBC the ciphertext is empty or not whole blocks or its padding is wrong, or in GCM it has fewer
     /// than 16 octets or a wrong tag. The only refusal is `Memory`. Steps for Triple DES as `decrypt_pbe_counted` takes them; for
-    /// PBES2 one for each answer of the pseudorandom function.
+    /// PBES2 one for each output of the pseudorandom function.
     ///
     /// Caller: the ciphertext has fewer than 2^32 octets, the password fewer than 2^57, the salt fewer than 2^59.
     pub fn decrypt_text_counted<L: Ledger>(
@@ -770,5 +775,19 @@ impl AlgorithmIdentifier {
             | AlgorithmIdentifier::PbewithSHAAnd40BitRC2CBC(_)
             | AlgorithmIdentifier::OtherAlg(_) => unreachable!(),
         }
+    }
+}
+
+impl AlgorithmIdentifier {
+    /// Writes the algorithm. `Malformed` only where its parameters cannot be written: those of another algorithm are
+    /// not one whole element, or those of PBES2 are none. `Overlength` only where the text has more than 2^32 - 1
+    /// octets, `Memory` when out of memory, else the writer's refusals; a front of the text was written then.
+    pub fn write<W: Writer>(&self, alloc: Global, w: &mut W) -> Result<(), asn1_core::Error>
+        ensures writes { WritesText W.sink (WritableAlgorithm self.now)
+            (algorithm_canon self.now) w.old result w.new }
+        ensures short { OnOk result (IsShort (algorithm_canon self.now)) }
+        ensures lawful { OnOk result (WritableAlgorithm self.now) }
+    {
+        write_row(self, alloc, w)
     }
 }

@@ -1,7 +1,7 @@
 //! Attributes of a bag.
 ghost use Rattle.std.specs.Prelude.{◌+◌, ◌≡◌, ◌<◌, false, [], length, Ok, OnOk, IfOk, IfErr};
 ghost use Rattle.asn1_core.specs.Gives.{Gives, GivesIn, ReadsAs, ReadsIn};
-ghost use Rattle.asn1_core.specs.Reading.{many, raw_at, inside_at};
+ghost use Rattle.asn1_core.specs.Reading.{many, raw_at, inside_at, whole};
 ghost use Rattle.asn1_core.specs.Fields.{latest};
 ghost use Rattle.asn1_core.specs.Unicode.{bmp_at, units_all};
 ghost use Rattle.std.specs.Char.Utf16.{is_high_surrogate, is_low_surrogate};
@@ -12,12 +12,16 @@ ghost use Rattle.p12.specs.Attribute.{AttributeText};
 ghost use Rattle.asn1_core.specs.declared.error.Error.TheVariants as asn1;
 ghost use Rattle.p12.specs.Error.{Reads};
 ghost use Rattle.p12.specs.Reading.{name_all, key_id_all, other_attribute_all, attribute_all, attribute_at, attributes_all};
+ghost use Rattle.asn1_core.specs.Der.{IsShort};
+ghost use Rattle.p12.specs.Canonical.{WritableAttribute, attribute_canon};
+ghost use Rattle.p12.specs.Writing.{WritesText};
 
 use crate::error::Error;
 use crate::identifiers::{FRIENDLY_NAME, LOCAL_KEY_ID};
+use crate::writing::write_row;
 use asn1_core::{
-    Items, ObjectIdentifier, Octets, Reader, SliceReader, Tag, Text, read_bmp, read_identifier,
-    read_inner, read_raw,
+    Items, ObjectIdentifier, Octets, Reader, SliceReader, Tag, Text, Writer, read_bmp,
+    read_identifier, read_inner, read_raw,
 };
 use std::alloc::Global;
 
@@ -76,7 +80,7 @@ fn is_high(unit: u16) -> bool
     unit >= 0xd800 && unit < 0xdc00
 }
 
-/// Whether a unit may stand behind the unit before.
+/// Whether a unit may come after the unit before.
 fn agrees(high: bool, low: bool) -> bool
     ensures { result ≡ agrees high low }
 {
@@ -142,7 +146,7 @@ fn last_name<'a>(mut body: SliceReader<'a>) -> Result<&'a [u8], asn1_core::Error
     Ok(found)
 }
 
-/// The octets of a set, that elements stand in it.
+/// The octets of a set, that elements are in it.
 fn element_list<'a>(mut body: SliceReader<'a>) -> Result<&'a [u8], asn1_core::Error>
     ensures exact { Gives (λ x. seen_elements x.now) result (many raw_at body.entry.rest.now) }
     ensures all { IfOk result (λ x. many raw_at x.now ≡ Ok (seen_elements x.now)) }
@@ -230,7 +234,7 @@ fn checked_list<'a>(mut body: SliceReader<'a>) -> Result<&'a [u8], asn1_core::Er
     Ok(all)
 }
 
-/// The octets of the attributes behind a bag's value: none where no set stands there.
+/// The octets of the attributes after a bag's value: none where no set is there.
 pub(crate) fn attributes_view<'a>(mut body: SliceReader<'a>) -> Result<&'a [u8], asn1_core::Error>
     ensures exact { Gives (λ x. seen_list x.now) result (attributes_all body.entry.rest.now) }
     ensures all { IfOk result (λ x. many attribute_at x.now ≡ Ok (seen_list x.now)) }
@@ -294,7 +298,7 @@ fn attribute_in_front(
     Ok(attribute)
 }
 
-/// The attributes that stand in these octets.
+/// The attributes that are in these octets.
 pub(crate) fn attribute_list(
     alloc: Global,
     mut body: SliceReader<'_>,
@@ -352,5 +356,19 @@ impl PKCS12Attribute {
             }
             PKCS12Attribute::Other(other) => PKCS12Attribute::Other(other.try_clone(alloc)?),
         })
+    }
+}
+
+impl PKCS12Attribute {
+    /// Writes the attribute, the elements of its set in ascending order of their octets. `Malformed` only where an
+    /// element of another attribute is not one whole element. `Overlength` only where the text has more than 2^32 - 1
+    /// octets, `Memory` when out of memory, else the writer's refusals; a front of the text was written then.
+    pub fn write<W: Writer>(&self, alloc: Global, w: &mut W) -> Result<(), asn1_core::Error>
+        ensures writes { WritesText W.sink (WritableAttribute self.now)
+            (attribute_canon self.now) w.old result w.new }
+        ensures short { OnOk result (IsShort (attribute_canon self.now)) }
+        ensures lawful { OnOk result (WritableAttribute self.now) }
+    {
+        write_row(self, alloc, w)
     }
 }

@@ -7,11 +7,15 @@ ghost use Rattle.p12.specs.BagView.{IsCert, seen_cert};
 ghost use Rattle.asn1_core.specs.declared.error.Error.TheVariants as asn1;
 ghost use Rattle.p12.specs.Error.{Reads};
 ghost use Rattle.p12.specs.Reading.{x509_all, sdsi_all, cert_bag_all, cert_bag_at};
+ghost use Rattle.asn1_core.specs.Der.{IsShort};
+ghost use Rattle.p12.specs.Canonical.{WritableCertBag, cert_bag_canon};
+ghost use Rattle.p12.specs.Writing.{WritesText};
 
 use crate::error::Error;
 use crate::identifiers::{SDSI_CERTIFICATE, X509_CERTIFICATE};
+use crate::writing::write_row;
 use asn1_core::{
-    ObjectIdentifier, Octets, Reader, SliceReader, Tag, Text, read_identifier, read_inner,
+    ObjectIdentifier, Octets, Reader, SliceReader, Tag, Text, Writer, read_identifier, read_inner,
 };
 use std::alloc::Global;
 
@@ -162,5 +166,19 @@ impl CertBag {
             CertBag::X509(octets) => CertBag::X509(octets.try_clone(alloc)?),
             CertBag::SDSI(text) => CertBag::SDSI(text.try_clone(alloc)?),
         })
+    }
+}
+
+impl CertBag {
+    /// Writes the certificate. `Malformed` only where the text of an SDSI certificate has a character over 127.
+    /// `Overlength` only where the text has more than 2^32 - 1 octets, `Memory` when out of memory, else the writer's
+    /// refusals; a front of the text was written then.
+    pub fn write<W: Writer>(&self, alloc: Global, w: &mut W) -> Result<(), asn1_core::Error>
+        ensures writes { WritesText W.sink (WritableCertBag self.now)
+            (cert_bag_canon self.now) w.old result w.new }
+        ensures short { OnOk result (IsShort (cert_bag_canon self.now)) }
+        ensures lawful { OnOk result (WritableCertBag self.now) }
+    {
+        write_row(self, alloc, w)
     }
 }

@@ -1,22 +1,28 @@
 //! Contents.
-ghost use Rattle.std.specs.Prelude.{◌+◌, ◌≡◌, ◌-◌, ◌<◌, ◌≤◌, ◌^◌, ℕ, length, OnOk, IfOk, IfErr};
+ghost use Rattle.std.specs.Prelude.{◌+◌, ◌≡◌, ◌-◌, ◌<◌, ◌≤◌, ◌^◌, ℕ, length, OnOk, IfOk, IfErr, All, IfSome};
 ghost use Rattle.asn1_core.specs.Gives.{Gives, GivesIn, ReadsAs, ReadsIn};
-ghost use Rattle.asn1_core.specs.Reading.{many};
-ghost use Rattle.p12.specs.ContentInfo.{ContentText, content_oid, encrypted_of, held_salt, plain_pbe, IsContents, NoContents};
+ghost use Rattle.asn1_core.specs.Reading.{many, whole};
+ghost use Rattle.p12.specs.ContentInfo.{ContentText, content_oid, encrypted_of, held_salt, plain_pbe, IsContents, NoContents, SealFits, plain_of};
 ghost use Rattle.p12.specs.Error.{MalformedOnly, Reads};
 ghost use Rattle.p12.specs.Reading.{data_all, encrypted_all, other_content_all, content_all, content_at, contents_at};
-ghost use Rattle.asn1_core.specs.Reading.{whole};
 ghost use Rattle.asn1_core.specs.Oid.{oid_octets};
 ghost use Rattle.asn1_core.specs.declared.error.Error.TheVariants as asn1;
 ghost use Rattle.p12.specs.ContentView.{EndsAt, seen_content};
+ghost use Rattle.p12.specs.declared.content_info.ContentInfo.{ContentInfo};
+ghost use Rattle.asn1_core.specs.Der.{IsShort};
+ghost use Rattle.p12.specs.Canonical.{WritableContent, content_canon, contents_canon};
+ghost use Rattle.p12.specs.Writing.{EncodesText, WritesText};
+ghost use Rattle.p12.specs.Collected.{ContentFault, HoldsBags, Refuses, plain_text};
 
 use crate::algorithm_identifier::AlgorithmView;
 use crate::encrypted_data::{EncryptedContentInfo, EncryptedData, encrypted_data_view};
 use crate::error::Error;
 use crate::identifiers::{DATA, ENCRYPTED_DATA};
 use crate::place::Place;
+use crate::safe_bag::SafeBag;
+use crate::writing::{Each, Within, der_of, write_row};
 use asn1_core::{
-    Items, ObjectIdentifier, Octets, Reader, SliceReader, Tag, read_identifier, read_inner,
+    Items, ObjectIdentifier, Octets, Reader, SliceReader, Tag, Writer, read_identifier, read_inner,
     read_raw,
 };
 use std::alloc::Global;
@@ -40,7 +46,7 @@ pub enum ContentInfo {
     OtherContext(OtherContext),
 }
 
-/// A content of a store, which it lends from the octets that were parsed; `at` says where it stands in them. A contract sees the
+/// A content of a store, which it lends from the octets that were parsed; `at` says where it is in them. A contract sees the
 /// content in memory of its own.
 #[derive(Clone, Copy, Debug, Drop)]
 pub enum ContentView<'a> {
@@ -308,6 +314,95 @@ impl ContentInfo {
             ContentInfo::Data(octets) => Ok(Some(octets.try_clone(alloc)?)),
             ContentInfo::EncryptedData(encrypted) => encrypted.data(alloc, password),
             ContentInfo::OtherContext(_) => Ok(None),
+        }
+    }
+}
+
+/// The content that these octets are.
+fn whole_content(alloc: Global, der: &[u8]) -> Result<ContentInfo, asn1_core::Error>
+    ensures { GivesIn (λ x. x) result (whole content_at der.now) }
+{
+    let mut r = SliceReader::new(der);
+    let content = content_in_front(alloc, &mut r)?;
+    r.finish()?;
+    Ok(content)
+}
+
+impl ContentInfo {
+    /// Writes the content. `Malformed` only where its algorithm cannot be written, or a content of another kind is
+    /// not one whole element. `Overlength` only where the text has more than 2^32 - 1 octets, `Memory` for want of
+    /// memory, else the writer's refusals; a front of the text was written then.
+    pub fn write<W: Writer>(&self, alloc: Global, w: &mut W) -> Result<(), asn1_core::Error>
+        ensures writes { WritesText W.sink (WritableContent self.now)
+            (content_canon self.now) w.old result w.new }
+        ensures short { OnOk result (IsShort (content_canon self.now)) }
+        ensures lawful { OnOk result (WritableContent self.now) }
+    {
+        write_row(self, alloc, w)
+    }
+
+    /// The text that `write` writes, in memory of its own. `Malformed` as there, `TooLong` only where it has more than
+    /// 2^32 - 1 octets, and `Memory`.
+    pub fn to_der(&self, alloc: Global) -> Result<Octets, Error>
+        ensures { EncodesText (WritableContent self.now) (content_canon self.now) result }
+    {
+        der_of(self, alloc)
+    }
+
+    /// The text that lists these contents (AuthenticatedSafe, RFC 7292 section 4), which `parse_all` reads: what the outer
+    /// content of a store holds. `Malformed` only where one of them cannot be written, `TooLong` only where the text has
+    /// more than 2^32 - 1 octets, and `Memory`.
+    pub fn all_to_der(alloc: Global, contents: &[ContentInfo]) -> Result<Octets, Error>
+        ensures { EncodesText (All WritableContent contents.now) (contents_canon contents.now) result }
+    {
+        let list = Within {
+            tag: Tag::SEQUENCE,
+            row: &Each(contents),
+        };
+        der_of(&list, alloc)
+    }
+
+    /// The content whose whole text these octets are. `Malformed` only where they are the text of none, and `Memory`.
+    pub fn from_der(alloc: Global, der: &[u8]) -> Result<ContentInfo, Error>
+        ensures ok { IfOk result (λ c. ContentText der.now c × IsShort der.now) }
+        ensures err { IfErr result (λ e. MalformedOnly e
+            ((c : ContentInfo) → ContentText der.now c × IsShort der.now → ⊥)) }
+    {
+        Ok(whole_content(alloc, der)?)
+    }
+}
+
+impl ContentInfo {
+    /// The plain octets of a content; none where it does not open.
+    pub(crate) fn plain_text(&self, alloc: Global, password: &str) -> Result<Option<Octets>, Error>
+        requires fits { SealFits self.now }
+        requires password { length password.now < 2 ^ 57 }
+        ensures value { IfOk result (λ m. m ≡ plain_text password.now self.now) }
+        ensures short { length (plain_of self.now) < 2 ^ 32
+            → IfOk result (λ m. IfSome m (λ text. length text < 2 ^ 32)) }
+        ensures err { IfErr result (λ e. e ≡ Error.Memory) }
+    {
+        match self {
+            ContentInfo::Data(octets) => Ok(Some(octets.try_clone(alloc)?)),
+            ContentInfo::EncryptedData(data) => {
+                let info = &data.encrypted_content_info;
+                let algorithm = &info.content_encryption_algorithm;
+                algorithm.decrypt_text(alloc, info.encrypted_content.as_slice(), password)
+            }
+            ContentInfo::OtherContext(_) => Ok(None),
+        }
+    }
+
+    /// The bags of a content. `Invalid` where it does not open, `Malformed` where it opens to octets that list no bags.
+    pub(crate) fn bags(&self, alloc: Global, password: &str) -> Result<Items<SafeBag>, Error>
+        requires fits { SealFits self.now }
+        requires password { length password.now < 2 ^ 57 }
+        ensures ok { IfOk result (HoldsBags password.now self.now) }
+        ensures err { IfErr result (Refuses (ContentFault password.now self.now)) }
+    {
+        match self.plain_text(alloc, password)? {
+            Some(octets) => SafeBag::parse_all(alloc, octets.as_slice()),
+            None => Err(Error::Invalid),
         }
     }
 }

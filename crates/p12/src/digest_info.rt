@@ -6,10 +6,14 @@ ghost use Rattle.p12.specs.MacView.{seen_digest};
 ghost use Rattle.p12.specs.Error.{Reads};
 ghost use Rattle.asn1_core.specs.declared.error.Error.TheVariants as asn1;
 ghost use Rattle.p12.specs.Reading.{digest_at};
+ghost use Rattle.asn1_core.specs.Der.{IsShort};
+ghost use Rattle.p12.specs.Canonical.{WritableDigest, digest_canon};
+ghost use Rattle.p12.specs.Writing.{WritesText};
 
 use crate::algorithm_identifier::{AlgorithmIdentifier, AlgorithmView, algorithm_view};
 use crate::error::Error;
-use asn1_core::{Octets, Reader, SliceReader, Tag, read_inner};
+use crate::writing::write_row;
+use asn1_core::{Octets, Reader, SliceReader, Tag, Writer, read_inner};
 use std::alloc::Global;
 
 /// A digest and the algorithm that made it (RFC 2315 section 9.4).
@@ -88,5 +92,19 @@ impl DigestInfo {
             digest: self.digest.try_clone(alloc)?,
             digest_algorithm: self.digest_algorithm.try_clone(alloc)?,
         })
+    }
+}
+
+impl DigestInfo {
+    /// Writes the digest. `Malformed` only where its algorithm cannot be written. `Overlength` only where the text
+    /// has more than 2^32 - 1 octets, `Memory` when out of memory, else the writer's refusals; a front of the text was
+    /// written then.
+    pub fn write<W: Writer>(&self, alloc: Global, w: &mut W) -> Result<(), asn1_core::Error>
+        ensures writes { WritesText W.sink (WritableDigest self.now)
+            (digest_canon self.now) w.old result w.new }
+        ensures short { OnOk result (IsShort (digest_canon self.now)) }
+        ensures lawful { OnOk result (WritableDigest self.now) }
+    {
+        write_row(self, alloc, w)
     }
 }

@@ -1,5 +1,5 @@
 //! Encrypted contents.
-ghost use Rattle.std.specs.Prelude.{◌+◌, ◌≡◌, ◌<◌, ◌^◌, length, OnOk, IfOk, IfErr};
+ghost use Rattle.std.specs.Prelude.{◌+◌, ◌≡◌, ◌<◌, ◌^◌, length, OnOk, IfOk, IfErr, ◌≤◌, All};
 ghost use Rattle.asn1_core.specs.Gives.{ReadsAs};
 ghost use Rattle.p12.specs.EncryptedData.{EncryptedContentText, EncryptedDataText};
 ghost use Rattle.p12.specs.ContentView.{seen_encrypted, seen_encrypted_data};
@@ -7,11 +7,19 @@ ghost use Rattle.p12.specs.Error.{Reads};
 ghost use Rattle.asn1_core.specs.declared.error.Error.TheVariants as asn1;
 ghost use Rattle.p12.specs.Reading.{encrypted_content_at, encrypted_data_at};
 ghost use Rattle.p12.specs.AlgorithmIdentifier.{salt_of, unlock_pbe};
+ghost use Rattle.asn1_core.specs.Der.{IsShort};
+ghost use Rattle.p12.specs.Canonical.{WritableEncryptedContent, encrypted_content_canon, WritableEncryptedData, encrypted_data_canon, WritableBag, bags_canon};
+ghost use Rattle.p12.specs.Writing.{EncodesText, WritesText};
+ghost use Rattle.p12.specs.Building.{DrawsSalt, IsTooLong, RefusesDrawn, SealsBags};
 
 use crate::algorithm_identifier::{AlgorithmIdentifier, AlgorithmView, algorithm_view};
+use crate::building::{draw_salt, seal_bags};
 use crate::error::Error;
 use crate::identifiers::DATA;
-use asn1_core::{Octets, Reader, SliceReader, Tag, read_identifier, read_inner, read_uint};
+use crate::safe_bag::SafeBag;
+use crate::writing::{der_of, write_row};
+use asn1_core::{Octets, Reader, SliceReader, Tag, Writer, read_identifier, read_inner, read_uint};
+use mac_modes::Draw;
 use std::alloc::Global;
 
 /// Octets that are encrypted, and how (RFC 5652 section 6.1). Their kind is always id-data.
@@ -198,5 +206,99 @@ impl EncryptedData {
         ensures err { IfErr result (λ e. e ≡ Error.Memory) }
     {
         self.encrypted_content_info.data(alloc, password)
+    }
+}
+
+impl EncryptedContentInfo {
+    /// Writes the encrypted octets and their algorithm. `Malformed` only where the algorithm cannot be written.
+    /// `Overlength` only where the text has more than 2^32 - 1 octets, `Memory` when out of memory, else the writer's
+    /// refusals; a front of the text was written then.
+    pub fn write<W: Writer>(&self, alloc: Global, w: &mut W) -> Result<(), asn1_core::Error>
+        ensures writes { WritesText W.sink (WritableEncryptedContent self.now)
+            (encrypted_content_canon self.now) w.old result w.new }
+        ensures short { OnOk result (IsShort (encrypted_content_canon self.now)) }
+        ensures lawful { OnOk result (WritableEncryptedContent self.now) }
+    {
+        write_row(self, alloc, w)
+    }
+
+    /// The text that `write` writes, in memory of its own. `Malformed` as there, `TooLong` only where it has more than
+    /// 2^32 - 1 octets, and `Memory`.
+    pub fn to_der(&self, alloc: Global) -> Result<Octets, Error>
+        ensures { EncodesText (WritableEncryptedContent self.now)
+            (encrypted_content_canon self.now) result }
+    {
+        der_of(self, alloc)
+    }
+}
+
+impl EncryptedData {
+    /// Writes the encrypted content. `Malformed` only where its algorithm cannot be written. `Overlength` only where
+    /// the text has more than 2^32 - 1 octets, `Memory` when out of memory, else the writer's refusals; a front of the
+    /// text was written then.
+    pub fn write<W: Writer>(&self, alloc: Global, w: &mut W) -> Result<(), asn1_core::Error>
+        ensures writes { WritesText W.sink (WritableEncryptedData self.now)
+            (encrypted_data_canon self.now) w.old result w.new }
+        ensures short { OnOk result (IsShort (encrypted_data_canon self.now)) }
+        ensures lawful { OnOk result (WritableEncryptedData self.now) }
+    {
+        write_row(self, alloc, w)
+    }
+}
+
+impl EncryptedContentInfo {
+    /// The text that lists bags (SafeContents, RFC 7292 section 4.2), encrypted under Triple DES in 2,048 rounds, with
+    /// the next 8 octets of the draw as its salt.
+    ///
+    /// `Rng` exactly where the draw fails: over one that tells its octets, where fewer than 8 remain. Then `Malformed`
+    /// where a bag cannot be written, and `TooLong` where the ciphertext would have more than 2^32 - 1 octets; where
+    /// both hold it may be either. The other refusal is `Memory`.
+    ///
+    /// Caller: a password, as `bmp_string` gives it, of fewer than 2^59 octets.
+    pub fn from_safe_bags<D: Draw>(
+        alloc: Global,
+        safe_bags: &[SafeBag],
+        password: &[u8],
+        draw: &mut D,
+    ) -> Result<EncryptedContentInfo, Error>
+        requires { length password.now < 2 ^ 59 }
+        ensures ok { IfOk result (λ e. DrawsSalt (D.left draw.old) (D.left draw.new)
+            (λ salt. SealsBags password.now safe_bags.now salt e)) }
+        ensures lawful { OnOk result (All WritableBag safe_bags.now) }
+        ensures fitting { OnOk result (¬ (IsTooLong (bags_canon safe_bags.now))) }
+        ensures err { IfErr result (RefusesDrawn (¬ (All WritableBag safe_bags.now))
+            (IsTooLong (bags_canon safe_bags.now))
+            (D.faults draw.old) (D.faults draw.new) (D.left draw.old) 8) }
+        ensures count { D.faults draw.old ≤ D.faults draw.new }
+    {
+        let salt = draw_salt(draw)?;
+        seal_bags(alloc, safe_bags, password, &salt)
+    }
+}
+
+impl EncryptedData {
+    /// An encrypted content of version 0 with what `EncryptedContentInfo::from_safe_bags` gives. Refusals and caller's
+    /// conditions as there.
+    pub fn from_safe_bags<D: Draw>(
+        alloc: Global,
+        safe_bags: &[SafeBag],
+        password: &[u8],
+        draw: &mut D,
+    ) -> Result<EncryptedData, Error>
+        requires { length password.now < 2 ^ 59 }
+        ensures ok { IfOk result (λ e. DrawsSalt (D.left draw.old) (D.left draw.new)
+            (λ salt. SealsBags password.now safe_bags.now salt e.encrypted_content_info)) }
+        ensures lawful { OnOk result (All WritableBag safe_bags.now) }
+        ensures fitting { OnOk result (¬ (IsTooLong (bags_canon safe_bags.now))) }
+        ensures err { IfErr result (RefusesDrawn (¬ (All WritableBag safe_bags.now))
+            (IsTooLong (bags_canon safe_bags.now))
+            (D.faults draw.old) (D.faults draw.new) (D.left draw.old) 8) }
+        ensures count { D.faults draw.old ≤ D.faults draw.new }
+    {
+        Ok(EncryptedData {
+            encrypted_content_info: EncryptedContentInfo::from_safe_bags(
+                alloc, safe_bags, password, draw,
+            )?,
+        })
     }
 }

@@ -6,11 +6,15 @@ ghost use Rattle.p12.specs.EncryptedPrivateKeyInfo.{EncryptedKeyText};
 ghost use Rattle.p12.specs.BagView.{seen_key};
 ghost use Rattle.p12.specs.Error.{Reads};
 ghost use Rattle.p12.specs.Reading.{encrypted_key_at};
+ghost use Rattle.asn1_core.specs.Der.{IsShort};
+ghost use Rattle.p12.specs.Canonical.{WritableKey, encrypted_key_canon};
+ghost use Rattle.p12.specs.Writing.{WritesText};
 
 use crate::algorithm_identifier::{AlgorithmIdentifier, algorithm_view};
 use crate::encrypted_data::EncryptedView;
 use crate::error::Error;
-use asn1_core::{Octets, Reader, SliceReader, Tag, read_inner};
+use crate::writing::write_row;
+use asn1_core::{Octets, Reader, SliceReader, Tag, Writer, read_inner};
 use std::alloc::Global;
 
 /// A private key that is encrypted under an algorithm of PKCS#12 (RFC 7292 section 4.2.2; RFC 5958 section 3).
@@ -94,5 +98,19 @@ impl EncryptedPrivateKeyInfo {
     {
         let algorithm = &self.encryption_algorithm;
         algorithm.decrypt_pbe(alloc, self.encrypted_data.as_slice(), password)
+    }
+}
+
+impl EncryptedPrivateKeyInfo {
+    /// Writes the encrypted key. `Malformed` only where its algorithm cannot be written. `Overlength` only where the
+    /// text has more than 2^32 - 1 octets, `Memory` when out of memory, else the writer's refusals; a front of the text
+    /// was written then.
+    pub fn write<W: Writer>(&self, alloc: Global, w: &mut W) -> Result<(), asn1_core::Error>
+        ensures writes { WritesText W.sink (WritableKey self.now)
+            (encrypted_key_canon self.now) w.old result w.new }
+        ensures short { OnOk result (IsShort (encrypted_key_canon self.now)) }
+        ensures lawful { OnOk result (WritableKey self.now) }
+    {
+        write_row(self, alloc, w)
     }
 }

@@ -6,8 +6,9 @@ pub use crate::made_stores::{
     a_made_store_opens_once_it_is_read_again, what_opens_has_no_fault,
 };
 pub use crate::rereading::{
-    sets_have_one_canonical_text, what_is_read_can_be_written, what_was_read_is_written_alike,
-    written_sets_are_read_as_the_same, written_values_are_read_again,
+    bag_values_tell_their_kind, sets_have_one_canonical_text, what_is_read_can_be_written,
+    what_was_read_is_written_alike, written_sets_are_read_as_the_same,
+    written_values_are_read_again,
 };
 pub use crate::spellings::{
     algorithms_are_spelled, attributes_are_spelled, bags_are_spelled, contents_are_spelled,
@@ -15,6 +16,7 @@ pub use crate::spellings::{
     macs_are_spelled, stores_are_spelled, values_have_one_text,
 };
 pub use crate::uniqueness::{
-    one_ciphertext_opens_to_a_text, one_text_has_one_value, one_text_is_one_store,
-    one_text_lists_bags_once, one_text_lists_contents_once, unpadding_undoes_padding,
+    ciphertexts_have_one_length, one_ciphertext_opens_to_a_text, one_text_has_one_value,
+    one_text_is_one_store, one_text_lists_bags_once, one_text_lists_contents_once,
+    unpadding_undoes_padding,
 };

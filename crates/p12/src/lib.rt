@@ -33,7 +33,6 @@ mod spellings;
 mod store;
 pub mod uniqueness;
 mod writing;
-mod written;
 
 pub use algorithm_identifier::{AlgorithmIdentifier, AlgorithmView};
 pub use attribute::{OtherAttribute, PKCS12Attribute};

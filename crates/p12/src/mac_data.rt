@@ -8,14 +8,20 @@ ghost use Rattle.p12.specs.MacView.{seen_mac};
 ghost use Rattle.p12.specs.Error.{Reads};
 ghost use Rattle.asn1_core.specs.declared.error.Error.TheVariants as asn1;
 ghost use Rattle.p12.specs.Reading.{iterations_all, mac_at};
+ghost use Rattle.asn1_core.specs.Der.{IsShort};
+ghost use Rattle.p12.specs.Canonical.{WritableMac, mac_canon};
+ghost use Rattle.p12.specs.Writing.{WritesText};
+ghost use Rattle.p12.specs.Building.{DrawsSalt, RefusesDrawn};
 
 use crate::algorithm_identifier::{AlgorithmIdentifier, AlgorithmView};
+use crate::building::{ITERATIONS, draw_salt};
 use crate::digest_info::{DigestInfo, digest_view};
 use crate::error::Error;
 use crate::mac::{agrees_under, made_under};
 use crate::password::bmp_string;
-use asn1_core::{Octets, Reader, SliceReader, Tag, read_inner, read_uint};
-use mac_modes::{Sha1, Sha256};
+use crate::writing::write_row;
+use asn1_core::{Octets, Reader, SliceReader, Tag, Writer, read_inner, read_uint};
+use mac_modes::{Draw, Sha1, Sha256};
 use std::alloc::Global;
 use std::marker::Brand;
 use std::sync::ledger::{Blank, Ledger};
@@ -319,5 +325,45 @@ impl MacData {
             salt,
             iterations,
         })
+    }
+}
+
+impl MacData {
+    /// Writes the MAC, with its count also where that is 1. `Malformed` only where the algorithm of its digest
+    /// cannot be written. `Overlength` only where the text has more than 2^32 - 1 octets, `Memory` when out of memory,
+    /// else the writer's refusals; a front of the text was written then.
+    pub fn write<W: Writer>(&self, alloc: Global, w: &mut W) -> Result<(), asn1_core::Error>
+        ensures writes { WritesText W.sink (WritableMac self.now)
+            (mac_canon self.now) w.old result w.new }
+        ensures short { OnOk result (IsShort (mac_canon self.now)) }
+        ensures lawful { OnOk result (WritableMac self.now) }
+    {
+        write_row(self, alloc, w)
+    }
+}
+
+impl MacData {
+    /// The MAC of a content under SHA-1 in 2,048 rounds, with the next 8 octets of the draw as its salt. It agrees for
+    /// this content and password. `Rng` exactly where the draw fails: over one that tells its octets, where fewer than
+    /// 8 remain. The other refusal is `Memory`.
+    ///
+    /// Caller: a content of fewer than 2^32 octets, a password, as `bmp_string` gives it, of fewer than 2^59.
+    pub fn new<D: Draw>(
+        alloc: Global,
+        content: &[u8],
+        password: &[u8],
+        draw: &mut D,
+    ) -> Result<MacData, Error>
+        requires content { length content.now < 2 ^ 32 }
+        requires password { length password.now < 2 ^ 59 }
+        ensures ok { IfOk result (λ m. DrawsSalt (D.left draw.old) (D.left draw.new)
+            (λ salt. m ≡ mac_of algorithm.Sha1 password.now content.now salt 2048)) }
+        ensures agrees { IfOk result (λ m. mac_agrees m password.now content.now ≡ true) }
+        ensures err { IfErr result (RefusesDrawn ⊥ ⊥
+            (D.faults draw.old) (D.faults draw.new) (D.left draw.old) 8) }
+        ensures count { D.faults draw.old ≤ D.faults draw.new }
+    {
+        let salt = draw_salt(draw)?;
+        MacData::with_salt(alloc, content, password, &salt, ITERATIONS)
     }
 }

@@ -26,7 +26,7 @@ pub(crate) const TRIPLE_DES_KEY: usize = 24;
 
 pub(crate) const TRIPLE_DES_BLOCK: usize = 8;
 
-/// Decrypts whole blocks in place under Triple DES, and answers the length of the text without its padding.
+/// Decrypts whole blocks in place under Triple DES, and returns the length of the text without its padding.
 fn decrypt_in_place(key: &[u8], iv: &[u8], buffer: &mut [u8]) -> Option<usize>
     requires key { length key.now ≡ 24 }
     requires iv { length iv.now ≡ 8 }
@@ -46,7 +46,7 @@ fn decrypt_in_place(key: &[u8], iv: &[u8], buffer: &mut [u8]) -> Option<usize>
     }
 }
 
-/// Opens whole blocks in place under Triple DES, with a count of at least 1, and answers the length of the text in their front.
+/// Opens whole blocks in place under Triple DES, with a count of at least 1, and returns the length of the text in their front.
 pub(crate) fn open_blocks<L: Ledger>(
     alloc: Global,
     params: &ParamsView<'_>,
@@ -84,7 +84,7 @@ pub(crate) fn open_blocks<L: Ledger>(
     Ok(decrypt_in_place(key.as_slice(), iv.as_slice(), buffer))
 }
 
-/// Opens a text in place under PBES2, and answers its length.
+/// Opens a text in place under PBES2, and returns its length.
 pub(crate) fn open_pbes2<L: Ledger>(
     parameters: &Parameters,
     password: &[u8],

@@ -1,14 +1,18 @@
 //! Parameters of password-based schemes.
-ghost use Rattle.std.specs.Prelude.{◌+◌, ◌≡◌, length, IfOk, IfErr};
+ghost use Rattle.std.specs.Prelude.{◌+◌, ◌≡◌, length, IfOk, IfErr, OnOk};
 ghost use Rattle.asn1_core.specs.Gives.{ReadsAs};
 ghost use Rattle.asn1_core.specs.declared.error.Error.TheVariants as asn1;
 ghost use Rattle.p12.specs.AlgorithmIdentifier.{ParamsText};
 ghost use Rattle.p12.specs.AlgorithmView.{seen_params};
 ghost use Rattle.p12.specs.Error.{Reads};
 ghost use Rattle.p12.specs.Reading.{params_at};
+ghost use Rattle.asn1_core.specs.Der.{IsShort};
+ghost use Rattle.p12.specs.Canonical.{params_canon};
+ghost use Rattle.p12.specs.Writing.{WritesText};
 
 use crate::error::Error;
-use asn1_core::{Octets, Reader, SliceReader, Tag, read_inner, read_uint};
+use crate::writing::write_row;
+use asn1_core::{Octets, Reader, SliceReader, Tag, Writer, read_inner, read_uint};
 use std::alloc::Global;
 
 /// The parameters of a password-based scheme (RFC 7292 appendix C): the salt, and how many rounds derive its key.
@@ -78,5 +82,16 @@ impl Pkcs12PbeParams {
             salt: self.salt.try_clone(alloc)?,
             iterations: self.iterations,
         })
+    }
+}
+
+impl Pkcs12PbeParams {
+    /// Writes the parameters. `Overlength` only where the text has more than 2^32 - 1 octets, `Memory` for want of
+    /// memory, else the writer's refusals; a front of the text was written then.
+    pub fn write<W: Writer>(&self, alloc: Global, w: &mut W) -> Result<(), asn1_core::Error>
+        ensures writes { WritesText W.sink (Unit {0}) (params_canon self.now) w.old result w.new }
+        ensures short { OnOk result (IsShort (params_canon self.now)) }
+    {
+        write_row(self, alloc, w)
     }
 }

@@ -2,8 +2,8 @@
 ghost use Rattle.std.specs.Prelude.{◌≤◌, length};
 ghost use Rattle.p12.specs.Place.{UpTo};
 
-/// Where octets stand in a slice that was parsed: `bytes[start .. start + len]`.
-#[derive(Clone, Copy, Debug, PartialEq, Eq, Drop)]
+/// Where octets are in a slice that was parsed: `bytes[start .. start + len]`.
+#[derive(Clone, Copy, Debug, Drop)]
 pub struct Place {
     pub start: usize,
     pub len: usize,

@@ -1,5 +1,5 @@
 //! Bags.
-ghost use Rattle.std.specs.Prelude.{◌+◌, ◌≡◌, ◌-◌, ◌<◌, ◌≤◌, ◌^◌, ℕ, length, OnOk, IfOk, IfErr};
+ghost use Rattle.std.specs.Prelude.{◌+◌, ◌≡◌, ◌-◌, ◌<◌, ◌≤◌, ◌^◌, ℕ, length, OnOk, IfOk, IfErr, All};
 ghost use Rattle.asn1_core.specs.Gives.{Gives, GivesIn, ReadsAs, ReadsIn};
 ghost use Rattle.asn1_core.specs.Reading.{many, whole};
 ghost use Rattle.p12.specs.SafeBag.{BagText, KindText, kind_oid, KindFits, key_of, x509_of, sdsi_of, first_name, first_key_id, IsBags, NoBags};
@@ -8,6 +8,9 @@ ghost use Rattle.p12.specs.Reading.{cert_kind_all, shrouded_all, other_kind_all,
 ghost use Rattle.asn1_core.specs.Oid.{oid_octets};
 ghost use Rattle.p12.specs.BagView.{AreParts, BagEndsAt, BagLies, IsBagView, seen_bag, seen_parts};
 ghost use Rattle.asn1_core.specs.declared.error.Error.TheVariants as asn1;
+ghost use Rattle.asn1_core.specs.Der.{IsShort};
+ghost use Rattle.p12.specs.Canonical.{WritableKind, kind_canon, WritableBag, bag_canon, bags_canon};
+ghost use Rattle.p12.specs.Writing.{WritesText, EncodesText};
 
 use crate::algorithm_identifier::AlgorithmView;
 use crate::attribute::{PKCS12Attribute, attribute_list, attributes_view};
@@ -16,9 +19,10 @@ use crate::encrypted_private_key_info::{EncryptedPrivateKeyInfo, encrypted_key_v
 use crate::error::Error;
 use crate::identifiers::{CERT_BAG, SHROUDED_KEY_BAG};
 use crate::place::Place;
+use crate::writing::{Each, Within, der_of, write_row};
 use asn1_core::{
-    Items, ObjectIdentifier, Octets, Reader, SliceReader, Tag, Text, read_identifier, read_inner,
-    read_raw,
+    Items, ObjectIdentifier, Octets, Reader, SliceReader, Tag, Text, Writer, read_identifier,
+    read_inner, read_raw,
 };
 use std::alloc::Global;
 
@@ -50,7 +54,7 @@ pub struct SafeBag {
     pub attributes: Items<PKCS12Attribute>,
 }
 
-/// A bag, which it lends from the octets that were parsed; `at` says where the encrypted octets of a key stand in them. A contract
+/// A bag, which it lends from the octets that were parsed; `at` says where the encrypted octets of a key are in them. A contract
 /// sees the bag in memory of its own.
 #[derive(Clone, Copy, Debug, Drop)]
 pub enum BagView<'a> {
@@ -415,5 +419,46 @@ impl SafeBag {
             }
         }
         Ok(None)
+    }
+}
+
+impl SafeBagKind {
+    /// Writes the value that stands inside of a bag. `Malformed` only where its algorithm or its SDSI text cannot be
+    /// written, or the value of another kind is not one whole element. `Overlength` only where the text has more than
+    /// 2^32 - 1 octets, `Memory` when out of memory, else the writer's refusals; a front of the text was written then.
+    pub fn write<W: Writer>(&self, alloc: Global, w: &mut W) -> Result<(), asn1_core::Error>
+        ensures writes { WritesText W.sink (WritableKind self.now)
+            (kind_canon self.now) w.old result w.new }
+        ensures short { OnOk result (IsShort (kind_canon self.now)) }
+        ensures lawful { OnOk result (WritableKind self.now) }
+    {
+        write_row(self, alloc, w)
+    }
+}
+
+impl SafeBag {
+    /// Writes the bag, its attributes in ascending order of their octets, and no set where there are none. `Malformed`
+    /// only where its value or an attribute cannot be written. `Overlength` only where the text has more than
+    /// 2^32 - 1 octets, `Memory` when out of memory, else the writer's refusals; a front of the text was written then.
+    pub fn write<W: Writer>(&self, alloc: Global, w: &mut W) -> Result<(), asn1_core::Error>
+        ensures writes { WritesText W.sink (WritableBag self.now)
+            (bag_canon self.now) w.old result w.new }
+        ensures short { OnOk result (IsShort (bag_canon self.now)) }
+        ensures lawful { OnOk result (WritableBag self.now) }
+    {
+        write_row(self, alloc, w)
+    }
+
+    /// The text that lists these bags (SafeContents, RFC 7292 section 4.2), which `parse_all` reads: what a content holds.
+    /// `Malformed` only where one of them cannot be written, `TooLong` only where the text has more than 2^32 - 1
+    /// octets, and `Memory`.
+    pub fn all_to_der(alloc: Global, bags: &[SafeBag]) -> Result<Octets, Error>
+        ensures { EncodesText (All WritableBag bags.now) (bags_canon bags.now) result }
+    {
+        let list = Within {
+            tag: Tag::SEQUENCE,
+            row: &Each(bags),
+        };
+        der_of(&list, alloc)
     }
 }

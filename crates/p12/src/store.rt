@@ -1,11 +1,8 @@
 //! Making a store of a key and its certificates.
 ghost use Rattle.std.specs.Prelude.{◌≡◌, ◌<◌, ◌≤◌, ◌-◌, ◌^◌, ◌++◌, ◌∷◌, [], List, ℕ, length, IfErr, IfOk, OnOk};
-ghost use Rattle.asn1_core.specs.Texts.{seen_option};
-ghost use Rattle.p12.specs.Building.{DrawsSalts, FailsToDraw, IsCiphertext, IsOuterText, IsStoreOf, IsTooLong, IsTooLongStore, RefusesDrawn, RefusesStore, SealsBags, certificate_bag, certificate_bags, entry_of, key_bag, own_attributes, seen_entry, seen_salts, store_over};
+ghost use Rattle.p12.specs.Building.{DrawsSalts, FailsToDraw, IsCiphertext, IsOuterText, IsTooLong, IsTooLongStore, RefusesStore, SealsBags, certificate_bag, certificate_bags, key_bag, own_attributes, seen_entry, seen_salts, store_over};
 ghost use Rattle.asn1_core.specs.Der.{IsShort};
 ghost use Rattle.p12.specs.Canonical.{bags_canon};
-ghost use Rattle.p12.specs.Collected.{at_most_one};
-ghost use Rattle.pkcs12_kdf.specs.Password.{bmp_password};
 ghost use Rattle.p12.specs.Pfx.{OpeningFits, StoreFits};
 
 use crate::attribute::PKCS12Attribute;
@@ -16,7 +13,6 @@ use crate::encrypted_data::{EncryptedContentInfo, EncryptedData};
 use crate::encrypted_private_key_info::EncryptedPrivateKeyInfo;
 use crate::error::Error;
 use crate::mac_data::MacData;
-use crate::password::bmp_string;
 use crate::pfx::PFX;
 use crate::safe_bag::{SafeBag, SafeBagKind};
 use asn1_core::{Items, Octets, Text};
@@ -39,13 +35,13 @@ pub(crate) struct EntryParts<'p> {
 /// The salts of a store.
 #[derive(Drop)]
 pub(crate) struct DrawnSalts {
-    key: [u8; 8],
-    certificates: [u8; 8],
-    mac: [u8; 8],
+    pub(crate) key: [u8; 8],
+    pub(crate) certificates: [u8; 8],
+    pub(crate) mac: [u8; 8],
 }
 
 /// Draws the salts for the key, for the certificates and for the MAC. `Rng` exactly where the draw fails.
-fn draw_salts<D: Draw>(draw: &mut D) -> Result<DrawnSalts, Error>
+pub(crate) fn draw_salts<D: Draw>(draw: &mut D) -> Result<DrawnSalts, Error>
     ensures ok { IfOk result (λ d. DrawsSalts (D.left draw.old) (D.left draw.new)
         (λ s. s ≡ seen_salts d)) }
     ensures err { IfErr result
@@ -90,7 +86,7 @@ fn certificate_bag(
     })
 }
 
-/// Puts the bag of a certificate behind the others.
+/// Puts the bag of a certificate after the others.
 fn add_certificate(
     alloc: Global,
     bags: &mut Items<SafeBag>,
@@ -186,7 +182,7 @@ fn key_list_text(
 }
 
 /// The text of the two contents: the certificates encrypted, and the key.
-fn outer_text(
+pub(crate) fn outer_text(
     alloc: Global,
     entry: EntryParts<'_>,
     password: &[u8],
@@ -209,7 +205,12 @@ fn outer_text(
 }
 
 /// The store over a text, whose MAC is under a salt. The only refusal is `Memory`.
-fn store_over(alloc: Global, text: Octets, password: &[u8], salt: &[u8]) -> Result<PFX, Error>
+pub(crate) fn store_over(
+    alloc: Global,
+    text: Octets,
+    password: &[u8],
+    salt: &[u8],
+) -> Result<PFX, Error>
     requires text { length text < 2 ^ 32 }
     requires password { length password.now < 2 ^ 59 }
     requires salt { length salt.now ≡ 8 }
@@ -224,98 +225,4 @@ fn store_over(alloc: Global, text: Octets, password: &[u8], salt: &[u8]) -> Resu
         auth_safe: ContentInfo::Data(text),
         mac_data: Some(mac),
     })
-}
-
-impl PFX {
-    /// A store of a certificate, its private key, and further certificates, all DER, under a password. Its first
-    /// content holds the certificates, that of the key first and the others in their order, encrypted under Triple DES;
-    /// its second holds the key, encrypted likewise. Key and certificate carry `name` as friendly name, and the SHA-1 of
-    /// the certificate as local key id. The MAC is under SHA-1. Each takes 2,048 rounds and a salt of 8 octets of the
-    /// draw: the key first, then the certificates, then the MAC. No octet of certificates and key is looked at.
-    ///
-    /// `Rng` exactly where the draw fails: over one that tells its octets, where fewer than 24 remain. Then `TooLong`
-    /// exactly where the encrypted key, the encrypted certificates or the list of contents would have more than
-    /// 2^32 - 1 octets. The other refusal is `Memory`. Triple DES and SHA-1 are for programs that read nothing newer.
-    ///
-    /// Caller: the password has fewer than 2^57 octets.
-    pub fn new_with_cas<D: Draw>(
-        alloc: Global,
-        cert_der: &[u8],
-        key_der: &[u8],
-        ca_der_list: &[Octets],
-        password: &str,
-        name: &str,
-        draw: &mut D,
-    ) -> Result<PFX, Error>
-        requires { length password.now < 2 ^ 57 }
-        ensures ok { IfOk result (λ s. DrawsSalts (D.left draw.old) (D.left draw.new)
-            (IsStoreOf (bmp_password password.now)
-            (entry_of cert_der.now key_der.now ca_der_list.now name.now)
-            s)) }
-        ensures fits { IfOk result (StoreFits (2 ^ 32 - 1)) }
-        ensures opening { IfOk result OpeningFits }
-        ensures fitting { OnOk result (¬ (IsTooLongStore
-            (entry_of cert_der.now key_der.now ca_der_list.now name.now))) }
-        ensures err { IfErr result (RefusesDrawn ⊥
-            (IsTooLongStore
-            (entry_of cert_der.now key_der.now ca_der_list.now name.now))
-            (D.faults draw.old) (D.faults draw.new) (D.left draw.old) 24) }
-        ensures count { D.faults draw.old ≤ D.faults draw.new }
-    {
-        let entry = EntryParts {
-            certificate: cert_der,
-            key: key_der,
-            others: ca_der_list,
-            name,
-        };
-        let salts = draw_salts(draw)?;
-        let units = bmp_string(alloc, password)?;
-        let outer = outer_text(alloc, entry, units.as_slice(), &salts)?;
-        store_over(alloc, outer, units.as_slice(), &salts.mac)
-    }
-
-    /// `new_with_cas` with one further certificate, or none. Refusals as there.
-    ///
-    /// Caller: the password has fewer than 2^57 octets.
-    pub fn new<D: Draw>(
-        alloc: Global,
-        cert_der: &[u8],
-        key_der: &[u8],
-        ca_der: Option<&[u8]>,
-        password: &str,
-        name: &str,
-        draw: &mut D,
-    ) -> Result<PFX, Error>
-        requires { length password.now < 2 ^ 57 }
-        ensures ok { IfOk result (λ s. DrawsSalts (D.left draw.old) (D.left draw.new)
-            (IsStoreOf (bmp_password password.now)
-            (entry_of cert_der.now key_der.now
-            (at_most_one (seen_option (λ c. c.now) ca_der.entry)) name.now)
-            s)) }
-        ensures fits { IfOk result (StoreFits (2 ^ 32 - 1)) }
-        ensures opening { IfOk result OpeningFits }
-        ensures fitting { OnOk result (¬ (IsTooLongStore
-            (entry_of cert_der.now key_der.now
-            (at_most_one (seen_option (λ c. c.now) ca_der.entry)) name.now))) }
-        ensures err { IfErr result (RefusesDrawn ⊥
-            (IsTooLongStore
-            (entry_of cert_der.now key_der.now
-            (at_most_one (seen_option (λ c. c.now) ca_der.entry)) name.now))
-            (D.faults draw.old) (D.faults draw.new) (D.left draw.old) 24) }
-        ensures count { D.faults draw.old ≤ D.faults draw.new }
-    {
-        let mut others = Items::new(alloc);
-        if let Some(certificate) = ca_der {
-            others.push(Octets::from_slice(alloc, certificate)?)?;
-        }
-        PFX::new_with_cas(
-            alloc,
-            cert_der,
-            key_der,
-            others.as_slice(),
-            password,
-            name,
-            draw,
-        )
-    }
 }

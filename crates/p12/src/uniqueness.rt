@@ -1,7 +1,8 @@
 //! Laws of the definitions, each the contract of a function that does nothing.
-ghost use Rattle.std.specs.Prelude.{◌≡◌, ◌↔◌, ◌<◌, ℕ, List, All, Some};
+ghost use Rattle.std.specs.Prelude.{◌≡◌, ◌↔◌, ◌<◌, ℕ, List, All, Some, length};
+ghost use Rattle.asn1_core.specs.declared.identifier.ObjectIdentifier.{ObjectIdentifier};
 ghost use Rattle.mac_modes.specs.Padding.{padded};
-ghost use Rattle.p12.specs.AlgorithmIdentifier.{AlgorithmText, ParamsText, unlock_pbe, unpadded};
+ghost use Rattle.p12.specs.AlgorithmIdentifier.{AlgorithmText, ParamsText, ciphertext_length, unlock_pbe, unpadded};
 ghost use Rattle.p12.specs.declared.pkcs12_pbe_params.Pkcs12PbeParams.{Pkcs12PbeParams};
 ghost use Rattle.p12.specs.declared.algorithm_identifier.AlgorithmIdentifier.TheVariants.{PbeWithSHAAnd3KeyTripleDESCBC};
 ghost use Rattle.p12.specs.Attribute.{AttributeText};
@@ -13,7 +14,7 @@ ghost use Rattle.p12.specs.MacData.{MacText};
 ghost use Rattle.p12.specs.Sole.{IsSole};
 ghost use Rattle.p12.specs.Pfx.{IsStore};
 ghost use Rattle.p12.specs.ContentInfo.{ContentText, IsContents};
-ghost use Rattle.p12.specs.SafeBag.{BagText, IsBags};
+ghost use Rattle.p12.specs.SafeBag.{BagText, IsBags, KindText};
 ghost use Rattle.p12.specs.declared.pfx.PFX.{PFX};
 ghost use Rattle.p12.specs.declared.content_info.ContentInfo.{ContentInfo};
 ghost use Rattle.p12.specs.declared.safe_bag.SafeBag.{SafeBag};
@@ -51,6 +52,7 @@ pub fn one_text_has_one_value()
     ensures encrypted_key { IsSole EncryptedKeyText }
     ensures certificate { IsSole CertBagText }
     ensures attribute { IsSole AttributeText }
+    ensures kind { (k : ObjectIdentifier) → IsSole (KindText k) }
     ensures bag { IsSole BagText }
 {}
 
@@ -61,4 +63,12 @@ pub fn one_ciphertext_opens_to_a_text()
         → All (λ octet. octet < 256) d
         → unlock_pbe (PbeWithSHAAnd3KeyTripleDESCBC p) q c ≡ Some m
         → unlock_pbe (PbeWithSHAAnd3KeyTripleDESCBC p) q d ≡ Some m → c ≡ d }
+{}
+
+/// The length of a ciphertext under Triple DES is the next greater multiple of a block than that of its text. Of PBES2
+/// `pkcs5::opening_laws` says what it is.
+pub fn ciphertexts_have_one_length()
+    ensures { (p : Pkcs12PbeParams) (q c m : List ℕ)
+        → unlock_pbe (PbeWithSHAAnd3KeyTripleDESCBC p) q c ≡ Some m
+        → length c ≡ ciphertext_length (length m) }
 {}

@@ -172,7 +172,7 @@ impl<A: Row> Row for Option<A> {
     }
 }
 
-/// Puts octets behind others, where both together are short.
+/// Puts octets after others, where both together are short.
 fn join(front: Octets, behind: &[u8]) -> Result<Octets, Error>
     requires front { IsShort front }
     requires behind { IsShort behind.now }
@@ -186,7 +186,7 @@ fn join(front: Octets, behind: &[u8]) -> Result<Octets, Error>
     Ok(all)
 }
 
-/// One row behind another.
+/// One row after another.
 #[derive(Drop)]
 pub(crate) struct Both<'p, A, B>(pub(crate) &'p A, pub(crate) &'p B);
 
@@ -224,7 +224,7 @@ impl<'p, A: Row> Row for Within<'p, A> {
     }
 }
 
-/// Rows, one behind another.
+/// Rows, one after another.
 #[derive(Drop)]
 pub(crate) struct Each<'p, T>(pub(crate) &'p [T]);
 

@@ -1,5 +1,6 @@
--- What is taken out of bags that stand in a text.
+-- What is taken out of bags that are in a text.
 use Rattle.std.proofs.Common.{ℕ, zero, suc, ◌≡◌, ◌+◌, ◌≤◌, ◌<◌, ◌^◌, List, [], ◌∷◌, ◌++◌, length, take, drop, get_or, refl, sym, ap, ◌∙◌, arith, subst, append_assoc, append-nil, Bor}
+use Rattle.p12.specs.Collected.{certificates_among, at_most_one}
 use Rattle.std.specs.Prelude.{All}
 use Rattle.std.proofs.lemmas.List.{length-take, map-append}
 use Rattle.std.proofs.lemmas.Grind.{flat_map-append}
@@ -8,7 +9,7 @@ use Rattle.p12.specs.AlgorithmIdentifier.{salt_of}
 use Rattle.p12.specs.AlgorithmView.{seen_algorithm}
 use Rattle.p12.specs.BagView.{BagBetween, BagStands, NextBag, seen_bag}
 use Rattle.p12.specs.Place.{at_place}
-use Rattle.p12.specs.SafeBag.{BagFits, KindFits}
+use Rattle.p12.specs.SafeBag.{BagFits, KindFits, x509_of}
 use Rattle.p12.specs.Walk.{Walk}
 use Rattle.p12.specs.declared.algorithm_identifier.AlgorithmView.{AlgorithmView}
 use Rattle.p12.specs.declared.place.Place.{Place}
@@ -20,7 +21,7 @@ use Rattle.p12.proofs.DefinitionLaws.{bags_fit, bags_sole}
 use Rattle.asn1_core.specs.Sets.{Each}
 use Rattle.transfer.specs.declared.store.key_locks.KeyLock.{KeyLock}
 use Rattle.transfer.specs.InPlace.{AddsLocks, BagsAt, InOrder, LockFits, key_with, locked_key, locked_keys, places_of}
-use Rattle.transfer.specs.Opening.{all_shrouded, certificate_in, certificates_in, shrouded_among, shrouded_in}
+use Rattle.transfer.specs.Opening.{all_shrouded, shrouded_among, shrouded_in}
 use Rattle.transfer.proofs.Overwriting.{map_more, order_append, order_more, order_wider, place_in_place}
 
 -- ---- The bags at one of several places
@@ -67,18 +68,18 @@ place_within from to (q ∷ ps) (suc i) p o lt at = place_within (q.start + q.le
 
 -- ---- Certificates
 
-pub certificates_on : (now next : Walk SafeBag) (v : BagView) (n : NextBag now next v) (c d whole : List (List ℕ)) → c ++ certificates_in now.left ≡ whole → d ≡ c ++ certificate_in (seen_bag v)
-    → d ++ certificates_in next.left ≡ whole
+pub certificates_on : (now next : Walk SafeBag) (v : BagView) (n : NextBag now next v) (c d whole : List (List ℕ)) → c ++ certificates_among now.left ≡ whole → d ≡ c ++ at_most_one (x509_of (seen_bag v))
+    → d ++ certificates_among next.left ≡ whole
 certificates_on now next v n c d whole i e =
-    ap (λ t. t ++ certificates_in next.left) e ∙ append_assoc c (certificate_in (seen_bag v)) (certificates_in next.left)
-    ∙ ap (λ t. c ++ t) (sym (ap certificates_in n.is ∙ ap (λ b. certificate_in b ++ certificates_in next.left) n.seen)) ∙ i
+    ap (λ t. t ++ certificates_among next.left) e ∙ append_assoc c (at_most_one (x509_of (seen_bag v))) (certificates_among next.left)
+    ∙ ap (λ t. c ++ t) (sym (ap certificates_among n.is ∙ ap (λ b. at_most_one (x509_of b) ++ certificates_among next.left) n.seen)) ∙ i
 
 -- ---- Locks
 
 shrouded_append : (gs hs : List SafeBag) → shrouded_among (gs ++ hs) ≡ shrouded_among gs ++ shrouded_among hs
 shrouded_append gs hs = flat_map-append (λ (g : SafeBag). shrouded_in g.bag) gs hs
 
--- What the loop over the bags at a place has done, whose walk stands at `now`.
+-- What the loop over the bags at a place has done, whose walk is at `now`.
 pub record Collecting (text : List ℕ) (place : Place) (now : Walk SafeBag) (old new : List KeyLock) : Type 0 where
   pub all : List SafeBag
   pub are : BagsAt text place all
@@ -166,7 +167,7 @@ module _ (text : List ℕ) (place : Place) (now : Walk SafeBag) (old new : List 
 
 -- ---- Locks of all contents
 
--- The keys of the contents behind the places so far are still to come.
+-- The keys of the contents after the places so far are still to come.
 pub record Behind (text : List ℕ) (rest : List Place) (locks : List KeyLock) (bags : List (List SafeBag)) : Type 0 where
   pub left : List (List SafeBag)
   pub each : Each (BagsAt text) rest left
@@ -227,7 +228,7 @@ pub empty_is : {A : Type 0} (xs : List A) → length xs ≡ 0 → xs ≡ []
 empty_is [] h = refl
 empty_is (x ∷ xs) h = absurd (omega (arith, h))
 
--- Behind the last place.
+-- After the last place.
 pub gathered : (text : List ℕ) (rest : List Place) (locks : List KeyLock) (bags : List (List SafeBag)) → rest ≡ [] → Behind text rest locks bags → locked_keys text locks ≡ all_shrouded bags
 gathered text rest locks bags none b = by_left b.left refl
   where

@@ -23,7 +23,7 @@ use Rattle.transfer.specs.declared.store.error.TransferError.{TransferError}
 use Rattle.transfer.specs.declared.store.error.TransferError.TheVariants.{ContentMalformed}
 use Rattle.transfer.specs.InPlace.{BagsAt, ContentOpensAt, InOrder, Kept, StandAt}
 use Rattle.transfer.specs.Limits.{store_limit}
-use Rattle.transfer.specs.Opening.{ContentFault, RefusedAfter, content_share, of_contents}
+use Rattle.transfer.specs.Opening.{ContentCause, RefusedAfter, content_share, of_contents}
 use Rattle.transfer.specs.Parts.{AreOpen, IsFirstFault}
 use Rattle.transfer.proofs.Faults.{content_bad, open_append, refused_later}
 use Rattle.transfer.proofs.Lists.{each_append}
@@ -44,10 +44,10 @@ encrypted_opens p old new c a v at place gs is stands opens start len kept bags 
 
 pub encrypted_bad : (p : List ℕ) (limit sum : ℕ) (old m : List ℕ) (c : ContentView) (a : AlgorithmView) (v : Bor (List ℕ)) (at : Place) (before after : ℕ) (e : TransferError) → c ≡ view.Encrypted a v at → ContentStands old c
     → unlock (seen_algorithm a) p (at_place at old) ≡ Some m → sum + cost (seen_algorithm a) ≤ limit → after ≡ before + cost (seen_algorithm a) → e ≡ ContentMalformed → NoBags m
-    → RefusedAfter (ContentFault p limit sum (seen_content c)) before after e
+    → RefusedAfter (ContentCause p limit sum (seen_content c)) before after e
 encrypted_bad p limit sum old m c a v at before after e is stands opens le steps bad none =
     let d : EncryptedData = record { encrypted_content_info = record { content_encryption_algorithm = seen_algorithm a; encrypted_content = v.now } } in
-    subst (λ (e : TransferError). RefusedAfter (ContentFault p limit sum (seen_content c)) before after e) (sym bad)
+    subst (λ (e : TransferError). RefusedAfter (ContentCause p limit sum (seen_content c)) before after e) (sym bad)
     (_, content_bad p limit sum (seen_content c) d m (ap seen_content is) (ap (unlock (seen_algorithm a) p) (sym (subst (ContentStands old) is stands)) ∙ opens) le none, steps)
 
 -- ---- Contents
@@ -69,7 +69,7 @@ bags_kept from mid to (p ∷ ps) [] old new o k e = absurd e
 bags_kept from mid to (p ∷ ps) (g ∷ gss) old new o k e =
     (subst (λ (t : List ℕ). IsBags t g) (sym (place_before p mid old new o.1 k.0)) e.0, bags_kept (p.start + p.len) mid to ps gss old new o.2 k e.1)
 
--- What the loop over contents has done, whose walk stood at `start` and stands at `now`: the text is a copy from there on.
+-- What the loop over contents has done, whose walk stood at `start` and is at `now`: the text is a copy from there on.
 pub record Opening (p : List ℕ) (limit spent : ℕ) (start now : Walk ContentInfo) (text : List ℕ) (places : List Place) (sum : ℕ) : Type 0 where
   pub before : List ContentInfo
   pub split : start.left ≡ before ++ now.left
@@ -94,10 +94,10 @@ module _ (p : List ℕ) (limit spent : ℕ) (start now : Walk ContentInfo) (text
     pub fit_now : ContentFits store_limit (seen_content v)
     fit_now = All-head (ContentFits store_limit) (seen_content v) next.left (subst (All (ContentFits store_limit)) n.is i.fit)
 
-    pub fault_now : (e : TransferError) (old mid new : ℕ) → mid ≡ old + sum_by content_share i.before → RefusedAfter (ContentFault p limit sum (seen_content v)) mid new e
+    pub fault_now : (e : TransferError) (old mid new : ℕ) → mid ≡ old + sum_by content_share i.before → RefusedAfter (ContentCause p limit sum (seen_content v)) mid new e
         → RefusedAfter (IsFirstFault (of_contents p limit) limit spent start.left) old new e
     fault_now e old mid new steps h =
-        refused_later (ContentFault p limit sum (seen_content v)) (IsFirstFault (of_contents p limit) limit spent start.left) old mid new (sum_by content_share i.before) steps
+        refused_later (ContentCause p limit sum (seen_content v)) (IsFirstFault (of_contents p limit) limit spent start.left) old mid new (sum_by content_share i.before) steps
         (λ e k f. record {
           before = i.before;
           part = seen_content v;
@@ -106,7 +106,7 @@ module _ (p : List ℕ) (limit spent : ℕ) (start now : Walk ContentInfo) (text
           made = i.bags;
           open_before = i.opened;
           own = k;
-          fault = subst (λ s. ContentFault p limit s (seen_content v) e k) i.is f;
+          fault = subst (λ s. ContentCause p limit s (seen_content v) e k) i.is f;
           steps = refl;
         }) e h
 
@@ -130,7 +130,7 @@ module _ (p : List ℕ) (limit spent : ℕ) (start now : Walk ContentInfo) (text
           is = omega (arith, t, i.is, sum_by-append content_share i.before (seen_content v ∷ []));
         }
 
-  -- Behind the last.
+  -- After the last.
   pub all_before : now.left ≡ [] → i.before ≡ start.left
   all_before e = sym (i.split ∙ ap (λ (t : List ContentInfo). i.before ++ t) e ∙ append-nil i.before)
 

@@ -23,10 +23,11 @@ document_canonical rounds iv salt c =
     ap (λ x. seq (seq (oid pbes2_oid ++ seq (seq (oid pbkdf2_oid ++ seq (x ++ seq (oid hmac_with_sha256_oid ++ null))) ++ seq (oid aes_256_cbc_oid ++ octets iv))) ++ octets c))
     (sym (append-nil (octets salt ++ uint rounds)))
 
-pub sealed_document : (document : List ℕ) (rounds : ℕ) (iv salt q text : List ℕ) (k : AnyPrivateKey) → IsPrivateKey text k → IsSealed (pbkdf2_sha256 rounds salt (Aes256Cbc iv)) q (private_key_text k) document
+pub sealed_document : (document : List ℕ) (rounds : ℕ) (iv salt q text : List ℕ) (k : AnyPrivateKey) → All (λ octet. octet < 256) document → IsPrivateKey text k → IsSealed (pbkdf2_sha256 rounds salt (Aes256Cbc iv)) q (private_key_text k) document
     → IsDocument document rounds iv salt q text
 unfolding OpensBy key_under derived prf_of
-sealed_document document rounds iv salt q text k is (c, o, e) = record {
+sealed_document document rounds iv salt q text k octets is (c, o, e) = record {
+  in_octets = octets;
   key = k;
   is_key = is;
   ciphertext = c;
@@ -59,18 +60,18 @@ octets_inside : (tag : ℕ) (value : List ℕ) → All (λ octet. octet < 256) (
 unfolding el
 octets_inside tag value h = octets_behind (tag ∷ len (length value)) value h
 
-octets_sealed : (document : List ℕ) (rounds : ℕ) (iv salt q text : List ℕ) (d : IsDocument document rounds iv salt q text) → All (λ octet. octet < 256) document
+octets_sealed : (document : List ℕ) (rounds : ℕ) (iv salt q text : List ℕ) (d : IsDocument document rounds iv salt q text)
     → All (λ octet. octet < 256) d.ciphertext
-octets_sealed document rounds iv salt q text d h =
-    octets_inside 0x04 d.ciphertext (octets_behind _ (octets d.ciphertext) (octets_inside 0x30 _ (subst (All (λ octet. octet < 256)) d.is_text h)))
+octets_sealed document rounds iv salt q text d =
+    octets_inside 0x04 d.ciphertext (octets_behind _ (octets d.ciphertext) (octets_inside 0x30 _ (subst (All (λ octet. octet < 256)) d.is_text d.in_octets)))
 
 pub same_document : (d e : List ℕ) (rounds : ℕ) (iv salt q text : List ℕ) (x : IsDocument d rounds iv salt q text) (y : IsDocument e rounds iv salt q text) → x.key ≡ y.key
     → ((c f m : List ℕ) → All (λ octet. octet < 256) c → All (λ octet. octet < 256) f → Opens (pbkdf2_sha256 rounds salt (Aes256Cbc iv)) q c m → Opens (pbkdf2_sha256 rounds salt (Aes256Cbc iv)) q f m → c ≡ f)
-    → All (λ octet. octet < 256) d → All (λ octet. octet < 256) e → d ≡ e
+    → d ≡ e
 unfolding document_sealed
-same_document d e rounds iv salt q text x y key one octets_d octets_e =
+same_document d e rounds iv salt q text x y key one =
     let first = (document_sealed d rounds iv salt q text x).1 in
     let second = (document_sealed e rounds iv salt q text y).1 in
-    let same : x.ciphertext ≡ y.ciphertext = one x.ciphertext y.ciphertext (private_key_text y.key) (octets_sealed d rounds iv salt q text x octets_d) (octets_sealed e rounds iv salt q text y octets_e)
+    let same : x.ciphertext ≡ y.ciphertext = one x.ciphertext y.ciphertext (private_key_text y.key) (octets_sealed d rounds iv salt q text x) (octets_sealed e rounds iv salt q text y)
     (subst (λ k. Opens (pbkdf2_sha256 rounds salt (Aes256Cbc iv)) q x.ciphertext (private_key_text k)) key first) second in
     x.is_text ∙ ap (document_text rounds iv salt) same ∙ sym y.is_text

@@ -37,7 +37,7 @@ seals (Ok d) rounds q iv salt old mid new text of and first second h = record {
 }
 seals (Err e) rounds q iv salt old mid new text of and first second h = tt
 
--- One more key behind those that are sealed.
+-- One more key after those that are sealed.
 pub sealed_append : (rounds : ℕ) (q : List ℕ) (ks : List (List ℕ)) (bs : List (List ℕ)) (k : List ℕ) (b d drawn : List ℕ)
     → AreDrawn rounds q ks bs d → IsDrawn rounds q drawn k b → AreDrawn rounds q (ks ++ k ∷ []) (bs ++ b ∷ []) (d ++ drawn)
 sealed_append rounds q [] [] k b d drawn a s = (drawn, [], ap (λ t. t ++ drawn) a ∙ sym (append-nil drawn), s, refl)

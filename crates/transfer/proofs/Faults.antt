@@ -22,7 +22,7 @@ use Rattle.transfer.specs.declared.store.error.TransferError.{TransferError}
 use Rattle.transfer.specs.declared.store.error.TransferError.TheVariants.{TooLong, Malformed, Unsupported, MacMissing, MacUnsupported, ZeroIterations, WorkLimit, MacMismatch, ContentMalformed, DecryptFailed, KeyMalformed, Rng, Memory}
 use Rattle.transfer.specs.TransferError.{RefusedBy}
 use Rattle.transfer.specs.Parts.{AreOpen, IsFirstFault, PartKind, OpensMore}
-use Rattle.transfer.specs.Opening.{ContentFault, KeyFault, LockFault, NoKeyText, RefusedAfter, of_keys, shrouded_in}
+use Rattle.transfer.specs.Opening.{ContentCause, KeyFault, LockFault, NoKeyText, RefusedAfter, of_keys, shrouded_in}
 use Rattle.transfer.proofs.Lists.{each_append}
 
 -- ---- Causes
@@ -43,7 +43,7 @@ refused_as P Q R S f g KeyMalformed h = f _ h
 refused_as P Q R S f g Rng h = g h
 refused_as P Q R S f g Memory h = tt
 
--- A cause behind k more steps.
+-- A cause after k more steps.
 pub refused_later : (F G : TransferError → ℕ → Type 0) (old mid new k : ℕ) → mid ≡ old + k → ((e : TransferError) (n : ℕ) → F e n → G e (k + n)) → (e : TransferError) → RefusedAfter F mid new e → RefusedAfter G old new e
 refused_later F G old mid new k is f e h =
     refused_as (λ e. (n : ℕ) × F e n × (new ≡ mid + n)) (λ e. (n : ℕ) × G e n × (new ≡ old + n)) ⊥ ⊥ (λ e h. (k + h.0, f e h.0 h.1, omega (arith, is, h.2))) (λ h. h) e h
@@ -73,9 +73,9 @@ lock_holds p limit sum a c rest m e n is le bad =
 pub content_bad : (p : List ℕ) (limit sum : ℕ) (c : ContentInfo) (d : EncryptedData) (m : List ℕ) → c ≡ content.EncryptedData d
     → unlock d.encrypted_content_info.content_encryption_algorithm p d.encrypted_content_info.encrypted_content ≡ Some m
     → sum + cost d.encrypted_content_info.content_encryption_algorithm ≤ limit → NoBags m
-    → ContentFault p limit sum c ContentMalformed (cost d.encrypted_content_info.content_encryption_algorithm)
+    → ContentCause p limit sum c ContentMalformed (cost d.encrypted_content_info.content_encryption_algorithm)
 content_bad p limit sum c d m is opens le bad =
-    let P : ContentInfo → Type 0 = λ c. ContentFault p limit sum c ContentMalformed (cost d.encrypted_content_info.content_encryption_algorithm) in
+    let P : ContentInfo → Type 0 = λ c. ContentCause p limit sum c ContentMalformed (cost d.encrypted_content_info.content_encryption_algorithm) in
     let a = d.encrypted_content_info.content_encryption_algorithm in
     subst P (sym is) (lock_holds p limit sum a d.encrypted_content_info.encrypted_content (λ m e n. NoBags m × (e ≡ ContentMalformed) × (n ≡ cost a)) m ContentMalformed (cost a) opens le (bad, refl, refl))
 
@@ -115,7 +115,7 @@ part_refused K limit sum now xs i x ys old mid new e lt at opened sums is h =
 open_one : {A B : Type 0} (K : PartKind A B TransferError) (limit sum : ℕ) (x : A) (y : B) → K.OpensTo x y → sum + K.share x ≤ limit → AreOpen K limit sum (x ∷ []) (y ∷ [])
 open_one K limit sum x y h le = record { each = (h, tt); within = omega (arith, le, sum_by-append K.share (x ∷ []) []) }
 
--- What lies behind parts that are open.
+-- What lies after parts that are open.
 pub open_append : {A B : Type 0} (K : PartKind A B TransferError) (limit sum now : ℕ) (xs : List A) (ys : List B) (zs : List A) (ws : List B)
     → AreOpen K limit sum xs ys → now ≡ sum + sum_by K.share xs → AreOpen K limit now zs ws → AreOpen K limit sum (xs ++ zs) (ys ++ ws)
 open_append K limit sum now xs ys zs ws a sums b =

@@ -5,7 +5,7 @@ use Rattle.asn1_core.specs.Sets.{Each}
 use Rattle.p12.specs.declared.safe_bag.SafeBag.{SafeBag}
 use Rattle.transfer.specs.Sample.{IsKeyBag, SealsKey, behind_keys, behind_salt, certificate_at, certificate_bag, certificate_bags, next_state, octets_behind, starts, state_behind}
 
--- an octet, and what is left behind it
+-- an octet, and what is left after it
 octets_more : (y n : ℕ) → octets_behind y (suc n) ≡ (next_state y / 65536) % 256 ∷ octets_behind (next_state y) n
 unfolding octets_behind
 octets_more y n = refl

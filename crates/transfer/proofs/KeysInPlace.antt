@@ -24,7 +24,7 @@ use Rattle.transfer.proofs.Overwriting.{map_more}
 pub key_opens : (p : List ℕ) (a : AlgorithmIdentifier) (c m : List ℕ) (key : OpenedKey) → unlock a p c ≡ Some m → IsOpenedKey key → key.text.now ≡ m → KeyOpens p (key_with a c) key.text.now
 key_opens p a c m key opens is same = (opens ∙ ap Some (sym same), (seen_private_key borrowed_any (λ s. s.octets.now) (λ s. seen_bits s.unused_bits s.octets.now) key.key, is.0))
 
--- What the loop over locks has done: what is left is the text behind the octets passed.
+-- What the loop over locks has done: what is left is the text after the octets passed.
 pub record Unlocking (p : List ℕ) (limit spent : ℕ) (locks rest : List KeyLock) (first left : List ℕ) (passed : ℕ) (keys : List OpenedKey) (sum : ℕ) : Type 0 where
   pub before : List KeyLock
   pub split : locks ≡ before ++ rest
@@ -64,7 +64,7 @@ module _ (p : List ℕ) (limit spent : ℕ) (locks : List KeyLock) (lock : KeyLo
   keys_more : locked_keys first (i.before ++ lock ∷ []) ≡ locked_keys first i.before ++ locked_key first lock ∷ []
   keys_more = map_more (locked_key first) i.before lock
 
-  -- the octets that were split off, and what is left behind them
+  -- the octets that were split off, and what is left after them
   module _ (octets further : List ℕ) (are : octets ≡ take lock.at.len (drop (lock.at.start - passed) left)) (stand : further ≡ drop lock.at.len (drop (lock.at.start - passed) left)) where
     same_key : key_with lock.algorithm octets ≡ locked_key first lock
     same_key = ap (key_with lock.algorithm) (are ∙ octets_are)
@@ -104,7 +104,7 @@ module _ (p : List ℕ) (limit spent : ℕ) (locks : List KeyLock) (lock : KeyLo
           steps = refl;
         }) e h
 
--- Behind the last lock.
+-- After the last lock.
 module _ (p : List ℕ) (limit spent : ℕ) (locks rest : List KeyLock) (first left : List ℕ) (passed : ℕ) (keys : List OpenedKey) (sum : ℕ) (i : Unlocking p limit spent locks rest first left passed keys sum) where
   pub all_before : rest ≡ [] → i.before ≡ locks
   all_before e = sym (i.split ∙ ap (λ t. i.before ++ t) e ∙ append-nil i.before)

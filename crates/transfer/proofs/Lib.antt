@@ -17,3 +17,5 @@ pub mod Decided
 mod Generated
 mod SampleStore
 mod SampleAnswering
+mod OneText
+mod StoredKeys

@@ -1,4 +1,4 @@
--- Opening in place: what is elsewhere stays, and places lie one behind the other.
+-- Opening in place: what is elsewhere stays, and places lie one after the other.
 use Rattle.std.proofs.Common.{ℕ, ◌≡◌, ◌+◌, ◌-◌, ◌≤◌, List, [], ◌∷◌, ◌++◌, length, take, drop, refl, sym, ap, ◌∙◌, arith, subst}
 use Rattle.std.specs.Prelude.{Option, Some, IfSome, map, slice_range}
 use Rattle.std.proofs.lemmas.List.{take-take, drop-take, drop-drop}
@@ -12,7 +12,7 @@ if_at P o x e h = subst (λ o. IfSome o P) e h
 
 -- ---- One place
 
--- What stands before or behind a change stands as it stood.
+-- What stands before or after a change stands as it stood.
 pub place_before : (p : Place) (from : ℕ) (old new : List ℕ) → p.start + p.len ≤ from → take from new ≡ take from old → at_place p new ≡ at_place p old
 place_before p from old new h e =
     let cut : (b : List ℕ) → at_place p b ≡ drop p.start (take (p.start + p.len) (take from b)) = λ b. sym (drop-take p.start p.len b) ∙ ap (drop p.start) (sym (take-take (p.start + p.len) from b h)) in
@@ -32,7 +32,7 @@ place_behind p to old new h e = ap (take p.len) (drop_on to p.start new old h e)
 pub kept_wider : (from s e to : ℕ) (old new : List ℕ) → from ≤ s → e ≤ to → Kept s e old new → Kept from to old new
 kept_wider from s e to old new h i k = (sym (take-take from s new h) ∙ ap (take from) k.0 ∙ take-take from s old h, drop_on e to new old i k.1)
 
--- A slice is what stands at its place.
+-- A slice is what is at its place.
 pub between_place : (p : Place) (b : List ℕ) → slice_range b p.start (p.start + p.len) ≡ at_place p b
 between_place p b = let n : p.start + p.len - p.start ≡ p.len = omega arith in ap (λ (k : ℕ). take k (drop p.start b)) n
 

@@ -1,5 +1,5 @@
 -- The sample's store opens to the certificates and keys that were generated.
-use Rattle.std.proofs.Common.{◌≡◌, ℕ, zero, suc, ◌+◌, ◌*◌, ◌-◌, ◌^◌, List, [], ◌∷◌, map, length, Option, Some, refl, sym, ap, subst, ◌∙◌, inl, arith, append-nil}
+use Rattle.std.proofs.Common.{◌≡◌, ℕ, zero, suc, ◌+◌, ◌*◌, List, [], ◌∷◌, map, length, Option, Some, refl, sym, ap, subst, ◌∙◌, inl, arith, append-nil}
 use Rattle.std.specs.List.{sum_by}
 use Rattle.std.proofs.lemmas.List.Sums.{sum_by-cons}
 use Rattle.asn1_core.specs.Der.{IsShort, joined}
@@ -20,10 +20,14 @@ use Rattle.p12.specs.declared.encrypted_private_key_info.EncryptedPrivateKeyInfo
 use Rattle.p12.specs.declared.mac_data.MacData.{MacData}
 use Rattle.p12.specs.declared.pfx.PFX.{PFX}
 use Rattle.p12.specs.declared.safe_bag.SafeBag.{SafeBag}
-use Rattle.p12.specs.Collected.{HoldsBags}
-use Rattle.transfer.specs.Opening.{KeyOpens, all_certificates, all_shrouded, certificates_in, key_share, shrouded_among}
-use Rattle.transfer.specs.Sample.{IsKeyBag, IsSampleStore, OpensTo, SampleMakes, behind_keys, behind_salt, certificate_at, certificate_bag, certificate_bags, content_salt_at, drawn_octets, key_bag, mac_salt_at, salt_at, sample_password, sample_text, sample_work, starts, store_of, triple_des_once, two_contents}
+use Rattle.p12.specs.Collected.{HoldsBags, certificates_among}
+use Rattle.transfer.specs.Opening.{KeyOpens, all_certificates, all_shrouded, key_share, shrouded_among}
+use Rattle.transfer.specs.Sample.{IsKeyBag, IsSampleStore, OpensTo, SampleMakes, behind_keys, behind_salt, certificate_at, certificate_bag, certificate_bags, content_salt_at, drawn_octets, key_bag, mac_salt_at, salt_at, sample_command, sample_password, sample_text, sample_work, starts, store_of, triple_des_once, two_contents}
+use Rattle.frame.specs.Calls.{Effects, effects}
+use Rattle.frame.specs.Stream.{stream}
+use Rattle.transfer.specs.Sealing.{SealsAll}
 use Rattle.transfer.specs.Transferred.{Transfers}
+use Rattle.transfer.specs.Words.{Command, command}
 use Rattle.transfer.specs.Verdicts.{StoreOpens, work}
 use Rattle.transfer.proofs.Valid.{verdict_open}
 
@@ -90,15 +94,15 @@ two_open keys salt c gs (a ∷ []) o k e = absurd e.1
 two_open keys salt c gs (a ∷ b ∷ x ∷ more) o k e = absurd e.1.1
 two_open keys salt c gs (a ∷ b ∷ []) o k ((m, is, lists), ((n, js, others), none)) =
     let ys = starts keys keys in
-    let first = bags_back a (certificate_bags ys) (certificates_made ys) (subst (λ (t : List ℕ). IsBags t a) (some_is m (bags_canon (certificate_bags ys)) (sym is ∙ o)) lists) in
+    let first = bags_back a (certificate_bags ys) (certificates_made ys) (subst (λ (t : List ℕ). IsBags t a) (some_is m (bags_canon (certificate_bags ys)) (sym is ∙ o.1)) lists) in
     let second = bags_back b gs (keys_made ys gs k) (subst (λ (t : List ℕ). IsBags t b) (sym (some_is (bags_canon gs) n js)) others) in
     rw (first, second) refl
 
-certificates_of_bags : (ys : List ℕ) → certificates_in (certificate_bags ys) ≡ map certificate_at ys
+certificates_of_bags : (ys : List ℕ) → certificates_among (certificate_bags ys) ≡ map certificate_at ys
 certificates_of_bags [] = refl
 certificates_of_bags (y ∷ ys) = ap (λ (t : List (List ℕ)). certificate_at y ∷ t) (certificates_of_bags ys)
 
-no_certificates : (ys : List ℕ) (gs : List SafeBag) → Each IsKeyBag ys gs → certificates_in gs ≡ []
+no_certificates : (ys : List ℕ) (gs : List SafeBag) → Each IsKeyBag ys gs → certificates_among gs ≡ []
 no_certificates [] [] e = refl
 no_certificates [] (g ∷ gs) e = absurd e
 no_certificates (y ∷ ys) [] e = absurd e
@@ -186,33 +190,50 @@ sample_opens keys store gss ks n s opens =
 
 -- ---- what its transfer gives
 
-pub sample_transfers : (keys limit rounds steps steps_after : ℕ) (q : List ℕ) (store : PFX) (left rest : Option (List ℕ)) (certificates documents : List (List ℕ)) → IsSampleStore keys store
-    → Transfers (store_canon store) sample_password limit rounds q left rest steps steps_after certificates documents
-    → (certificates ≡ map certificate_at (starts keys keys)) × (length documents ≡ keys) × (steps_after ≡ steps + sample_work keys)
-sample_transfers keys limit rounds steps steps_after q store left rest certificates documents s t =
+pub record SampleTransfers (keys : ℕ) (e : Effects) (certificates documents : List (List ℕ)) : Type 0 where
+  pub certificates_are : certificates ≡ map certificate_at (starts keys keys)
+  pub as_many : length documents ≡ keys
+  pub work : e.steps_after ≡ e.steps + sample_work keys
+
+sample_transfers : (keys limit rounds : ℕ) (q : List ℕ) (e : Effects) (store : PFX) (certificates documents : List (List ℕ)) → IsSampleStore keys store
+    → Transfers (command sample_password q rounds limit) e (store_canon store) certificates documents → SampleTransfers keys e certificates documents
+sample_transfers keys limit rounds q e store certificates documents s t =
     let o = verdict_open (store_canon store) sample_password limit t.bags t.keys t.work t.verdict in
     let is = sample_opens keys store t.bags t.keys t.work s o.0 in
-    (t.in_order ∙ is.certificates, t.sealed.each_one ∙ is.as_many, t.counted ∙ ap (λ n. steps + n) is.work)
+    record { certificates_are = t.in_order ∙ is.certificates; as_many = t.sealed.each_one ∙ is.as_many; work = t.counted ∙ ap (λ n. e.steps + n) is.work }
+
+-- What the draw was counted to have failed does not matter.
+uncounted : (c : Command) (e : Effects) (store : List ℕ) (certificates documents : List (List ℕ)) (left : List ℕ) → e.draw.told ≡ Some left → Transfers c e store certificates documents
+    → Transfers c (effects (stream (Some left) e.draw.told_after 0 0) e.steps e.steps_after) store certificates documents
+uncounted c e store certificates documents left is t = record {
+  bags = t.bags;
+  keys = t.keys;
+  work = t.work;
+  verdict = t.verdict;
+  in_order = t.in_order;
+  sealed = subst (λ (told : Option (List ℕ)). SealsAll c.rounds c.new_password told e.draw.told_after t.keys documents) is t.sealed;
+  counted = t.counted;
+}
 
 -- the lines that are due for it
-pub sample_makes : (keys steps steps_after : ℕ) (store : PFX) (b d p q text : List ℕ) (left rest : Option (List ℕ)) (certificates documents : List (List ℕ)) → IsSampleStore keys store
-    → b ≡ store_canon store → d ≡ store_canon store → p ≡ sample_password → q ≡ sample_password → left ≡ Some (drawn_octets keys)
-    → Transfers b p (2 ^ 64 - 1) 1 q left rest steps steps_after certificates documents → text ≡ sample_text keys d certificates documents → SampleMakes keys steps steps_after text
-sample_makes keys steps steps_after store b d p q text left rest certificates documents s of_b of_d of_p of_q of_left t lines =
-    let one = subst (λ (b : List ℕ). Transfers b p (2 ^ 64 - 1) 1 q left rest steps steps_after certificates documents) of_b t in
-    let two = subst (λ (p : List ℕ). Transfers (store_canon store) p (2 ^ 64 - 1) 1 q left rest steps steps_after certificates documents) of_p one in
-    let three = subst (λ (q : List ℕ). Transfers (store_canon store) sample_password (2 ^ 64 - 1) 1 q left rest steps steps_after certificates documents) of_q two in
-    let four = subst (λ (left : Option (List ℕ)). Transfers (store_canon store) sample_password (2 ^ 64 - 1) 1 sample_password left rest steps steps_after certificates documents) of_left three in
-    let is = sample_transfers keys (2 ^ 64 - 1) 1 steps steps_after sample_password store (Some (drawn_octets keys)) rest certificates documents s four in
+pub sample_makes : (keys limit : ℕ) (e : Effects) (store : PFX) (b d p q text : List ℕ) (certificates documents : List (List ℕ)) → IsSampleStore keys store
+    → limit ≡ sample_work keys → b ≡ store_canon store → d ≡ store_canon store → p ≡ sample_password → q ≡ sample_password → e.draw.told ≡ Some (drawn_octets keys)
+    → Transfers (command p q 1 limit) e b certificates documents → text ≡ sample_text keys d certificates documents → SampleMakes keys e.steps e.steps_after text
+sample_makes keys limit e store b d p q text certificates documents s of_limit of_b of_d of_p of_q of_left t lines =
+    let zero = subst (λ (n : ℕ). Transfers (command p q 1 n) e b certificates documents) of_limit t in
+    let one = subst (λ (b : List ℕ). Transfers (command p q 1 (sample_work keys)) e b certificates documents) of_b zero in
+    let two = subst (λ (p : List ℕ). Transfers (command p q 1 (sample_work keys)) e (store_canon store) certificates documents) of_p one in
+    let three = subst (λ (q : List ℕ). Transfers (command sample_password q 1 (sample_work keys)) e (store_canon store) certificates documents) of_q two in
+    let is = sample_transfers keys (sample_work keys) 1 sample_password e store certificates documents s three in
     record {
       store = store;
       is = s;
       certificates = certificates;
       documents = documents;
-      rest = rest;
-      transferred = four;
-      counted = is.2;
-      each_certificate = is.0;
-      each_document = is.1;
+      rest = e.draw.told_after;
+      transferred = uncounted (sample_command keys) e (store_canon store) certificates documents (drawn_octets keys) of_left three;
+      counted = is.work;
+      each_certificate = is.certificates_are;
+      each_document = is.as_many;
       lines = lines ∙ ap (λ (t : List ℕ). sample_text keys t certificates documents) of_d;
     }

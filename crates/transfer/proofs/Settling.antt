@@ -6,7 +6,7 @@ use Rattle.transfer.specs.declared.store.error.TransferError.{TransferError}
 use Rattle.transfer.specs.declared.store.error.TransferError.TheVariants.{TooLong, Malformed, Unsupported, MacMissing, MacUnsupported, ZeroIterations, WorkLimit, MacMismatch, ContentMalformed, DecryptFailed, KeyMalformed, Rng, Memory}
 use Rattle.transfer.specs.TransferError.{RefusedBy}
 use Rattle.transfer.specs.Opening.{HasVerdict, FirstCause, RefusedAfter, opened, refused}
-use Rattle.transfer.specs.Transferred.{IsDecided, IsSettled, Settles}
+use Rattle.transfer.specs.Transferred.{DrawsFor, IsDecided, IsSettled, Settles}
 use Rattle.transfer.proofs.Faults.{refused_as}
 use Rattle.transfer.proofs.Sole.{verdict_sole}
 use Rattle.transfer.proofs.Valid.{not_refused, second_same}
@@ -107,6 +107,9 @@ unfolding Settles
 settles_err T b p limit left e h =
     settled_err T b p limit left e (refusal (λ e. (n : ℕ) × HasVerdict b p limit (refused e) n)
     ((gss : List (List SafeBag)) × (ks : List (List ℕ)) × (n : ℕ) × HasVerdict b p limit (opened gss ks) n × IfSome left (λ d. length d < 32 * length ks)) e h)
+
+pub draws_ok : {T : Type 0} (left : Option (List ℕ)) (n : ℕ) (t : T) → IfSome left (λ d. 32 * n ≤ length d) → DrawsFor {T = T} left n (Ok t)
+draws_ok left n t enough = if_some_map left (λ d. 32 * n ≤ length d) _ (λ d le. (λ lt. absurd (omega (arith, le, lt)), λ more. inr refl)) enough
 
 pub settles_memory : {T : Type 0} (b p : List ℕ) (limit : ℕ) (left : Option (List ℕ)) (r : Result T TransferError) → r ≡ Err Memory → Settles {T = T} b p limit left r
 unfolding Settles

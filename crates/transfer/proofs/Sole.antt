@@ -20,7 +20,7 @@ use Rattle.transfer.specs.declared.store.error.TransferError.TheVariants.{Conten
 use Rattle.asn1_core.specs.Sets.{Each}
 use Rattle.transfer.specs.Parts.{AreOpen, IsFirstFault, Of, PartKind, Row}
 use Rattle.p12.specs.Collected.{HoldsBags, plain_text}
-use Rattle.transfer.specs.Opening.{HasVerdict, ContentFault, ContentsTable, KeyOpens, KeysTable, LockFault, MacTable, NoKeyText, PartsTable, StoreTable, Verdict, all_shrouded, content_share, key_share, of_contents, of_keys, opened, refused}
+use Rattle.transfer.specs.Opening.{HasVerdict, ContentCause, ContentsTable, KeyOpens, KeysTable, LockFault, MacTable, NoKeyText, PartsTable, StoreTable, Verdict, all_shrouded, content_share, key_share, of_contents, of_keys, opened, refused}
 use Rattle.transfer.specs.Verdicts.{Sole}
 use Rattle.transfer.proofs.Faults.{true_false}
 
@@ -151,14 +151,14 @@ lock_opens p limit sum a c rest m e n is le (inr (_, inr (_, inr (_, inr (_, f))
 content_one : (p : List ℕ) (c : ContentInfo) (gs hs : List SafeBag) → HoldsBags p c gs → HoldsBags p c hs → gs ≡ hs
 content_one p c gs hs h k = bags_sole h.0 gs hs h.2 (subst (λ m. IsBags m hs) (some_same (plain_text p c) k.0 h.0 k.1 h.1) k.2)
 
-content_fault_sole : (p : List ℕ) (limit sum : ℕ) (c : ContentInfo) → Sole (ContentFault p limit sum c)
+content_fault_sole : (p : List ℕ) (limit sum : ℕ) (c : ContentInfo) → Sole (ContentCause p limit sum c)
 content_fault_sole p limit sum (content.Data v) e g m n h k = last_sole (NoBags v) ContentMalformed 0 e g m n h k
 content_fault_sole p limit sum (content.EncryptedData d) e g m n h k =
     let a = d.encrypted_content_info.content_encryption_algorithm in
     lock_sole p limit sum a d.encrypted_content_info.encrypted_content (λ m e n. NoBags m × (e ≡ ContentMalformed) × (n ≡ cost a)) (λ m. last_sole (NoBags m) ContentMalformed (cost a)) e g m n h k
 content_fault_sole p limit sum (content.OtherContext o) v w m n h k = (h.0 ∙ sym k.0, h.1 ∙ sym k.1)
 
-content_not_both : (p : List ℕ) (limit sum : ℕ) (c : ContentInfo) (gs : List SafeBag) (e : TransferError) (n : ℕ) → HoldsBags p c gs → sum + content_share c ≤ limit → ContentFault p limit sum c e n → ⊥
+content_not_both : (p : List ℕ) (limit sum : ℕ) (c : ContentInfo) (gs : List SafeBag) (e : TransferError) (n : ℕ) → HoldsBags p c gs → sum + content_share c ≤ limit → ContentCause p limit sum c e n → ⊥
 content_not_both p limit sum (content.Data v) gs e n h le f = f.0 gs (subst (λ m. IsBags m gs) (some_same (Some v) h.0 v h.1 refl) h.2)
 content_not_both p limit sum (content.EncryptedData d) gs e n h le f =
     let a = d.encrypted_content_info.content_encryption_algorithm in

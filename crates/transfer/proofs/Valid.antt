@@ -9,13 +9,15 @@ use Rattle.p12.specs.ContentInfo.{IsContents}
 use Rattle.transfer.specs.declared.store.error.TransferError.{TransferError}
 use Rattle.transfer.specs.Parts.{AreOpen}
 use Rattle.transfer.specs.Opening.{HasVerdict, ContentsTable, FirstCause, MacTable, all_shrouded, content_share, key_share, of_contents, of_keys, opened, refused}
+use Rattle.transfer.specs.Transferred.{TransfersInTwo}
 use Rattle.transfer.specs.Verdicts.{IsMacOk, IsValid, StoreOpens}
+use Rattle.transfer.proofs.Sole.{verdict_sole}
 use Rattle.transfer.proofs.Rows.{all_open, contents_then, has_contents, has_mac, has_store}
 
 pub not_refused : (gss : List (List SafeBag)) (ks : List (List ℕ)) (e : TransferError) → opened gss ks ≡ refused e → ⊥
 not_refused gss ks e h = grind (arith, h)
 
-first_same : (gss hss : List (List SafeBag)) (ks js : List (List ℕ)) → opened gss ks ≡ opened hss js → gss ≡ hss
+pub first_same : (gss hss : List (List SafeBag)) (ks js : List (List ℕ)) → opened gss ks ≡ opened hss js → gss ≡ hss
 first_same gss hss ks js h = grind (arith, h)
 
 pub second_same : (gss hss : List (List SafeBag)) (ks js : List (List ℕ)) → opened gss ks ≡ opened hss js → ks ≡ js
@@ -114,3 +116,33 @@ opened_exactly b p limit gss ks n = (λ h. verdict_open b p limit gss ks n h, λ
 pub valid_exactly : (b p : List ℕ) (limit : ℕ) → FirstCause b p limit None ↔ IsValid b p limit
 valid_exactly b p limit =
     (λ h. let r = verdict_open b p limit h.0 h.1 h.2 h.3 in (h.0, h.1, h.2, r.0, r.1), λ h. (h.0, h.1, h.2, open_comes b p limit h.0 h.1 h.2 h.3 h.4))
+
+pub transfer_in_two : TransfersInTwo
+transfer_in_two c e store certificates documents = (
+  λ t. let o = verdict_open store c.password c.limit t.bags t.keys t.work t.verdict in record {
+    bags = t.bags;
+    keys = t.keys;
+    work = t.work;
+    opens = o.0;
+    within = o.1;
+    counted = t.counted;
+    seals = record { in_order = t.in_order; sealed = t.sealed };
+  },
+  λ o. record {
+    bags = o.bags;
+    keys = o.keys;
+    work = o.work;
+    verdict = open_comes store c.password c.limit o.bags o.keys o.work o.opens o.within;
+    in_order = o.seals.in_order;
+    sealed = o.seals.sealed;
+    counted = o.counted;
+  },
+)
+
+-- A store opens in one way: under a limit that lets both openings through it has one verdict.
+pub one_opening : (b p : List ℕ) (gss hss : List (List SafeBag)) (ks js : List (List ℕ)) (n m : ℕ) → StoreOpens b p gss ks n → StoreOpens b p hss js m → (gss ≡ hss) × (ks ≡ js) × (n ≡ m)
+one_opening b p gss hss ks js n m o r =
+    let h = (opened_exactly b p (n + m) gss ks n).1 (o, omega arith) in
+    let k = (opened_exactly b p (n + m) hss js m).1 (r, omega arith) in
+    let w = verdict_sole b p (n + m) (opened gss ks) (opened hss js) n m h k in
+    (first_same gss hss ks js w.0, second_same gss hss ks js w.0, w.1)

@@ -19,16 +19,20 @@ use Rattle.transfer.specs.Words.{Command, IsCommand}
 -- and of a document for each of its keys.
 abbrev pub TransfersStore : Command → Effects → List ℕ → List ℕ → Type 0
 TransfersStore c e store text = (certificates : List (List ℕ)) × (documents : List (List ℕ))
-    × Transfers store c.password c.limit c.rounds c.new_password e.draw.told e.draw.told_after e.steps e.steps_after certificates documents
-    × (text ≡ out certificates documents)
+    × Transfers c e store certificates documents × (text ≡ out certificates documents)
+
+-- Of a command, a store and the octets to be drawn there is one such text.
+abbrev pub OneText : Type 0
+OneText = (c : Command) (e f : Effects) (store drawn t u : List ℕ) → e.draw.told ≡ Some drawn → f.draw.told ≡ Some drawn
+    → TransfersStore c e store t → TransfersStore c f store u → t ≡ u
 
 -- Rng comes only where no cause refuses the store, after exactly its work, and the octets to be drawn do not suffice. Any other
 -- refusal comes only where it is the first cause, and after exactly the steps of that cause.
 abbrev pub RefusesStore : Command → Effects → List ℕ → Status → Type 0
-RefusesStore c e store Rng = RunsShort store c.password c.limit e.draw.told e.draw.faults e.draw.faults_after e.steps e.steps_after
-RefusesStore c e store s = (cause : TransferError) × (s ≡ status_of cause) × IsRefused store c.password c.limit e.steps e.steps_after cause
+RefusesStore c e store Rng = RunsShort c e store
+RefusesStore c e store s = (cause : TransferError) × (s ≡ status_of cause) × IsRefused c e store cause
 
--- Of a command, a store and the octets to be drawn: each answer comes where its row holds, want of memory apart.
+-- Of a command, a store and the octets to be drawn: each answer comes where its row holds, running out of memory apart.
 pub record ExactStore (c : Command) (drawn : Option (List ℕ)) (store : List ℕ) (s : Status) : Type 0 where
   -- a store that a cause refuses: the status of the first cause
   pub refuses : (e : TransferError) → FirstCause store c.password c.limit (Some e) → s ≡ status_of e
@@ -48,7 +52,7 @@ on_stores words = record {
   limit = λ c. c.limit;
 }
 
--- What a run answers for these words, over the call and the output: InputMalformed where the input spells no store, and else what the
+-- What a run returns for these words, over the call and the output: InputMalformed where the input spells no store, and else what the
 -- command promises of the store that it spells, under the octets of its second line, or of the draw where there is none.
 abbrev pub Answers : List (List ℕ) → Call → Stream → Status → Type 0
 Answers words call output s = programs.Answers (lined (on_stores words)) call output s

@@ -32,9 +32,10 @@ document_text rounds iv salt c = seq (
 abbrev pub document_key : ℕ → List ℕ → List ℕ → List ℕ
 document_key rounds salt q = pbkdf2 (hmac sha256 64 q) 32 salt rounds 32
 
--- The document seals the private key of this text: it states these rounds, this IV and this salt, and its ciphertext opens under
--- the password q to the key's canonical encoding.
+-- The document, in octets, seals the private key of this text: it states these rounds, this IV and this salt, and its ciphertext
+-- opens under the password q to the key's canonical encoding.
 pub record IsDocument (document : List ℕ) (rounds : ℕ) (iv salt q text : List ℕ) : Type 0 where
+  pub in_octets : All (λ octet. octet < 256) document
   pub key : AnyPrivateKey
   pub is_key : IsPrivateKey text key
   pub ciphertext : List ℕ
@@ -47,13 +48,12 @@ pub record IsDocument (document : List ℕ) (rounds : ℕ) (iv salt q text : Lis
 abbrev pub DocumentsAreCanonical : Type 0
 DocumentsAreCanonical = (rounds : ℕ) (iv salt c : List ℕ) → document_text rounds iv salt c ≡ encrypted_key_text (Pbes2 (pbkdf2_sha256 rounds salt (Aes256Cbc iv))) c
 
--- A document is what encryption under these parameters gives for a private key.
+-- A document is, in octets, what encryption under these parameters gives for a private key.
 abbrev pub DocumentsAreSealed : Type 0
 DocumentsAreSealed = (document : List ℕ) (rounds : ℕ) (iv salt q text : List ℕ)
     → IsDocument document rounds iv salt q text
-    ↔ ((k : AnyPrivateKey) × IsPrivateKey text k × IsSealed (pbkdf2_sha256 rounds salt (Aes256Cbc iv)) q (private_key_text k) document)
+    ↔ (All (λ octet. octet < 256) document × (k : AnyPrivateKey) × IsPrivateKey text k × IsSealed (pbkdf2_sha256 rounds salt (Aes256Cbc iv)) q (private_key_text k) document)
 
--- Of a key, rounds, an IV, a salt and a password there is one document of octets.
+-- Of a key, rounds, an IV, a salt and a password there is one document.
 abbrev pub OneDocument : Type 0
-OneDocument = (d e : List ℕ) (rounds : ℕ) (iv salt q text : List ℕ) → All (λ octet. octet < 256) d → All (λ octet. octet < 256) e → length iv ≡ 16
-    → IsDocument d rounds iv salt q text → IsDocument e rounds iv salt q text → d ≡ e
+OneDocument = (d e : List ℕ) (rounds : ℕ) (iv salt q text : List ℕ) → length iv ≡ 16 → IsDocument d rounds iv salt q text → IsDocument e rounds iv salt q text → d ≡ e

@@ -23,18 +23,18 @@ use Rattle.transfer.specs.Opening.{KeysTable, Verdict, shrouded_among}
 abbrev pub Kept : ℕ → ℕ → List ℕ → List ℕ → Type 0
 Kept from to old new = (take from new ≡ take from old) × (drop to new ≡ drop to old)
 
--- Places one behind the other, between two numbers of octets.
+-- Places one after the other, between two numbers of octets.
 abbrev pub InOrder : ℕ → List Place → ℕ → Type 0
 InOrder from [] to = ⊤
 InOrder from (p ∷ ps) to = (from ≤ p.start) × (p.start + p.len ≤ to) × InOrder (p.start + p.len) ps to
 
 -- ---- Contents
 
--- Bags stand at a place.
+-- Bags are at a place.
 abbrev pub BagsAt : List ℕ → Place → List SafeBag → Type 0
 BagsAt text place gs = IsBags (at_place place text) gs
 
--- A content opens to bags that then stand at a place within its own; nothing else is changed.
+-- A content opens to bags that then are at a place within its own; nothing else is changed.
 pub record ContentOpensAt (p : List ℕ) (v : ContentView) (old new : List ℕ) (place : Place) : Type 0 where
   pub bags : List SafeBag
   pub opens : HoldsBags p (seen_content v) bags
@@ -42,12 +42,12 @@ pub record ContentOpensAt (p : List ℕ) (v : ContentView) (old new : List ℕ) 
   pub kept : (from to : ℕ) → ContentBetween from to v → Kept from to old new
   pub within : (from to : ℕ) → ContentBetween from to v → (from ≤ place.start) × (place.start + place.len ≤ to)
 
--- The bags of contents stand at places, one behind the other.
+-- The bags of contents are at places, one after the other.
 pub record StandAt (text : List ℕ) (places : List Place) (gss : List (List SafeBag)) : Type 0 where
   pub each : Each (BagsAt text) places gss
   pub order : InOrder 0 places (length text)
 
--- Contents were opened by so much work: their bags stand at places in a text, and T is decided by what their keys come to.
+-- Contents were opened by so much work: their bags are at places in a text, and T is decided by what their keys come to.
 pub record AreOpened (T : Verdict → ℕ → Type 0) (p : List ℕ) (limit : ℕ) (text : List ℕ) (places : List Place) (spent : ℕ) : Type 0 where
   pub bags : List (List SafeBag)
   pub stand : StandAt text places bags
@@ -74,7 +74,7 @@ places_of ls = map (λ (l : KeyLock). l.at) ls
 abbrev pub LockFits : KeyLock → Type 0
 LockFits l = length (salt_of l.algorithm) < 2 ^ 59
 
--- Behind the locks so far stand those of the encrypted keys among bags.
+-- After the locks so far stand those of the encrypted keys among bags.
 pub record AddsLocks (text : List ℕ) (place : Place) (gs : List SafeBag) (old new : List KeyLock) : Type 0 where
   pub made : List KeyLock
   pub grows : new ≡ old ++ made

@@ -12,6 +12,7 @@ pub mod Opening
 pub mod InPlace
 pub mod Verdicts
 pub mod Transferred
+pub mod Opened
 pub mod Answers
 pub mod Sample
 pub mod Material

@@ -1,5 +1,5 @@
 -- What a store is opened to, or refused for: the causes in their order, each with the steps that were taken by then.
-use Rattle.std.specs.Prelude.{◌⊎◌, ℕ, ◌+◌, ◌<◌, ◌≡◌, false, List, [], ◌∷◌, length, Option, Some, None}
+use Rattle.std.specs.Prelude.{◌⊎◌, ℕ, ◌+◌, ◌<◌, ◌≤◌, ◌≡◌, false, List, [], ◌∷◌, length, Option, Some, None}
 use Rattle.std.specs.List.{flat_map, sum_by}
 use Rattle.p12.specs.declared.algorithm_identifier.AlgorithmIdentifier.{AlgorithmIdentifier}
 use Rattle.p12.specs.declared.pfx.PFX.{PFX}
@@ -9,15 +9,14 @@ use Rattle.p12.specs.declared.content_info.ContentInfo.TheVariants as content
 use Rattle.p12.specs.declared.safe_bag.SafeBag.{SafeBag}
 use Rattle.p12.specs.declared.safe_bag.SafeBagKind.{SafeBagKind}
 use Rattle.p12.specs.declared.safe_bag.SafeBagKind.TheVariants as bag
-use Rattle.p12.specs.declared.cert_bag.CertBag.TheVariants as cert
 use Rattle.p12.specs.declared.encrypted_private_key_info.EncryptedPrivateKeyInfo.{EncryptedPrivateKeyInfo}
 use Rattle.p12.specs.AlgorithmIdentifier.{cost, count, openable, taken, unlock}
-use Rattle.p12.specs.Collected.{HoldsBags}
+use Rattle.p12.specs.Collected.{HoldsBags, certificates_among}
 use Rattle.p12.specs.ContentInfo.{IsContents, NoContents}
 use Rattle.p12.specs.MacData.{is_mac_digest, mac_agrees}
 use Rattle.pkcs12_kdf.specs.Password.{bmp_password}
 use Rattle.p12.specs.Pfx.{IsStore, NoStore}
-use Rattle.p12.specs.SafeBag.{IsBags, NoBags}
+use Rattle.p12.specs.SafeBag.{NoBags}
 use Rattle.pkcs8.specs.Seen.{AnyPrivateKey, IsPrivateKey}
 use Rattle.transfer.specs.Limits.{store_limit}
 use Rattle.transfer.specs.declared.store.error.TransferError.{TransferError}
@@ -46,31 +45,21 @@ content_share (content.EncryptedData d) = cost d.encrypted_content_info.content_
 content_share (content.OtherContext o) = 0
 
 -- A content under a running sum has this fault, after so many steps of its own.
-abbrev pub ContentFault : List ℕ → ℕ → ℕ → ContentInfo → TransferError → ℕ → Type 0
-ContentFault p limit sum (content.Data v) e n = NoBags v × (e ≡ ContentMalformed) × (n ≡ 0)
-ContentFault p limit sum (content.EncryptedData d) e n =
+abbrev pub ContentCause : List ℕ → ℕ → ℕ → ContentInfo → TransferError → ℕ → Type 0
+ContentCause p limit sum (content.Data v) e n = NoBags v × (e ≡ ContentMalformed) × (n ≡ 0)
+ContentCause p limit sum (content.EncryptedData d) e n =
     let a = d.encrypted_content_info.content_encryption_algorithm in
     LockFault p limit sum a d.encrypted_content_info.encrypted_content (λ m e n. NoBags m × (e ≡ ContentMalformed) × (n ≡ cost a)) e n
-ContentFault p limit sum (content.OtherContext o) e n = (e ≡ Unsupported) × (n ≡ 0)
+ContentCause p limit sum (content.OtherContext o) e n = (e ≡ Unsupported) × (n ≡ 0)
 
 abbrev pub of_contents : List ℕ → ℕ → PartKind ContentInfo (List SafeBag) TransferError
-of_contents p limit = record { share = content_share; OpensTo = HoldsBags p; Fault = ContentFault p limit }
+of_contents p limit = record { share = content_share; OpensTo = HoldsBags p; Fault = ContentCause p limit }
 
 -- ---- Bags
 
--- the X.509 certificate in a bag, if it has one
-abbrev pub certificate_in : SafeBagKind → List (List ℕ)
-certificate_in (bag.CertBag (cert.X509 v)) = v ∷ []
-certificate_in (bag.CertBag (cert.SDSI t)) = []
-certificate_in (bag.Pkcs8ShroudedKeyBag k) = []
-certificate_in (bag.OtherBagKind o) = []
-
-abbrev pub certificates_in : List SafeBag → List (List ℕ)
-certificates_in gs = flat_map (λ (g : SafeBag). certificate_in g.bag) gs
-
--- those of all contents, in order
+-- the X.509 certificates of all contents, in order
 abbrev pub all_certificates : List (List SafeBag) → List (List ℕ)
-all_certificates gss = flat_map certificates_in gss
+all_certificates gss = flat_map certificates_among gss
 
 -- the encrypted key in a bag, if it is one
 abbrev pub shrouded_in : SafeBagKind → List EncryptedPrivateKeyInfo
@@ -98,6 +87,10 @@ IsKeyText m = (k : AnyPrivateKey) × IsPrivateKey m k
 -- It is that of none.
 abbrev pub NoKeyText : List ℕ → Type 0
 NoKeyText m = (k : AnyPrivateKey) → IsPrivateKey m k → ⊥
+
+-- It is that of one, and was part of a store. (Not to be that of none says the same, and is a fact with one proof, as a field of a type has to be.)
+abbrev pub IsStoredKey : List ℕ → Type 0
+IsStoredKey m = (NoKeyText m → ⊥) × (length m ≤ store_limit)
 
 -- An encrypted key opens to this text, which is that of a private key.
 abbrev pub KeyOpens : List ℕ → EncryptedPrivateKeyInfo → List ℕ → Type 0
@@ -161,6 +154,6 @@ abbrev pub FirstCause : List ℕ → List ℕ → ℕ → Option TransferError �
 FirstCause b p limit (Some e) = (n : ℕ) × HasVerdict b p limit (refused e) n
 FirstCause b p limit None = (gss : List (List SafeBag)) × (ks : List (List ℕ)) × (n : ℕ) × HasVerdict b p limit (opened gss ks) n
 
--- A refusal other than for want of memory has F, with the steps that were taken.
+-- A refusal other than when out of memory has F, with the steps that were taken.
 abbrev pub RefusedAfter : (TransferError → ℕ → Type 0) → ℕ → ℕ → TransferError → Type 0
 RefusedAfter F old new e = RefusedBy (λ e. (n : ℕ) × F e n × (new ≡ old + n)) ⊥ e

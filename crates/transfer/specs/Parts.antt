@@ -3,7 +3,7 @@ use Rattle.std.specs.Prelude.{◌⊎◌, ℕ, ◌+◌, ◌≤◌, ◌≡◌, Lis
 use Rattle.std.specs.List.{sum_by}
 use Rattle.asn1_core.specs.Sets.{Each}
 
--- A row of a table: where P holds the answer is v, after k steps, and else the further rows decide.
+-- A row of a table: where P holds the result is v, after k steps, and else the further rows decide.
 abbrev pub Row : {V : Type 0} → Type 0 → V → ℕ → (V → ℕ → Type 0) → V → ℕ → Type 0
 Row P v k rest w n = (P × (w ≡ v) × (n ≡ k)) ⊎ ((P → ⊥) × rest w n)
 
@@ -18,12 +18,12 @@ pub record PartKind (A B E : Type 0) : Type 1 where
   pub OpensTo : A → B → Type 0
   pub Fault : ℕ → A → E → ℕ → Type 0
 
--- The parts were opened, and the running sum is within the limit behind the last of them.
+-- The parts were opened, and the running sum is within the limit after the last of them.
 pub record AreOpen {A B E : Type 0} (K : PartKind A B E) (limit sum : ℕ) (xs : List A) (ys : List B) : Type 0 where
   pub each : Each K.OpensTo xs ys
   pub within : sum + sum_by K.share xs ≤ limit
 
--- Behind the things so far stand those that further parts open to.
+-- After the things so far stand those that further parts open to.
 pub record OpensMore {A B E : Type 0} (K : PartKind A B E) (limit sum : ℕ) (xs : List A) (old new : List B) : Type 0 where
   pub made : List B
   pub grows : new ≡ old ++ made

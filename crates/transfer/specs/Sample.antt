@@ -1,5 +1,5 @@
 -- The sample: a store that is made of generated octets, and the text that is due for it.
-use Rattle.std.specs.Prelude.{ℕ, ◌*◌, ◌+◌, ◌/◌, ◌%◌, ◌-◌, ◌^◌, ◌≡◌, ◌≢◌, ◌<◌, ◌≤◌, List, zero, suc, [], ◌∷◌, ◌++◌, map, length, Option, Some, codes, decimal}
+use Rattle.std.specs.Prelude.{ℕ, ◌*◌, ◌+◌, ◌/◌, ◌%◌, ◌^◌, ◌≡◌, ◌≢◌, ◌<◌, ◌≤◌, All, List, zero, suc, [], ◌∷◌, ◌++◌, map, length, Option, Some, codes, decimal}
 use Rattle.std.specs.Io.KnownBytes.{Appends}
 use Rattle.sha2.specs.Sha256.{sha256}
 use Rattle.asn1_core.specs.Sets.{Each}
@@ -18,23 +18,25 @@ use Rattle.p12.specs.declared.safe_bag.SafeBagKind.TheVariants as kind
 use Rattle.octet_core.specs.Faults.{Rose}
 use Rattle.frame.specs.DueText.{AppendsPart, digits_line}
 use Rattle.frame.specs.Status.{error_text}
-use Rattle.frame.specs.Stream.{Stream}
+use Rattle.frame.specs.Calls.{effects}
+use Rattle.frame.specs.Stream.{Stream, stream}
 use Rattle.frame.specs.declared.status.Status.{Status}
 use Rattle.frame.specs.declared.status.Status.TheVariants.{Done, WriteFault, Memory}
 use Rattle.transfer.specs.DueText.{out}
 use Rattle.transfer.specs.Transferred.{Transfers}
+use Rattle.transfer.specs.Words.{Command, command}
 
 -- ---- the generator: a state is below 2 ^ 31, the first is the number of keys, and each new state gives an octet
 
 abbrev pub next_state : ℕ → ℕ
 next_state y = (1103515245 * y + 12345) % 2 ^ 31
 
--- the next n octets behind a state
+-- the next n octets after a state
 unfoldable pub octets_behind : ℕ → ℕ → List ℕ
 octets_behind y zero = []
 octets_behind y (suc n) = (next_state y / 65536) % 256 ∷ octets_behind (next_state y) n
 
--- the state behind n octets
+-- the state after n octets
 unfoldable pub state_behind : ℕ → ℕ → ℕ
 state_behind y zero = y
 state_behind y (suc n) = state_behind (next_state y) n
@@ -67,7 +69,7 @@ key_at y = key_front ++ octets_behind (behind_certificate y) 32
 abbrev pub salt_at : ℕ → List ℕ
 salt_at y = octets_behind (behind_key y) 8
 
--- the states at which n keys begin, and the state behind them
+-- the states at which n keys begin, and the state after them
 abbrev pub starts : ℕ → ℕ → List ℕ
 starts y zero = []
 starts y (suc n) = y ∷ starts (behind_salt y) n
@@ -84,9 +86,9 @@ sample_password = codes "sample"
 abbrev pub triple_des_once : List ℕ → AlgorithmIdentifier
 triple_des_once salt = PbeWithSHAAnd3KeyTripleDESCBC (record { salt = salt; iterations = 1 })
 
--- c opens to the text m
+-- the octets c open to the text m
 abbrev pub OpensTo : List ℕ → List ℕ → List ℕ → Type 0
-OpensTo salt m c = unlock (triple_des_once salt) sample_password c ≡ Some m
+OpensTo salt m c = All (λ octet. octet < 256) c × (unlock (triple_des_once salt) sample_password c ≡ Some m)
 
 abbrev pub certificate_bag : List ℕ → SafeBag
 certificate_bag v = record { bag = kind.CertBag (cert.X509 v); attributes = [] }
@@ -134,7 +136,7 @@ pub record IsSampleStore (keys : ℕ) (store : PFX) : Type 0 where
   pub is : let y = behind_keys keys keys in
       store ≡ store_of (contents_canon (two_contents (content_salt_at y) encrypted bags)) (mac_salt_at y)
 
--- the state behind all of it
+-- the state after all of it
 abbrev pub behind_store : ℕ → ℕ
 behind_store keys = state_behind (state_behind (behind_keys keys keys) 8) 8
 
@@ -158,19 +160,26 @@ sample_text keys store certificates documents =
     number_line (codes "keys ") keys ++ number_line (codes "certs ") (length certificates) ++ number_line (codes "store ") (length store)
     ++ number_line (codes "steps ") (sample_work keys) ++ digits_line (codes "sha256 ") (sha256 (out certificates documents))
 
--- The text is due for a sample of so many keys: the store was transferred, with the password as the new one, one round, no other limit
--- than that of the number, and the octets to be drawn; and the steps rose by its work.
+-- the command that the sample stands for: the password as the new one, one round, and its work as the limit
+abbrev pub sample_command : ℕ → Command
+sample_command keys = command sample_password sample_password 1 (sample_work keys)
+
+-- The text is due for a sample of so many keys: the store was transferred, by the octets to be drawn, and the steps rose by its work.
 pub record SampleMakes (keys steps steps_after : ℕ) (text : List ℕ) : Type 0 where
   pub store : PFX
   pub is : IsSampleStore keys store
   pub certificates : List (List ℕ)
   pub documents : List (List ℕ)
   pub rest : Option (List ℕ)
-  pub transferred : Transfers (store_canon store) sample_password (2 ^ 64 - 1) 1 sample_password (Some (drawn_octets keys)) rest steps steps_after certificates documents
+  pub transferred : Transfers (sample_command keys) (effects (stream (Some (drawn_octets keys)) rest 0 0) steps steps_after) (store_canon store) certificates documents
   pub counted : steps_after ≡ steps + sample_work keys
   pub each_certificate : certificates ≡ map certificate_at (starts keys keys)
   pub each_document : length documents ≡ keys
   pub lines : text ≡ sample_text keys (store_canon store) certificates documents
+
+-- Of a number of keys there is one text.
+abbrev pub OneSample : Type 0
+OneSample = (keys a b c d : ℕ) (t u : List ℕ) → SampleMakes keys a b t → SampleMakes keys c d u → t ≡ u
 
 -- ---- the answers
 
@@ -189,13 +198,15 @@ SampleDue keys steps steps_after Done text = SampleMakes keys steps steps_after 
 SampleDue keys steps steps_after Memory text = text ≡ error_text Memory
 SampleDue keys steps steps_after s text = ⊥
 
--- What a run answers for a sample, over the output.
+-- What a run returns for a sample, over the output.
 pub record SampleAnswers (keys steps steps_after : ℕ) (output : Stream) (s : Status) : Type 0 where
   -- On each status but WriteFault the text that is due for it was written, and on WriteFault a proper prefix of a text that is due.
   pub written : s ≢ WriteFault → (text : List ℕ) × SampleDue keys steps steps_after s text × Appends output.told output.told_after text
   pub part : s ≡ WriteFault → (t : Status) × (text : List ℕ) × SampleDue keys steps steps_after t text × AppendsPart output.told output.told_after text
-  -- WriteFault comes only where the output's count of faults rose, or stands at its last value; the count does not fall.
+  -- WriteFault comes only where the output's count of faults rose, or is at its last value; the count does not fall.
   pub write_fault : s ≡ WriteFault → Rose output.faults output.faults_after
   pub count : output.faults ≤ output.faults_after
-  -- A write that fails is the last: where the count rose, the answer is WriteFault.
+  -- Where the count rose, a write failed, the result is WriteFault.
   pub failed_write : output.faults < output.faults_after → s ≡ WriteFault
+  -- The steps rise by at most the work of the store.
+  pub at_most : (steps ≤ steps_after) × (steps_after ≤ steps + sample_work keys)

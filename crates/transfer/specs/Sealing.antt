@@ -33,7 +33,7 @@ pub record SealsAll (rounds : ℕ) (q : List ℕ) (old new : Option (List ℕ)) 
   pub each_one : length documents ≡ length keys
   pub each_32 : length drawn ≡ 32 * length keys
 
--- Of sealed keys each document stands at the place of its key, under the IV and the salt at that place of the drawn octets.
+-- Of sealed keys each document is at the place of its key, under the IV and the salt at that place of the drawn octets.
 abbrev pub DrawnInPlace : Type 0
 DrawnInPlace = (rounds : ℕ) (q : List ℕ) (keys documents : List (List ℕ)) (drawn : List ℕ) → AreDrawn rounds q keys documents drawn
     → (i : ℕ) (key document : List ℕ) → i < length keys → key ≡ get_or keys i key → document ≡ get_or documents i document

@@ -1,4 +1,4 @@
--- The answers to stores that are refused.
+-- The returns to stores that are refused.
 use Rattle.frame.specs.declared.status.Status.{Status}
 use Rattle.frame.specs.declared.status.Status.TheVariants.{Malformed, Unsupported, MacMissing, MacUnsupported, ZeroIterations, WorkLimit, MacMismatch, ContentMalformed, DecryptFailed, KeyMalformed, Rng, TooLong, Memory}
 use Rattle.transfer.specs.declared.store.error.TransferError.{TransferError}

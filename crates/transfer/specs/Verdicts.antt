@@ -59,6 +59,10 @@ Sole {V} T = (v w : V) (m n : ℕ) → T v m → T w n → (v ≡ w) × (m ≡ n
 abbrev pub OneVerdict : Type 0
 OneVerdict = (b p : List ℕ) (limit : ℕ) → Sole (HasVerdict b p limit)
 
+-- A store opens in one way: to the same bags and keys, by the same work.
+abbrev pub OneOpening : Type 0
+OneOpening = (b p : List ℕ) (gss hss : List (List SafeBag)) (ks js : List (List ℕ)) (n m : ℕ) → StoreOpens b p gss ks n → StoreOpens b p hss js m → (gss ≡ hss) × (ks ≡ js) × (n ≡ m)
+
 -- Each list of octets has a verdict, after a number of steps, under each password and each limit.
 abbrev pub EachHasVerdict : Type 0
 EachHasVerdict = (b p : List ℕ) (limit : ℕ) → (w : Verdict) × (n : ℕ) × HasVerdict b p limit w n

@@ -12,5 +12,7 @@ pub(crate) mod lock;
 pub(crate) mod mac;
 pub(crate) mod open;
 pub(crate) mod opened;
+pub(crate) mod opening;
 pub(crate) mod seal;
+pub(crate) mod sealed;
 pub(crate) mod transfer;

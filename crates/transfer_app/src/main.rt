@@ -3,18 +3,17 @@
 
 ghost use Rattle.std.specs.Prelude.{◌≡◌, ◌<◌};
 
-use asn1_core::Octets;
-use mac_modes::{Draw, DrawnBytes, ReadDraw};
+use octet_core::{Draw, FileDraw};
 use std::alloc::Global;
 use std::marker::Brand;
 use std::process::ExitCode;
 use std::rt::Env;
 use std::sync::ledger::{Blank, Ledger};
-use std::{env, fs, io};
+use std::{env, io};
 use steps::Steps;
 use transfer::{ReadSource, Sink, Source, Status, WriteSink, run};
 
-/// Where the system's random octets are read.
+/// The file of the system's random octets. It is opened by the first draw.
 const RANDOM: &str = "/dev/urandom";
 
 /// What the program ends with where the words themselves cannot be had.
@@ -52,18 +51,16 @@ fn main(rt: HostRuntime) -> ExitCode {
     };
     let mut input = ReadSource::new(rt.stdin());
     let mut output = WriteSink::new(rt.stdout());
-    let words = words.as_slice();
+    let mut draw = FileDraw::new(&rt, RANDOM);
     let blank = Blank::new(1);
-    let status = match fs::open(&rt, RANDOM) {
-        Ok(random) => {
-            let mut draw = ReadDraw::new(random);
-            run_from::<_, _, _, Brand>(rt.alloc(), words, &mut input, &mut draw, &mut output, blank)
-        }
-        // Certificates can still be transferred.
-        Err(_) => {
-            let mut draw = DrawnBytes::new(Octets::new(rt.alloc()));
-            run_from::<_, _, _, Brand>(rt.alloc(), words, &mut input, &mut draw, &mut output, blank)
-        }
-    };
+    let words = words.as_slice();
+    let status = run_from::<_, _, _, Brand>(
+        rt.alloc(),
+        words,
+        &mut input,
+        &mut draw,
+        &mut output,
+        blank,
+    );
     ExitCode::from(status.code())
 }

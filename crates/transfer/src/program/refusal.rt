@@ -1,4 +1,4 @@
-//! The answer to a store that is refused.
+//! The result to a store that is refused.
 ghost use Rattle.std.specs.Prelude.{◌≡◌};
 ghost use Rattle.transfer.specs.Status.{status_of};
 

@@ -1,11 +1,11 @@
 //! The text that the sample is due.
-ghost use Rattle.std.specs.Prelude.{◌≡◌, ◌*◌, ◌≤◌, ◌++◌, ◌∷◌, [], List, ℕ, IfOk, IfErr, OnOk};
+ghost use Rattle.std.specs.Prelude.{◌≡◌, ◌*◌, ◌+◌, ◌≤◌, ◌++◌, ◌∷◌, [], List, ℕ, IfOk, IfErr, OnOk};
 ghost use Rattle.sha2.specs.Sha256.{sha256};
 ghost use Rattle.p12.specs.Canonical.{store_canon};
 ghost use Rattle.p12.specs.declared.pfx.PFX.{PFX};
 ghost use Rattle.frame.specs.DueText.{joined};
 ghost use Rattle.frame.specs.declared.status.Status.{Status};
-ghost use Rattle.transfer.specs.Sample.{IsSampleStore, SampleMakes, behind_store, drawn_octets, number_line, octets_behind, sample_text};
+ghost use Rattle.transfer.specs.Sample.{IsSampleStore, SampleMakes, behind_store, drawn_octets, number_line, octets_behind, sample_text, sample_work};
 
 use crate::program::due_text::due_lines;
 use crate::sample::generator::Generator;
@@ -37,7 +37,7 @@ fn octets_to_draw(alloc: Global, keys: u32, generator: &mut Generator) -> Result
     Ok(Octets::from_vec(octets))
 }
 
-/// The text of the store of so many keys. The generator then stands in front of the octets to be drawn.
+/// The text of the store of so many keys. The generator then is in front of the octets to be drawn.
 fn store_text(alloc: Global, keys: u32, generator: &mut Generator) -> Result<Octets, p12::Error>
     requires { generator.old.state ≡ keys }
     ensures store { IfOk result (λ text. (store : PFX) × IsSampleStore keys store
@@ -89,7 +89,7 @@ fn number_line(alloc: Global, label: &[u8], number: u64) -> Result<Octets, Alloc
     Ok(line)
 }
 
-/// Puts that line behind the others.
+/// Puts that line after the others.
 fn add_number(
     alloc: Global,
     lines: &mut Items<Octets>,
@@ -100,6 +100,14 @@ fn add_number(
 {
     let line = number_line(alloc, label, number)?;
     lines.push(line)
+}
+
+/// The work of the store of so many keys.
+fn work_of(keys: u32) -> u64
+    requires { keys ≤ 10000 }
+    ensures { result ≡ sample_work keys }
+{
+    3 * u64::from(keys) + 4
 }
 
 /// The five lines for a store and what it was transferred to.
@@ -122,7 +130,7 @@ fn lines_for(
     add_number(alloc, &mut lines, b"keys ", u64::from(keys))?;
     add_number(alloc, &mut lines, b"certs ", certificates.len() as u64)?;
     add_number(alloc, &mut lines, b"store ", store.len() as u64)?;
-    add_number(alloc, &mut lines, b"steps ", 3 * u64::from(keys) + 4)?;
+    add_number(alloc, &mut lines, b"steps ", work_of(keys))?;
     let digest = line_of(alloc, "sha256 ", &digest_of(text.as_slice()))?;
     lines.push(digest)?;
     Ok(lines)
@@ -138,7 +146,8 @@ fn lines_of_sample<L: Ledger>(
     requires store { (store : PFX) × IsSampleStore keys store × (sample.store ≡ store_canon store) }
     requires drawn { sample.drawn ≡ drawn_octets keys }
     requires keys { keys ≤ 10000 }
-    ensures { IfOk result (λ lines. SampleMakes keys steps.old steps.new (joined lines)) }
+    ensures made { IfOk result (λ lines. SampleMakes keys steps.old steps.new (joined lines)) }
+    ensures at_most { (steps.old ≤ steps.new) × (steps.new ≤ steps.old + sample_work keys) }
 {
     let Sample { store, drawn } = sample;
     let mut draw = DrawnBytes::new(drawn);
@@ -149,7 +158,7 @@ fn lines_of_sample<L: Ledger>(
         PASSWORD.as_bytes(),
         1,
         &mut draw,
-        u64::MAX,
+        work_of(keys),
         steps,
     )?;
     Ok(lines_for(alloc, keys, store.as_slice(), &transferred)?)
@@ -164,6 +173,7 @@ pub(crate) fn sample_lines<L: Ledger>(
     requires { keys ≤ 10000 }
     ensures made { IfOk result (λ lines. SampleMakes keys steps.old steps.new (joined lines)) }
     ensures memory { IfErr result (λ s. s ≡ Status.Memory) }
+    ensures at_most { (steps.old ≤ steps.new) × (steps.new ≤ steps.old + sample_work keys) }
 {
     let Ok(sample) = sample_of(alloc, keys) else {
         return Err(Status::Memory);

@@ -7,6 +7,7 @@ ghost use Rattle.transfer.specs.Sample.{IsKeyBag, IsSampleStore, OpensTo, SealsK
 use crate::sample::generator::Generator;
 use crate::sample::material::next_material;
 use asn1_core::{Items, Octets};
+use octet_core::laws::are_octets;
 use p12::{
     AlgorithmIdentifier, CertBag, ContentInfo, EncryptedContentInfo, EncryptedData,
     EncryptedPrivateKeyInfo, Error, MacData, PFX, Pkcs12PbeParams, SafeBag, SafeBagKind,
@@ -59,6 +60,7 @@ fn key_bag(alloc: Global, salt: &[u8], key: &[u8]) -> Result<SafeBag, Error>
 {
     let encryption_algorithm = triple_des_once(alloc, salt)?;
     let encrypted_data = encryption_algorithm.encrypt_text(alloc, key, PASSWORD)?;
+    are_octets(encrypted_data.as_slice());
     Ok(SafeBag {
         bag: SafeBagKind::Pkcs8ShroudedKeyBag(EncryptedPrivateKeyInfo {
             encryption_algorithm,
@@ -96,6 +98,7 @@ fn certificates_content(
     let plain = SafeBag::all_to_der(alloc, certificates)?;
     let algorithm = triple_des_once(alloc, salt)?;
     let encrypted_content = algorithm.encrypt_text(alloc, plain.as_slice(), PASSWORD)?;
+    are_octets(encrypted_content.as_slice());
     Ok(ContentInfo::EncryptedData(EncryptedData {
         encrypted_content_info: EncryptedContentInfo {
             content_encryption_algorithm: algorithm,
@@ -139,7 +142,7 @@ fn store_of(alloc: Global, outer: Octets, salt: &[u8]) -> Result<PFX, Error>
     })
 }
 
-/// The store of so many keys. The generator then stands in front of the octets to be drawn.
+/// The store of so many keys. The generator then is in front of the octets to be drawn.
 pub(crate) fn sample_store(
     alloc: Global,
     keys: u32,

@@ -3,22 +3,22 @@ ghost use Rattle.std.specs.Prelude.{◌≡◌, ◌++◌, List, IfOk, IfErr, OnOk
 ghost use Rattle.p12.specs.declared.safe_bag.SafeBag.{SafeBag};
 ghost use Rattle.asn1_core.specs.Sets.{Each};
 ghost use Rattle.transfer.specs.InPlace.{BagsAt, StandAt};
-ghost use Rattle.transfer.specs.Opening.{all_certificates, certificates_in};
+ghost use Rattle.transfer.specs.Opening.{all_certificates};
+ghost use Rattle.p12.specs.Collected.{certificates_among};
 
 use crate::store::bags::bags_at;
-use asn1_core::{Error, Items, Octets};
+use asn1_core::{Items, Octets};
 use p12::{BagView, BagsView, Place};
-use std::alloc::Global;
+use std::alloc::{AllocError, Global};
 
 /// Adds the X.509 certificates among the bags of one content, in order.
 fn add_certificates(
     alloc: Global,
     mut bags: BagsView<'_>,
     certificates: &mut Items<Octets>,
-) -> Result<(), Error>
-    ensures ok { OnOk result
-        (certificates.new ≡ certificates.old ++ certificates_in bags.entry.left) }
-    ensures err { IfErr result (λ e. e ≡ Error.Memory) }
+) -> Result<(), AllocError>
+    ensures { OnOk result
+        (certificates.new ≡ certificates.old ++ certificates_among bags.entry.left) }
 {
     while let Some(bag) = bags.next() {
         match bag {
@@ -31,16 +31,15 @@ fn add_certificates(
     Ok(())
 }
 
-/// The X.509 certificates of all contents, whose bags stand at these places, in order. The only refusal is `Memory`.
+/// The X.509 certificates of all contents, whose bags are at these places, in order. The only error is out of memory.
 pub(crate) fn certificates_of(
     alloc: Global,
     text: &[u8],
     places: &[Place],
-) -> Result<Items<Octets>, Error>
+) -> Result<Items<Octets>, AllocError>
     requires { (bags : List (List SafeBag)) × StandAt text.now places.now bags }
-    ensures ok { IfOk result (λ certificates. (bags : List (List SafeBag))
+    ensures { IfOk result (λ certificates. (bags : List (List SafeBag))
         → Each (BagsAt text.now) places.now bags → certificates ≡ all_certificates bags) }
-    ensures err { IfErr result (λ e. e ≡ Error.Memory) }
 {
     let mut certificates = Items::new(alloc);
     for place in places {

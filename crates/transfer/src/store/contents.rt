@@ -9,7 +9,7 @@ ghost use Rattle.transfer.specs.Budget.{Spends, TakesWithin};
 ghost use Rattle.transfer.specs.InPlace.{ContentOpensAt, StandAt};
 ghost use Rattle.transfer.specs.Limits.{store_limit};
 ghost use Rattle.transfer.specs.Parts.{AreOpen, IsFirstFault};
-ghost use Rattle.transfer.specs.Opening.{ContentFault, RefusedAfter, content_share, of_contents};
+ghost use Rattle.transfer.specs.Opening.{ContentCause, RefusedAfter, content_share, of_contents};
 
 use crate::store::budget::Budget;
 use crate::store::error::TransferError;
@@ -31,7 +31,7 @@ fn check_bags(text: &[u8]) -> Result<(), TransferError>
     }
 }
 
-/// Opens a content in place, and answers where its bags stand.
+/// Opens a content in place, and returns where its bags stand.
 fn open_content<L: Ledger>(
     alloc: Global,
     content: &ContentView<'_>,
@@ -50,7 +50,7 @@ fn open_content<L: Ledger>(
         × Spends budget.old budget.new (content_share (seen_content content.now))
         × (steps.new ≡ steps.old + content_share (seen_content content.now))) }
     ensures refused { IfErr result (RefusedAfter
-        (ContentFault password.now budget.old.limit budget.old.spent (seen_content content.now))
+        (ContentCause password.now budget.old.limit budget.old.spent (seen_content content.now))
         steps.old steps.new) }
     ensures at_most { TakesWithin budget.old steps.old steps.new }
 {
@@ -72,7 +72,7 @@ fn open_content<L: Ledger>(
     }
 }
 
-/// Opens each content in order, in place in a copy of the octets that list them, and answers where the bags of each stand.
+/// Opens each content in order, in place in a copy of the octets that list them, and returns where the bags of each stand.
 pub(crate) fn open_contents<L: Ledger>(
     alloc: Global,
     mut contents: ContentsView<'_>,

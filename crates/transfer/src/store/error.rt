@@ -3,11 +3,10 @@ ghost use Rattle.std.specs.Prelude.{◌≡◌, Some};
 ghost use Rattle.transfer.specs.TransferError.{error_name};
 ghost use Rattle.transfer.specs.declared.store.error.TransferError.TheVariants.{Memory};
 
-use asn1_core::Error;
 use std::alloc::AllocError;
 use std::fmt;
 
-/// Why a store is refused: the first cause of this list, or want of memory, which may come at any point.
+/// Why a store is refused: the first cause of this list, or running out of memory, which may come at any point.
 #[derive(Clone, Copy, Debug, PartialEq, Eq)]
 pub enum TransferError {
     /// It has more than 16,777,215 octets.
@@ -47,16 +46,8 @@ impl From<AllocError> for TransferError {
     }
 }
 
-impl From<Error> for TransferError {
-    ghost from_gives = { λ _ e. e ≡ Memory };
-
-    fn from(_refused: Error) -> TransferError {
-        TransferError::Memory
-    }
-}
-
 impl TransferError {
-    /// The name of the variant; want of memory in words.
+    /// The name of the variant; running out of memory in words.
     #[tactic(auto, unfolding(crate::specs::TransferError::error_name))]
     fn text(self) -> &'static str
         ensures { result.now ≡ error_name self }

@@ -94,7 +94,7 @@ fn open_locks<'a, L: Ledger>(
     Ok(keys)
 }
 
-/// Opens the encrypted keys among the bags that stand at these places, in order and where they lie, and lends the private keys
+/// Opens the encrypted keys among the bags that are at these places, in order and where they lie, and lends the private keys
 /// that they are.
 pub(crate) fn open_keys<'a, L: Ledger>(
     alloc: Global,

@@ -15,7 +15,7 @@ use std::alloc::Global;
 use std::sync::ledger::Ledger;
 use steps::Steps;
 
-/// Opens a locked text in place, by its share of the budget, and answers the length of the plain octets, which then stand in
+/// Opens a locked text in place, by its share of the budget, and returns the length of the plain octets, which then are in
 /// its front.
 pub(crate) fn open_front<L: Ledger>(
     alloc: Global,
@@ -54,7 +54,7 @@ pub(crate) fn open_front<L: Ledger>(
     }
 }
 
-/// Opens a locked text at a place of a longer one, which stays as it is elsewhere, and answers where the plain octets stand.
+/// Opens a locked text at a place of a longer one, which stays as it is elsewhere, and returns where the plain octets stand.
 pub(crate) fn open_lock<L: Ledger>(
     alloc: Global,
     algorithm: &AlgorithmView<'_>,

@@ -10,9 +10,8 @@ ghost use Rattle.transfer.specs.Verdicts.{IsMacOk};
 
 use crate::store::budget::Budget;
 use crate::store::error::TransferError;
-use asn1_core::Error;
 use p12::{AlgorithmView, MacView};
-use std::alloc::Global;
+use std::alloc::{AllocError, Global};
 use std::sync::ledger::Ledger;
 use steps::Steps;
 
@@ -23,31 +22,30 @@ fn is_mac_digest(algorithm: &AlgorithmView<'_>) -> bool
     matches!(algorithm, AlgorithmView::Sha1 | AlgorithmView::Sha256)
 }
 
-/// Whether the MAC of the text agrees under the password. The only refusal is `Memory`.
+/// Whether the MAC of the text agrees under the password. The only error is out of memory.
 fn verify_mac<L: Ledger>(
     alloc: Global,
     mac: &MacView<'_>,
     text: &[u8],
     password: &str,
     steps: &mut Steps<L>,
-) -> Result<bool, Error>
+) -> Result<bool, AllocError>
     requires text { length text.now ≤ store_limit }
     requires salt { length mac.now.salt.now ≤ store_limit }
     requires password { length password.now < 2 ^ 57 }
     ensures value { IfOk result (λ agrees. agrees
         ≡ mac_agrees (seen_mac mac.now) (bmp_password password.now) text.now) }
-    ensures err { IfErr result (λ e. e ≡ Error.Memory) }
     ensures steps { OnOk result (steps.new ≡ steps.old + mac_steps (seen_mac mac.now)) }
     ensures at_most { (steps.old ≤ steps.new)
         × (steps.new ≤ steps.old + mac_steps (seen_mac mac.now)) }
 {
     match mac.verify_counted(alloc, text, password, steps) {
         Ok(agrees) => Ok(agrees),
-        Err(_) => Err(Error::Memory),
+        Err(_) => Err(AllocError),
     }
 }
 
-/// Tests the MAC of the outer text under the password, and answers the budget behind its share, which is its count.
+/// Tests the MAC of the outer text under the password, and returns the budget after its share, which is its count.
 pub(crate) fn check_mac<L: Ledger>(
     alloc: Global,
     mac: &MacView<'_>,

@@ -23,7 +23,7 @@ const STORE_LIMIT: usize = 16_777_215;
 pub(crate) struct OpenedContents {
     /// A copy of the text of the store, in which its contents were opened.
     pub(crate) text: Octets,
-    /// Where the bags of each content stand in it.
+    /// Where the bags of each content are in it.
     pub(crate) places: Items<Place>,
     /// The work that is allowed, and what of it was taken.
     pub(crate) budget: Budget,

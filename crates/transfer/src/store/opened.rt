@@ -1,8 +1,8 @@
 //! Opening a store for its bags and its keys.
-ghost use Rattle.std.specs.Prelude.{◌≡◌, ◌+◌, ◌≤◌, ◌<◌, ◌^◌, ℕ, length, IfOk, IfErr};
+ghost use Rattle.std.specs.Prelude.{◌≡◌, ◌+◌, ◌≤◌, ◌<◌, ◌^◌, All, ℕ, length, IfOk, IfErr};
 ghost use Rattle.transfer.specs.declared.store.error.TransferError.TheVariants as refusal;
 ghost use Rattle.transfer.specs.InPlace.{texts_of};
-ghost use Rattle.transfer.specs.Opening.{HasVerdict, RefusedAfter, refused};
+ghost use Rattle.transfer.specs.Opening.{HasVerdict, IsStoredKey, RefusedAfter, refused};
 ghost use Rattle.transfer.specs.Transferred.{IsDecided};
 ghost use Rattle.transfer.specs.Verdicts.{StoreOpens};
 
@@ -12,9 +12,9 @@ use crate::store::error::TransferError;
 use crate::store::key_text::OpenedKey;
 use crate::store::keys::open_keys;
 use crate::store::open::{OpenedContents, open_parts};
-use asn1_core::{Error, Items, Octets};
+use asn1_core::{Items, Octets};
 use p12::SafeBag;
-use std::alloc::Global;
+use std::alloc::{AllocError, Global};
 use std::sync::ledger::Ledger;
 use steps::Steps;
 
@@ -25,6 +25,7 @@ pub struct Opened {
     pub contents: Items<Items<SafeBag>>,
     /// The plain octets of each encrypted key among them, in store order: the text of a private key (RFC 5958 section 2).
     pub keys: Items<Octets>,
+    ghost texts: { All IsStoredKey keys },
 }
 
 impl Opened {
@@ -40,10 +41,9 @@ impl Opened {
     }
 }
 
-/// Copies of the texts of keys. The only refusal is `Memory`.
-fn copies_of(alloc: Global, keys: &[OpenedKey<'_>]) -> Result<Items<Octets>, Error>
-    ensures ok { IfOk result (λ texts. texts ≡ texts_of keys.now) }
-    ensures err { IfErr result (λ e. e ≡ Error.Memory) }
+/// Copies of the texts of keys. The only error is out of memory.
+fn copies_of(alloc: Global, keys: &[OpenedKey<'_>]) -> Result<Items<Octets>, AllocError>
+    ensures { IfOk result (λ texts. texts ≡ texts_of keys.now) }
 {
     let mut texts = Items::new(alloc);
     for key in keys {
@@ -54,9 +54,9 @@ fn copies_of(alloc: Global, keys: &[OpenedKey<'_>]) -> Result<Items<Octets>, Err
 
 /// Opens the store under the password: the bags of each content, and the octets of each encrypted private key.
 ///
-/// `limit` is the most steps. A step is one digest of an iteration of RFC 7292 appendix B, or one answer of the pseudorandom
+/// `limit` is the most steps. A step is one digest of an iteration of RFC 7292 appendix B, or one output of the pseudorandom
 /// function of PBKDF2. The refusals are those of `TransferError` but `Rng`, in their order; each comes exactly where it is the first
-/// cause, but want of memory may come in its place.
+/// cause, but running out of memory may come in its place.
 ///
 /// Caller: the password has fewer than 2^57 octets.
 pub fn open_store<L: Ledger>(

@@ -1,5 +1,6 @@
 //! Sealing private keys anew, under octets that are drawn.
-ghost use Rattle.std.specs.Prelude.{◌≡◌, ◌≤◌, ◌<◌, ◌*◌, ◌^◌, All, length, IfOk, IfErr};
+ghost use Rattle.std.specs.Prelude.{◌≡◌, ◌≤◌, ◌<◌, ◌*◌, ◌^◌, All, length, IfOk, IfErr, OnOk};
+ghost use Rattle.std.specs.Result.{IsErrOf};
 ghost use Rattle.octet_core.specs.Draw.{Lacks};
 ghost use Rattle.pkcs8.specs.declared.error.Error.TheVariants as errors;
 ghost use Rattle.transfer.specs.Limits.{rounds_limit};
@@ -12,11 +13,12 @@ use crate::store::error::TransferError;
 use crate::store::key_text::OpenedKey;
 use asn1_core::{Items, Octets};
 use mac_modes::Draw;
+use octet_core::laws::are_octets;
 use pkcs5::pbes2::Parameters;
 use pkcs8::{Error, private_keys_are_written, short_keys_are_encrypted, written_keys_are_shortest};
 use std::alloc::Global;
 
-/// The refusal to seal a key of a short text, which is want of memory.
+/// The refusal to seal a key of a short text, which is running out of memory.
 fn refusal_of(error: Error) -> TransferError
     requires { error ≡ errors.Memory }
     ensures { result ≡ TransferError.Memory }
@@ -58,6 +60,7 @@ fn seal_key(
         Ok(document) => document,
         Err(error) => return Err(refusal_of(error)),
     };
+    are_octets(document.as_bytes());
     Ok(Octets::from_slice(alloc, document.as_bytes())?)
 }
 
@@ -72,6 +75,8 @@ fn seal<D: Draw>(
     requires key { IsOpenedKey opened.now }
     requires rounds { (1 ≤ rounds) × (rounds ≤ rounds_limit) }
     ensures count { D.faults draw.old ≤ D.faults draw.new }
+    ensures no_fault { OnOk result (D.faults draw.new ≡ D.faults draw.old) }
+    ensures last { D.faults draw.old < D.faults draw.new → IsErrOf result TransferError.Rng }
     ensures sealed { IfOk result (λ document. Seals rounds new_password.now (D.left draw.old)
         (D.left draw.new) opened.now.text.now document) }
     ensures cause { IfErr result
@@ -100,6 +105,8 @@ pub(crate) fn seal_all<D: Draw>(
     requires keys { All IsOpenedKey keys.now }
     requires rounds { (1 ≤ rounds) × (rounds ≤ rounds_limit) }
     ensures count { D.faults draw.old ≤ D.faults draw.new }
+    ensures no_fault { OnOk result (D.faults draw.new ≡ D.faults draw.old) }
+    ensures last { D.faults draw.old < D.faults draw.new → IsErrOf result TransferError.Rng }
     ensures sealed { IfOk result (λ documents. SealsAll rounds new_password.now (D.left draw.old)
         (D.left draw.new) (texts_of keys.now) documents) }
     ensures cause { IfErr result

@@ -1,9 +1,13 @@
 //! The transfer of one store.
 ghost use Rattle.std.specs.Prelude.{◌≡◌, ◌≤◌, ◌<◌, ◌+◌, ◌^◌, ℕ, length, IfOk, IfErr, ⊤};
+ghost use Rattle.std.specs.Result.{IsErrOf};
 ghost use Rattle.transfer.specs.declared.store.error.TransferError.TheVariants as error;
 ghost use Rattle.transfer.specs.Limits.{rounds_limit};
 ghost use Rattle.transfer.specs.TransferError.{RefusedBy};
+ghost use Rattle.frame.specs.Calls.{effects};
+ghost use Rattle.frame.specs.Stream.{stream};
 ghost use Rattle.transfer.specs.Transferred.{IsRefused, RunsShort, Settles, Transfers};
+ghost use Rattle.transfer.specs.Words.{command};
 
 use crate::store::certificates::certificates_of;
 use crate::store::copies::copied;
@@ -39,15 +43,15 @@ impl Transferred {
     }
 }
 
-/// Opens the store under the password, and answers its certificates and, for each encrypted private key, one document that
+/// Opens the store under the password, and returns its certificates and, for each encrypted private key, one document that
 /// seals the key's canonical encoding under the new password: by PBES2 with PBKDF2 over HMAC-SHA-256 in this number of rounds, and
 /// AES-256-CBC. For each key 16 octets of IV and then 16 of salt are drawn, after every other refusal is decided. The new password
 /// is octets, taken as they are; the rounds are those of PBKDF2 in each document.
 ///
-/// `limit` is the most steps. A step is one digest of an iteration of RFC 7292 appendix B, or one answer of the pseudorandom
-/// function of PBKDF2 that opens a part; the rounds of a document are not counted. The refusals stand in `TransferError`, in their
-/// order; each comes exactly where it is the first cause, but want of memory may come in its place. After a refusal other than
-/// `Rng` and `Memory` the draw is as it was.
+/// `limit` is the most steps. A step is one digest of an iteration of RFC 7292 appendix B, or one output of the pseudorandom
+/// function of PBKDF2 that opens a part; the rounds of a document are not counted. The refusals are in `TransferError`, in their
+/// order; each comes exactly where it is the first cause, but running out of memory may come in its place. After a refusal other than
+/// `Rng` and `Memory` the draw is as it was, and where a draw failed the refusal is `Rng`.
 ///
 /// Caller: the password has fewer than 2^57 octets, and the rounds are 1 to 100,000,000.
 pub fn transfer<D: Draw, L: Ledger>(
@@ -62,15 +66,18 @@ pub fn transfer<D: Draw, L: Ledger>(
 ) -> Result<Transferred, TransferError>
     requires password { length password.now < 2 ^ 57 }
     requires rounds { (1 ≤ rounds) × (rounds ≤ rounds_limit) }
-    ensures opened { IfOk result
-        (λ t. Transfers store.now password.now limit rounds new_password.now (D.left draw.old)
-        (D.left draw.new) steps.old steps.new t.certificates t.documents) }
-    ensures refused { IfErr result
-        (RefusedBy (IsRefused store.now password.now limit steps.old steps.new)
-        (RunsShort store.now password.now limit (D.left draw.old) (D.faults draw.old) (D.faults draw.new) steps.old steps.new)) }
+    ensures opened { let e = effects (stream (D.left draw.old) (D.left draw.new) (D.faults draw.old)
+        (D.faults draw.new)) steps.old steps.new in
+        let c = command password.now new_password.now rounds limit in
+        IfOk result (λ t. Transfers c e store.now t.certificates t.documents) }
+    ensures refused { let e = effects (stream (D.left draw.old) (D.left draw.new) (D.faults draw.old)
+        (D.faults draw.new)) steps.old steps.new in
+        let c = command password.now new_password.now rounds limit in
+        IfErr result (RefusedBy (IsRefused c e store.now) (RunsShort c e store.now)) }
     ensures exact { Settles store.now password.now limit (D.left draw.old) result }
     ensures untouched { IfErr result (RefusedBy (λ e. draw.new ≡ draw.old) ⊤) }
     ensures count { D.faults draw.old ≤ D.faults draw.new }
+    ensures last { D.faults draw.old < D.faults draw.new → IsErrOf result TransferError.Rng }
     ensures at_most { (steps.old ≤ steps.new) × (steps.new ≤ steps.old + limit) }
 {
     let opened = match open_parts(alloc, store, password, limit, steps) {

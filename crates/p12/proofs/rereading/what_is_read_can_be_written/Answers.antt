@@ -1,4 +1,4 @@
-use Rattle.p12.proofs.Again.{algorithm_writes, attribute_writes, bag_writes, cert_bag_writes, content_writes, digest_writes, encrypted_content_writes, encrypted_data_writes, encrypted_key_writes, mac_writes, store_writes}
+use Rattle.p12.proofs.Again.{algorithm_writes, attribute_writes, bag_writes, bags_write, cert_bag_writes, content_writes, contents_write, digest_writes, encrypted_content_writes, encrypted_data_writes, encrypted_key_writes, kind_text_writes, mac_writes, store_writes}
 use Rattle.p12.proofs.rereading.what_is_read_can_be_written.Goals as goal
 
 pub returns-clause-algorithm : goal.returns-clause-algorithm
@@ -33,3 +33,12 @@ returns-clause-bag c = bag_writes
 
 pub returns-clause-store : goal.returns-clause-store
 returns-clause-store c = store_writes
+
+pub returns-clause-kind : goal.returns-clause-kind
+returns-clause-kind c = kind_text_writes
+
+pub returns-clause-contents : goal.returns-clause-contents
+returns-clause-contents c = contents_write
+
+pub returns-clause-bags : goal.returns-clause-bags
+returns-clause-bags c = bags_write

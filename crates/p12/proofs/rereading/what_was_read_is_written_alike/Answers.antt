@@ -1,8 +1,8 @@
 use Rattle.asn1_core.specs.StandLaws.{whole_sole}
-use Rattle.p12.proofs.Again.{algorithm_again, attribute_again, attribute_once, bag_again, bag_once, bags_again, bags_once, cert_bag_again, content_again, contents_again, digest_again, encrypted_content_again, encrypted_data_again, encrypted_key_again, mac_again, params_again, store_again}
+use Rattle.p12.proofs.Again.{algorithm_again, attribute_again, attribute_once, bag_again, bag_once, bags_again, bags_once, cert_bag_again, content_again, contents_again, digest_again, encrypted_content_again, encrypted_data_again, encrypted_key_again, kind_text_again, mac_again, params_again, store_again}
 use Rattle.p12.proofs.AlgorithmRows.{algorithm-exact, digest-exact, mac-exact, params-exact}
 use Rattle.p12.proofs.Alike.{alike, alike_exactly}
-use Rattle.p12.proofs.BagRows.{attribute-exact, bag-exact, bags-exact, cert_bag-exact, encrypted_key-exact}
+use Rattle.p12.proofs.BagRows.{attribute-exact, bag-exact, bags-exact, cert_bag-exact, encrypted_key-exact, kind_front-exact}
 use Rattle.p12.proofs.ContentRows.{content-exact, contents-exact, encrypted_content-exact, encrypted_data-exact, pfx-exact}
 use Rattle.p12.proofs.rereading.what_was_read_is_written_alike.Goals as goal
 
@@ -47,3 +47,6 @@ returns-clause-bags c = alike _ _ _ bags_again (whole_sole _ _ bags-exact) bags_
 
 pub returns-clause-store : goal.returns-clause-store
 returns-clause-store c = alike_exactly _ _ store_again (whole_sole _ _ pfx-exact)
+
+pub returns-clause-kind : goal.returns-clause-kind
+returns-clause-kind c = λ k. alike_exactly _ _ (kind_text_again k) (whole_sole _ _ (kind_front-exact k))

@@ -1,4 +1,4 @@
-use Rattle.p12.proofs.Again.{algorithm_again, cert_bag_again, content_again, contents_again, digest_again, encrypted_content_again, encrypted_data_again, encrypted_key_again, mac_again, params_again, store_again}
+use Rattle.p12.proofs.Again.{algorithm_again, cert_bag_again, content_again, contents_again, digest_again, encrypted_content_again, encrypted_data_again, encrypted_key_again, kind_text_again, mac_again, params_again, store_again}
 use Rattle.p12.proofs.rereading.written_values_are_read_again.Goals as goal
 
 pub returns-clause-params : goal.returns-clause-params
@@ -33,3 +33,6 @@ returns-clause-certificate c = cert_bag_again
 
 pub returns-clause-store : goal.returns-clause-store
 returns-clause-store c = store_again
+
+pub returns-clause-kind : goal.returns-clause-kind
+returns-clause-kind c = kind_text_again

@@ -10,4 +10,4 @@ returns-clause-fits c =
 pub returns-clause-opening : goal.returns-clause-opening
 returns-clause-opening c =
     let salt = made_salt _ _ _ _ _ c.in_ok-mac.mac c.in_ok-mac.ensures.value in
-    ((omega arith, omega arith), (omega (arith, ap length salt, c.requires.salt), omega (arith, c.requires.text)))
+    ((omega arith, omega arith), ((omega arith, omega arith), omega (arith, ap length salt, c.requires.salt), omega (arith, c.requires.text)))

@@ -1,6 +1,6 @@
 use Rattle.asn1_core.specs.StandLaws.{whole_sole}
 use Rattle.p12.proofs.AlgorithmRows.{algorithm-exact, digest-exact, mac-exact, params-exact}
-use Rattle.p12.proofs.BagRows.{attribute-exact, bag-exact, cert_bag-exact, encrypted_key-exact}
+use Rattle.p12.proofs.BagRows.{attribute-exact, bag-exact, cert_bag-exact, encrypted_key-exact, kind_front-exact}
 use Rattle.p12.proofs.ContentRows.{content-exact, encrypted_content-exact, encrypted_data-exact}
 use Rattle.p12.proofs.uniqueness.one_text_has_one_value.Goals as goal
 
@@ -36,3 +36,6 @@ returns-clause-attribute c = whole_sole _ _ attribute-exact
 
 pub returns-clause-bag : goal.returns-clause-bag
 returns-clause-bag c = whole_sole _ _ bag-exact
+
+pub returns-clause-kind : goal.returns-clause-kind
+returns-clause-kind c = λ k. whole_sole _ _ (kind_front-exact k)

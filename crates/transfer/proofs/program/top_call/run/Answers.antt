@@ -26,4 +26,4 @@ returns-in-None-clause-line g c =
 pub returns-in-Some-clause-sample : goal.returns-in-Some-clause-sample
 returns-in-Some-clause-sample g c = λ keys is.
     sample_answers _ c.in-Some.keys keys _ _ _ c.sample_lines.result _ c.in-Some.ensures.found is c.write_decision.ensures.count
-    c.sample_lines.ensures.made c.sample_lines.ensures.memory c.write_decision.ensures.written
+    c.sample_lines.ensures.made c.sample_lines.ensures.memory c.sample_lines.ensures.at_most c.write_decision.ensures.written

@@ -17,5 +17,5 @@ copy_at-requires-clause-bags c =
 pub loop-place-preserved : goal.loop-place-preserved
 loop-place-preserved c = record {
   copied = rw (c.in_ok-push.ensures.ok, take_one c.args.places.now c.loop-place.place-index (nth c.args.places.now c.loop-place.place-index) (omega arith) (nth_at c.args.places.now c.loop-place.place-index (omega arith)))
-      (each_append (BagsAt c.args.text.now) _ c.loop-place.bags ((nth c.args.places.now c.loop-place.place-index) ∷ []) (c.in_ok-copy.copy ∷ []) c.loop-place.invariant.copied (c.in_ok-copy.ensures.ok, tt));
+      (each_append (BagsAt c.args.text.now) _ c.loop-place.bags ((nth c.args.places.now c.loop-place.place-index) ∷ []) (c.in_ok-copy.copy ∷ []) c.loop-place.invariant.copied (c.in_ok-copy.ensures, tt));
 }

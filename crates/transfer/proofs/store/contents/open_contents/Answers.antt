@@ -1,5 +1,5 @@
 use Rattle.std.proofs.Common.{arith, subst, ◌∙◌, sym}
-use Rattle.transfer.specs.Opening.{ContentFault, RefusedAfter}
+use Rattle.transfer.specs.Opening.{ContentCause, RefusedAfter}
 use Rattle.p12.specs.ContentView.{seen_content}
 use Rattle.transfer.proofs.ContentsInPlace.{all_before, all_opened, all_stand, fault_now, fit_now, opens_first, opens_on, room_now, stands_now}
 use Rattle.transfer.proofs.store.contents.open_contents.Goals as goal
@@ -29,4 +29,4 @@ pub returns-in-Err-clause-refused : goal.returns-in-Err-clause-refused
 returns-in-Err-clause-refused g c =
     let i = c.loop-content.invariant in
     fault_now _ _ _ _ _ _ _ _ i.done _ _ c.in-Some.ensures.some c.in-Err.e c.args.steps.now c.loop-content.steps c.open_content.new.steps (omega (arith, i.steps, i.done.is))
-    (subst (λ limit. RefusedAfter (ContentFault c.args.password.now limit c.loop-content.budget.spent (seen_content c.in-Some.content)) c.loop-content.steps c.open_content.new.steps c.in-Err.e) i.same c.in-Err.ensures.refused)
+    (subst (λ limit. RefusedAfter (ContentCause c.args.password.now limit c.loop-content.budget.spent (seen_content c.in-Some.content)) c.loop-content.steps c.open_content.new.steps c.in-Err.e) i.same c.in-Err.ensures.refused)

@@ -23,7 +23,7 @@ pub loop-place-preserved : goal.loop-place-preserved
 loop-place-preserved c =
     let rest : c.loop-place.rest.now ≡ c.in-Some.place.now ∷ c.in-Some.behind.now = search rules in
     gathers_on c.args.text.now c.args.places.now c.in-Some.place.now c.in-Some.behind.now c.loop-place.locks c.add_locks.new.locks
-    (subst (λ (t : List Place). Gathering c.args.text.now c.args.places.now t c.loop-place.locks) rest c.loop-place.invariant) (c.requires.0, c.requires.1.each) c.in_ok-add_locks.ensures.ok
+    (subst (λ (t : List Place). Gathering c.args.text.now c.args.places.now t c.loop-place.locks) rest c.loop-place.invariant) (c.requires.0, c.requires.1.each) c.in_ok-add_locks.ensures
 
 pub returns-clause-order : goal.returns-clause-order
 returns-clause-order c = let i = c.loop-place.invariant in order_wider 0 i.passed (length c.args.text.now) (places_of c.loop-place.locks) i.within i.before

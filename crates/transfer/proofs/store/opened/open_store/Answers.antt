@@ -1,4 +1,4 @@
-use Rattle.std.proofs.Common.{◌+◌, ◌≡◌, arith, subst, sym}
+use Rattle.std.proofs.Common.{◌+◌, ◌≡◌, ◌∙◌, ap, arith, subst, sym}
 use Rattle.std.specs.List.{sum_by}
 use Rattle.transfer.specs.declared.store.opened.Opened.{Opened}
 use Rattle.transfer.specs.InPlace.{texts_of}
@@ -7,6 +7,7 @@ use Rattle.transfer.specs.Verdicts.{StoreOpens}
 use Rattle.transfer.proofs.BagsInPlace.{bags_alike}
 use Rattle.transfer.proofs.Rows.{opened_so, refused_so}
 use Rattle.transfer.proofs.Settling.{decided_err, decided_ok, refused_undrawn}
+use Rattle.transfer.proofs.StoredKeys.{all_stored}
 use Rattle.transfer.proofs.Valid.{verdict_open}
 use Rattle.transfer.proofs.store.opened.open_store.Goals as goal
 
@@ -38,8 +39,8 @@ returns-clause-opened g c =
     let n = c.in-Ok.opened.budget.spent + sum_by key_share (all_shrouded o.0.bags) in
     let v = opened_so (HasVerdict c.args.store.now c.args.password.now c.args.limit) c.args.password.now c.args.limit c.in-Ok.opened.budget.limit c.in-Ok.opened.text c.in-Ok.opened.places c.in-Ok.opened.budget.spent o.0 o.1 texts a.0 in
     let w = verdict_open c.args.store.now c.args.password.now c.args.limit o.0.bags texts n v in
-    let same : c.in_ok-keys.keys ≡ texts = rw (sym c.as_slice-2.ensures) c.in_ok-keys.ensures.ok in
-    let bags : c.in_ok-contents.contents ≡ o.0.bags = bags_alike c.in-Ok.opened.text c.in-Ok.opened.places c.in_ok-contents.contents o.0.bags (rw (sym c.as_slice.ensures, sym c.as_slice-places.ensures) c.in_ok-contents.ensures.ok) each in
+    let same : c.in_ok-keys.keys ≡ texts = rw (sym c.as_slice-2.ensures) c.in_ok-keys.ensures in
+    let bags : c.in_ok-contents.contents ≡ o.0.bags = bags_alike c.in-Ok.opened.text c.in-Ok.opened.places c.in_ok-contents.contents o.0.bags (rw (sym c.as_slice.ensures, sym c.as_slice-places.ensures) c.in_ok-contents.ensures) each in
     (n, subst (λ ks. StoreOpens c.args.store.now c.args.password.now c.in_ok-contents.contents ks n) (sym same) (subst (λ gs. StoreOpens c.args.store.now c.args.password.now gs texts n) (sym bags) w.0), w.1, omega (arith, o.2, a.1))
 
 pub returns-clause-exact : goal.returns-clause-exact
@@ -49,3 +50,8 @@ returns-clause-exact g c =
     let texts = texts_of c.in-Ok-open_keys.keys in
     let v = opened_so (HasVerdict c.args.store.now c.args.password.now c.args.limit) c.args.password.now c.args.limit c.in-Ok.opened.budget.limit c.in-Ok.opened.text c.in-Ok.opened.places c.in-Ok.opened.budget.spent o.0 o.1 texts a.0 in
     decided_ok Opened c.args.store.now c.args.password.now c.args.limit _ o.0.bags texts _ v
+
+pub invariant_of-result : goal.invariant_of-result
+invariant_of-result g c = record {
+  texts = all_stored c.in-Ok-open_keys.keys c.in_ok-keys.keys (c.in_ok-keys.ensures ∙ ap texts_of c.as_slice-2.ensures) c.in-Ok-open_keys.ensures.keys;
+}

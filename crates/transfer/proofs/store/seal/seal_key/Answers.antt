@@ -1,4 +1,5 @@
-use Rattle.std.proofs.Common.{◌∙◌, ap, arith, length, subst, sym}
+use Rattle.std.proofs.Common.{◌∙◌, ◌<◌, ap, arith, length, subst, sym}
+use Rattle.std.specs.Prelude.{All}
 use Rattle.pkcs5.specs.Kinds.{IsDes}
 use Rattle.pkcs5.specs.Opening.{FitsKey}
 use Rattle.pkcs5.specs.Parameters.{AreParameters}
@@ -22,6 +23,6 @@ refusal_of-requires c =
 pub returns-clause-ok : goal.returns-clause-ok
 returns-clause-ok c =
     sealed_document _ c.args.rounds c.args.iv c.args.salt.now c.args.new_password.now c.args.opened.now.text.now
-    (seen_private_key (λ a. (a.tag.first, a.value.now)) (λ s. s.octets.now) (λ s. (s.unused_bits, s.octets.now)) c.args.opened.now.key) c.requires.key.0
-    (sealed_as _ _ _ _ _ _ _ c.in-Ok.ensures.ok.0 c.private_keys_are_written.ensures (c.in_ok-from_slice.ensures ∙ c.as_bytes.ensures.value)
+    (seen_private_key (λ a. (a.tag.first, a.value.now)) (λ s. s.octets.now) (λ s. (s.unused_bits, s.octets.now)) c.args.opened.now.key) (subst (All (λ octet. octet < 256)) (c.as_bytes.ensures.value ∙ sym (c.in_ok-from_slice.ensures ∙ c.as_bytes-2.ensures.value)) c.are_octets.ensures) c.requires.key.0
+    (sealed_as _ _ _ _ _ _ _ c.in-Ok.ensures.ok.0 c.private_keys_are_written.ensures (c.in_ok-from_slice.ensures ∙ c.as_bytes-2.ensures.value)
     c.in-Ok-encrypt_with_params.ensures.ok)

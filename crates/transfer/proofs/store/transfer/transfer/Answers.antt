@@ -1,4 +1,4 @@
-use Rattle.std.proofs.Common.{ℕ, ◌+◌, ◌≡◌, arith, sym, length, map}
+use Rattle.std.proofs.Common.{ℕ, ◌+◌, ◌≡◌, arith, sym, length}
 use Rattle.std.specs.Prelude.{List, IfSome, ◌<◌, ◌*◌}
 use Rattle.std.specs.List.{sum_by}
 use Rattle.std.proofs.lemmas.List.{length-map}
@@ -7,7 +7,6 @@ use Rattle.transfer.specs.declared.store.key_text.OpenedKey.{OpenedKey}
 use Rattle.transfer.specs.declared.store.transfer.Transferred.{Transferred}
 use Rattle.transfer.specs.InPlace.{texts_of}
 use Rattle.transfer.specs.Opening.{HasVerdict, all_shrouded, key_share, opened, refused}
-use Rattle.transfer.specs.Transferred.{IsRefused}
 use Rattle.transfer.proofs.Drawn.{took_least}
 use Rattle.transfer.proofs.Faults.{refused_as}
 use Rattle.transfer.proofs.Rows.{opened_so, refused_so}
@@ -26,7 +25,7 @@ pub returns-in-Err-open_keys-clause-refused : goal.returns-in-Err-open_keys-clau
 returns-in-Err-open_keys-clause-refused g c =
     let o = c.in-Ok.ensures.opened in
     refused_as (λ e. (n : ℕ) × HasVerdict c.args.store.now c.args.password.now c.args.limit (refused e) n × (c.open_keys.new.steps ≡ c.args.steps.now + n))
-    (IsRefused c.args.store.now c.args.password.now c.args.limit c.args.steps.now c.open_keys.new.steps) _ _ (λ e h. h) (λ h. absurd h) c.in-Err-open_keys.e
+    (λ e. (n : ℕ) × HasVerdict c.args.store.now c.args.password.now c.args.limit (refused e) n × (c.open_keys.new.steps ≡ c.args.steps.now + n)) _ _ (λ e h. h) (λ h. absurd h) c.in-Err-open_keys.e
     (refused_so (HasVerdict c.args.store.now c.args.password.now c.args.limit) c.args.password.now c.args.limit c.in-Ok.opened.budget.limit c.in-Ok.opened.text c.in-Ok.opened.places c.in-Ok.opened.budget.spent o.0 o.1
     c.args.steps.now c.open_parts.new.steps c.open_keys.new.steps c.in-Err-open_keys.e o.2 (c.in-Err-open_keys.ensures.refused o.0.bags (rw (c.as_slice-places.ensures) o.0.stand.each)))
 
@@ -49,7 +48,7 @@ returns-in-Ok-seal_all-clause-opened g c =
       work = c.in-Ok.opened.budget.spent + sum_by key_share (all_shrouded o.0.bags);
       verdict = opened_so (HasVerdict c.args.store.now c.args.password.now c.args.limit) c.args.password.now c.args.limit c.in-Ok.opened.budget.limit c.in-Ok.opened.text c.in-Ok.opened.places c.in-Ok.opened.budget.spent o.0 o.1
           (texts_of c.in-Ok-open_keys.keys) a.0;
-      in_order = c.in_ok-certificates.ensures.ok o.0.bags (rw (c.as_slice.ensures, c.as_slice-places.ensures) each);
+      in_order = c.in_ok-certificates.ensures o.0.bags (rw (c.as_slice.ensures, c.as_slice-places.ensures) each);
       sealed = rw (sym c.as_slice-2.ensures) c.in-Ok-seal_all.ensures.sealed;
       counted = omega (arith, o.2, a.1);
     }
@@ -68,7 +67,7 @@ returns-clause-refused g c =
     let o = c.in-Ok.ensures.opened in
     let a = c.in-Ok-open_keys.ensures.opened o.0.bags (rw (c.as_slice-places.ensures) o.0.stand.each) in
     let same = length-map c.in-Ok-open_keys.keys (λ (k : OpenedKey). k.text.now) in
-    refused_as (λ e. ⊥) (IsRefused c.args.store.now c.args.password.now c.args.limit c.args.steps.now c.open_keys.new.steps) _ _ (λ e h. absurd h)
+    refused_as (λ e. ⊥) (λ e. (n : ℕ) × HasVerdict c.args.store.now c.args.password.now c.args.limit (refused e) n × (c.open_keys.new.steps ≡ c.args.steps.now + n)) _ _ (λ e h. absurd h)
     (λ h. record {
       bags = o.0.bags;
       keys = texts_of c.in-Ok-open_keys.keys;
