@@ -23,13 +23,14 @@ use Rattle.pkcs12_kdf.specs.Derivation.{derive12}
 use Rattle.pkcs12_kdf.specs.Password.{bmp_password}
 use Rattle.p12.specs.Pfx.{IsStore}
 use Rattle.p12.specs.declared.pfx.PFX.{PFX}
-use Rattle.pkcs5.specs.Scheme.{scheme_at, scheme_text}
+use Rattle.pkcs5.specs.Scheme.{scheme_text}
 use Rattle.pkcs5.specs.SchemeOpening.{SchemeOpens}
 use Rattle.pkcs5.specs.declared.encryption_scheme.EncryptionScheme.{EncryptionScheme}
 use Rattle.spki.specs.Seen.{AnyPublicKey, IsPublicKey}
 use Rattle.spki.specs.Spelling.{public_key_text}
 use Rattle.known_answers.specs.declared.call.Call.{Call}
 use Rattle.known_answers.specs.declared.call.Call.TheVariants.{Aes128Encrypt, Aes128Decrypt, Aes192Encrypt, Aes192Decrypt, Aes256Encrypt, Aes256Decrypt, DesEncrypt, DesDecrypt, TdesEncrypt, TdesDecrypt, CbcAes128Decrypt, CbcAes192Decrypt, CbcAes256Decrypt, CbcDesDecrypt, CbcTdesDecrypt, GcmAes128Encrypt, GcmAes128Decrypt, GcmAes192Encrypt, GcmAes192Decrypt, GcmAes256Encrypt, GcmAes256Decrypt, HmacSha1, HmacSha224, HmacSha256, HmacSha384, HmacSha512, Pbkdf2Sha1, Pbkdf2Sha256, Pbkdf2Sha512, Scrypt, Pkcs12Key, Pkcs12Store, Pkcs12Written, PhcVerify, PhcString, Pkcs5Decrypt, Pkcs5Encrypt, Pkcs5Scheme, SpkiFingerprint, Identifier}
+use Rattle.pkcs5.specs.Reading.{scheme_at}
 
 -- the name of a call
 abbrev pub name_of : Call → List ℕ
@@ -78,7 +79,7 @@ name_of Identifier = codes "identifier"
 abbrev pub word : List (List ℕ) → ℕ → List ℕ
 word words i = get_or words i []
 
--- o is the key of PBKDF2 over the function f, where an answer has u octets: password, salt, rounds, length
+-- o is the key of PBKDF2 over the function f, where a result has u octets: password, salt, rounds, length
 abbrev pub IsDerived : (List ℕ → List ℕ → List ℕ) → ℕ → List (List ℕ) → List ℕ → Type 0
 IsDerived f u words o = (rounds : ℕ) × (uint_of (2 ^ 32 - 1) (word words 2) ≡ Ok rounds)
     × (uint_of 256 (word words 3) ≡ Ok (length o))
@@ -88,11 +89,11 @@ IsDerived f u words o = (rounds : ℕ) × (uint_of (2 ^ 32 - 1) (word words 2) �
 abbrev pub IsOpened : (List ℕ → List ℕ → List ℕ) → ℕ → List (List ℕ) → List ℕ → Type 0
 IsOpened inverse size words o = padded o size ≡ uncbc (inverse (word words 0)) size (word words 1) (word words 2)
 
--- o is the ciphertext of the text, and its tag behind it: key, nonce, text
+-- o is the ciphertext of the text, and its tag after it: key, nonce, text
 abbrev pub IsGcmSealed : (List ℕ → List ℕ → List ℕ) → List (List ℕ) → List ℕ → Type 0
 IsGcmSealed cipher words o = o ≡ gcm (cipher (word words 0)) (word words 1) (word words 2)
 
--- o is the text whose ciphertext, and its tag behind it, are given: key, nonce, both
+-- o is the text whose ciphertext, and its tag after it, are given: key, nonce, both
 abbrev pub IsGcmOpened : (List ℕ → List ℕ → List ℕ) → List (List ℕ) → List ℕ → Type 0
 IsGcmOpened cipher words o = gcm (cipher (word words 0)) (word words 1) o ≡ word words 2
 

@@ -1,4 +1,4 @@
-//! What the calls answer.
+//! What the calls return.
 ghost use Rattle.std.specs.Prelude.{◌≡◌, ◌<◌, ◌≤◌, length, IfOk, OnOk};
 ghost use Rattle.phc_core.specs.PasswordHash.{Phc};
 ghost use Rattle.phc_core.specs.declared.password_hash.PasswordHash.{PasswordHash};
@@ -378,7 +378,7 @@ fn fingerprint_of(alloc: Global, text: &[u8]) -> Result<Octets, Refused>
     ensures { IfOk result (λ o. IsFingerprint text.now o) }
 {
     let key = SubjectPublicKeyInfoOwned::from_der(alloc, text)?;
-    public_keys_are_written(&key.owned_to_ref(), &key);
+    public_keys_are_written(&key);
     Ok(Octets::from_slice(alloc, &key.fingerprint_bytes()?)?)
 }
 

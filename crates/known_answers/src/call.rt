@@ -86,7 +86,7 @@ fn mode_call(name: &str) -> Option<Call>
     }
 }
 
-/// The call of this name that answers a tag or a key.
+/// The call of this name that returns a tag or a key.
 fn key_call(name: &str) -> Option<Call>
     ensures { IfSome result (λ call. name.now ≡ name_of call) }
 {

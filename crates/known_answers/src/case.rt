@@ -1,9 +1,10 @@
 //! Cases, and whether they hold.
 ghost use Rattle.std.specs.Prelude.{◌≡◌, true, Some, IfOk, IfSome};
-ghost use Rattle.known_answers.specs.Lines.{word_of, Spells, Expects, Reads, Meets};
+ghost use Rattle.known_answers.specs.Lines.{word_of, Spells, Expects, Reads, Meets, IsExpected};
 
 use crate::answer::answer;
 use crate::call::Call;
+use crate::refused::Refused;
 use hex::FromHexError;
 use octet_core::Octets;
 use std::alloc::{AllocError, Global};
@@ -99,17 +100,26 @@ pub fn read_case(alloc: Global, line: &str) -> Result<Option<Case<'_>>, AllocErr
     }
 }
 
-/// Whether the call of the case answers what is expected of it.
+/// Whether what a call returned is what is expected: these octets, or a refusal with this word.
+fn is_expected(
+    alloc: Global,
+    returned: &Result<Octets, Refused>,
+    expected: &Expected<'_>,
+) -> Result<bool, AllocError>
+    ensures { IfOk result (λ held. held ≡ true → IsExpected returned.now expected.now) }
+{
+    match (returned, expected) {
+        (Ok(octets), Expected::Answered(expected)) => Ok(octets == expected),
+        (Err(refused), Expected::Refused(word)) => Ok(refused.word(alloc)?.as_str() == *word),
+        _ => Ok(false),
+    }
+}
+
+/// Whether the call of the case returns what is expected of it.
 pub fn holds(alloc: Global, case: &Case<'_>) -> Result<bool, AllocError>
     ensures { IfOk result
         (λ held. held ≡ true → Meets case.now.call case.now.words.items case.now.expected) }
 {
-    match (
-        answer(alloc, case.call, case.words.as_slice()),
-        &case.expected,
-    ) {
-        (Ok(octets), Expected::Answered(expected)) => Ok(octets == *expected),
-        (Err(refused), Expected::Refused(word)) => Ok(refused.word(alloc)?.as_str() == *word),
-        _ => Ok(false),
-    }
+    let returned = answer(alloc, case.call, case.words.as_slice());
+    is_expected(alloc, &returned, &case.expected)
 }

@@ -1,9 +1,9 @@
-//! Why a case has no octets for an answer.
+//! Why a case has no octets for a result.
 use mac_modes::ModeError;
 use scrypt_core::{InvalidParams, ScryptError};
 use std::alloc::{AllocError, Global};
 
-/// Why a case has no octets for an answer.
+/// Why a case has no octets for a result.
 #[derive(Drop)]
 pub enum Refused {
     /// The call takes another number of words, or words of other lengths.

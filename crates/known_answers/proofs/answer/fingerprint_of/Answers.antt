@@ -9,5 +9,5 @@ returns c =
     record {
       key = seen_public_key owned_any (λ s. seen_bits s.unused_bits s.octets) c.in_ok-key.key;
       is = c.in_ok-key.ensures;
-      digest = c.in_ok-from_slice.ensures ∙ (c.in_ok-fingerprint_bytes.ensures.ok ∙ ap sha256 c.public_keys_are_written.ensures.of_owned);
+      digest = c.in_ok-from_slice.ensures ∙ (c.in_ok-fingerprint_bytes.ensures.ok ∙ ap sha256 c.public_keys_are_written.ensures);
     }

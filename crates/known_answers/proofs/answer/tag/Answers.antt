@@ -6,7 +6,7 @@ use Rattle.known_answers.specs.Known.{word}
 use Rattle.known_answers.proofs.Words.{word_is}
 use Rattle.known_answers.proofs.answer.tag.Goals as goal
 
--- an answer is at most as long as the buffer
+-- a result is at most as long as the buffer
 in_buffer : (n u k : ℕ) → n ≡ u → u ≤ 64 → k ≡ 64 → n ≤ k
 in_buffer n u k same fits long = omega (arith, same, fits, long)
 

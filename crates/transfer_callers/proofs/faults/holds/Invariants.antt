@@ -1,4 +1,0 @@
-use Rattle.transfer_callers.proofs.faults.holds.Given as goal
-
-abbrev pub ghosts-runs : goal.ghosts-runs
-ghosts-runs a = record { name = a.blank.name; parts = a.blank.parts }

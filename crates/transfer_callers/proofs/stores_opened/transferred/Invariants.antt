@@ -1,4 +1,0 @@
-use Rattle.transfer_callers.proofs.stores_opened.transferred.Given as goal
-
-abbrev pub ghosts-transferred_counted : goal.ghosts-transferred_counted
-ghosts-transferred_counted a = record { name = a.blank.name; parts = a.blank.parts }
