@@ -1,0 +1,123 @@
+-- The text of a store that is sealed anew.
+use Rattle.std.proofs.Common.{◌≡◌, ℕ, ◌+◌, ◌<◌, ◌≤◌, ◌^◌, List, [], ◌∷◌, ◌++◌, length, Option, Some, None, true, Bor, refl, sym, ap, ◌∙◌, arith, append-nil}
+use Rattle.std.specs.Prelude.{All}
+use Rattle.std.specs.List.{sum_by}
+use Rattle.std.proofs.lemmas.List.{length-append}
+use Rattle.std.proofs.lemmas.List.Elements.{All-nil, All-cons}
+use Rattle.asn1_core.specs.Sets.{Each, IsRead}
+use Rattle.asn1_core.specs.Texts.{Many}
+use Rattle.p12.specs.Canonical.{WritableContent, contents_canon, store_canon}
+use Rattle.p12.specs.Collected.{HoldsBags}
+use Rattle.p12.specs.ContentInfo.{ContentText, IsContents}
+use Rattle.asn1_core.specs.Texts.{seen_option}
+use Rattle.p12.specs.ContentView.{seen_content}
+use Rattle.p12.specs.MacData.{is_mac_digest}
+use Rattle.p12.specs.MacView.{seen_mac}
+use Rattle.p12.specs.Pfx.{IsStore}
+use Rattle.p12.specs.StoreView.{seen_store}
+use Rattle.p12.specs.declared.content_info.ContentView.{ContentView}
+use Rattle.p12.specs.declared.content_info.ContentView.TheVariants as view
+use Rattle.p12.specs.declared.mac_data.MacView.{MacView}
+use Rattle.p12.specs.declared.pfx.PFX.{PFX}
+use Rattle.p12.specs.declared.pfx.StoreView.{StoreView}
+use Rattle.p12.specs.declared.place.Place.{Place}
+use Rattle.p12.proofs.DefinitionLaws.{store_sole}
+use Rattle.p12.specs.declared.content_info.ContentInfo.{ContentInfo}
+use Rattle.p12.specs.declared.mac_data.MacData.{MacData}
+use Rattle.p12.specs.declared.safe_bag.SafeBag.{SafeBag}
+use Rattle.p12.proofs.Again.{content_writes}
+use Rattle.transfer.specs.Limits.{store_limit}
+use Rattle.transfer.specs.declared.store.error.TransferError.{TransferError}
+use Rattle.rekey_core.specs.Anew.{change_draws, content_draws}
+use Rattle.rekey_core.specs.Making.{HeldOpen, IsMacked, TextSealed, store_anew}
+use Rattle.p12.specs.declared.content_info.ContentInfo.TheVariants as content
+use Rattle.rekey_core.specs.Sealing.{ContentsSealed, LongOnly, SuppliesAll, bags_draw}
+use Rattle.rekey_core.specs.Size.{blank_contents, changed_size}
+use Rattle.rekey_core.proofs.Sizes.{contents_in, store_size}
+use Rattle.rekey_core.proofs.Supplying.{all_keys, long_map}
+use Rattle.rekey_core.proofs.Texts.{contents_many}
+
+pub supply_of : (p : List ℕ) (cs : List ContentInfo) (gss : List (List SafeBag)) (keys : List (List ℕ)) → HeldOpen p cs gss keys → SuppliesAll p gss keys []
+supply_of p cs gss keys h = record { front = keys; splits = sym (append-nil keys); are_opened = h.are_opened }
+
+pub supplied : (cs : List ContentInfo) (gss : List (List SafeBag)) (keys : List (List ℕ)) → (p : List ℕ) × HeldOpen p cs gss keys → (p : List ℕ) × (more : List (List ℕ)) × Each (HoldsBags p) cs gss × SuppliesAll p gss keys more
+supplied cs gss keys (p, h) = (p, [], h.bags, supply_of p cs gss keys h)
+
+pub room_of : (cs : List ContentInfo) (gss : List (List SafeBag)) (drawn : List ℕ) → length drawn ≡ change_draws cs gss → sum_by content_draws cs + sum_by bags_draw gss ≤ length drawn
+room_of cs gss drawn e = omega (arith, e, all_keys gss)
+
+pub salt_left : (cs : List ContentInfo) (gss : List (List SafeBag)) (drawn rest : List ℕ) → length drawn ≡ change_draws cs gss → length drawn ≡ sum_by content_draws cs + sum_by bags_draw gss + length rest → length rest ≡ 8
+salt_left cs gss drawn rest e u = omega (arith, e, u, all_keys gss)
+
+write_all : (t : List ℕ) (es : List ContentInfo) → Many ContentText t es → All WritableContent es
+write_all t [] m = All-nil WritableContent
+write_all t (e ∷ es) (x, y, r, m, f) = All-cons WritableContent e es (content_writes e (x, r)) (write_all y es m)
+
+many_of : (v : List ℕ) (cs : List ContentInfo) → IsContents v cs → IsRead (Many ContentText) cs
+unfolding IsContents
+many_of v cs ((w, m, e), short) = (w, m)
+
+pub contents_write : (v p q : List ℕ) (cs es : List ContentInfo) (drawn rest : List ℕ) → IsContents v cs → ContentsSealed p q cs drawn rest es → All WritableContent es
+contents_write v p q cs es drawn rest is s = let m = many_of v cs is in write_all _ es (contents_many p q cs es s.took m.0 s.sealed m.1)
+
+all_of_it : (rest salt more : List ℕ) → rest ≡ salt ++ more → length rest ≡ 8 → length salt ≡ 8 → rest ≡ salt
+all_of_it rest salt more e l k = e ∙ ap (λ t. salt ++ t) (none more (omega (arith, ap length e, length-append salt more, l, k))) ∙ append-nil salt
+  where
+    none : (t : List ℕ) → length t ≡ 0 → t ≡ []
+    none [] h = refl
+    none (x ∷ t) h = absurd (omega (arith, h))
+
+pub text_sealed : (p q : List ℕ) (version : ℕ) (m : MacData) (cs es : List ContentInfo) (gss : List (List SafeBag)) (keys : List (List ℕ)) (drawn rest salt more b : List ℕ)
+    → ((p : List ℕ) (k : List (List ℕ)) → Each (HoldsBags p) cs gss → SuppliesAll p gss keys k → ContentsSealed p q cs drawn rest es) → length rest ≡ 8 → rest ≡ salt ++ more → length salt ≡ 8
+    → (b ≡ store_canon (store_anew version m q salt es)) × (length b ≤ store_limit) → HeldOpen p cs gss keys → TextSealed p q version m cs drawn b
+text_sealed p q version m cs es gss keys drawn rest salt more b all left e long is h =
+    let s = all p [] h.bags (supply_of p cs gss keys h) in
+    record {
+      contents = es;
+      taken = s.took;
+      salt = salt;
+      order = s.splits ∙ ap (λ t. s.took ++ t) (all_of_it rest salt more e left long);
+      of_8 = long;
+      sealed = s.sealed;
+      is = is.0;
+      short = is.1;
+    }
+
+pub long_contents : (version : ℕ) (m : MacData) (cs : List ContentInfo) (gss : List (List SafeBag)) (keys : List (List ℕ)) (f : TransferError)
+    → LongOnly ((p : List ℕ) (more : List (List ℕ)) → Each (HoldsBags p) cs gss → SuppliesAll p gss keys more → 2 ^ 32 ≤ length (contents_canon (blank_contents p cs gss))) f
+    → LongOnly ((p : List ℕ) → HeldOpen p cs gss keys → store_limit < changed_size version m p cs gss) f
+long_contents version m cs gss keys f h = long_map _ _ f (λ all p o. omega (arith, all p [] o.bags (supply_of p cs gss keys o), contents_in version m p cs gss)) h
+
+pub long_store : (q : List ℕ) (version : ℕ) (m : MacData) (cs es : List ContentInfo) (gss : List (List SafeBag)) (keys : List (List ℕ)) (drawn rest salt : List ℕ) (f : TransferError)
+    → ((p : List ℕ) (k : List (List ℕ)) → Each (HoldsBags p) cs gss → SuppliesAll p gss keys k → ContentsSealed p q cs drawn rest es) → length salt ≡ 8 → is_mac_digest m.mac.digest_algorithm ≡ true
+    → LongOnly (store_limit < length (store_canon (store_anew version m q salt es))) f → LongOnly ((p : List ℕ) → HeldOpen p cs gss keys → store_limit < changed_size version m p cs gss) f
+long_store q version m cs es gss keys drawn rest salt f all long known h = long_map _ _ f (λ l p o. (
+    let s = all p [] o.bags (supply_of p cs gss keys o) in
+    omega (arith, l, store_size p q version m cs es gss s.took salt known s.sealed o.bags long)
+    )) h
+
+-- ---- the parts around the contents
+
+plain_case : (a : ContentView) (v : List ℕ) → seen_content a ≡ content.Data v → ((x : Bor (List ℕ)) (at : Place) → a ≡ view.Plain x at → ⊥) → ⊥
+plain_case (view.Plain x at) v e f = f x at refl
+plain_case (view.Encrypted a x at) v e f = cc
+plain_case (view.Other k x) v e f = cc
+
+pub view_plain : (b : List ℕ) (w : StoreView) → IsStore b (seen_store w) → IsMacked b → ((x : Bor (List ℕ)) (at : Place) → w.auth_safe ≡ view.Plain x at → ⊥) → ⊥
+view_plain b w is (s, v, m, that, plain, has) f = plain_case w.auth_safe v (ap (λ (t : PFX). t.auth_safe) (store_sole b (seen_store w) s is that) ∙ plain) f
+
+none_some : (o : Option MacView) (m : MacData) → o ≡ None → seen_option seen_mac o ≡ Some m → ⊥
+none_some None m e h = cc
+none_some (Some v) m e h = cc
+
+pub view_mac : (b : List ℕ) (w : StoreView) → IsStore b (seen_store w) → IsMacked b → w.mac_data ≡ None → ⊥
+view_mac b w is (s, v, m, that, plain, has) e = none_some w.mac_data m e (ap (λ (t : PFX). t.mac_data) (store_sole b (seen_store w) s is that) ∙ has)
+
+pub outer_is : (b : List ℕ) (w : StoreView) (x : Bor (List ℕ)) (at : Place) (mac : MacView) → IsStore b (seen_store w) → w.auth_safe ≡ view.Plain x at → w.mac_data ≡ Some mac
+    → (s : PFX) → IsStore b s → (s.version ≡ w.version) × (s.auth_safe ≡ content.Data x.now) × (s.mac_data ≡ Some (seen_mac mac))
+outer_is b w x at mac is plain has s that =
+    let e = store_sole b s (seen_store w) that is in (
+      ap (λ (t : PFX). t.version) e,
+      ap (λ (t : PFX). t.auth_safe) e ∙ ap seen_content plain,
+      ap (λ (t : PFX). t.mac_data) e ∙ ap (seen_option seen_mac) has,
+    )

@@ -1,0 +1,367 @@
+-- Each answer of a change comes where its cause holds.
+use Rattle.std.proofs.Common.{◌≡◌, ◌⊎◌, inl, inr, ℕ, ◌+◌, ◌<◌, ◌≤◌, List, length, Option, Some, None, refl, sym, ap, subst, ◌∙◌, arith}
+use Rattle.std.specs.Prelude.{Result, Ok, Err, IsOk, IfSome, ⊤}
+use Rattle.std.specs.Io.KnownBytes.{Consumes}
+use Rattle.octet_core.specs.Draw.{Lacks}
+use Rattle.std.proofs.lemmas.List.{length-append}
+use Rattle.asn1_core.specs.Sets.{Each}
+use Rattle.p12.specs.Canonical.{contents_canon, store_canon}
+use Rattle.p12.specs.Collected.{HoldsBags}
+use Rattle.p12.specs.ContentInfo.{IsContents}
+use Rattle.p12.specs.Pfx.{IsStore}
+use Rattle.p12.specs.declared.content_info.ContentInfo.{ContentInfo}
+use Rattle.p12.specs.declared.content_info.ContentInfo.TheVariants as content
+use Rattle.p12.specs.declared.mac_data.MacData.{MacData}
+use Rattle.p12.specs.declared.pfx.PFX.{PFX}
+use Rattle.p12.specs.declared.safe_bag.SafeBag.{SafeBag}
+use Rattle.p12.proofs.DefinitionLaws.{contents_sole, store_sole}
+use Rattle.transfer.specs.Limits.{store_limit}
+use Rattle.transfer.specs.Opening.{FirstCause}
+use Rattle.transfer.specs.TransferError.{RefusedBy}
+use Rattle.transfer.specs.Transferred.{IsDecided, IsRefusal}
+use Rattle.transfer.specs.Verdicts.{StoreOpens}
+use Rattle.transfer.specs.declared.store.error.TransferError.{TransferError}
+use Rattle.transfer.specs.declared.store.error.TransferError.TheVariants.{TooLong, Malformed, Unsupported, MacMissing, MacUnsupported, ZeroIterations, WorkLimit, MacMismatch, ContentMalformed, DecryptFailed, KeyMalformed, Rng, Memory}
+use Rattle.transfer.proofs.Sole.{each_sole, verdict_sole}
+use Rattle.transfer.proofs.Valid.{not_refused, opened_exactly}
+use Rattle.rekey_core.specs.Anew.{change_draws}
+use Rattle.rekey_core.specs.Change.{Changes}
+use Rattle.rekey_core.specs.Making.{HeldOpen, IsMacked, TextSealed, store_anew}
+use Rattle.rekey_core.specs.Rekeyed.{GrowsTooLong, IsAllowed, IsSettled, IsUndrawn, RefusedFor, Rekeys, RunsShort, draws, size}
+use Rattle.rekey_core.specs.Sealing.{LongOnly}
+use Rattle.rekey_core.specs.Size.{changed_size}
+use Rattle.rekey_core.proofs.Likeness.{store_changes}
+use Rattle.rekey_core.proofs.Sizes.{contents_same, holds_sole, contents_in, store_size}
+
+pub is_macked : (b p : List ℕ) (gss : List (List SafeBag)) (ks : List (List ℕ)) (n : ℕ) → StoreOpens b p gss ks n → IsMacked b
+is_macked b p gss ks n o = (o.store, o.text, o.mac, o.is, o.is_data, o.has)
+
+data_is : (v w : List ℕ) → content.Data v ≡ content.Data w → v ≡ w
+data_is v w e = cc
+
+mac_is : (m n : MacData) → Some m ≡ Some n → m ≡ n
+mac_is m n e = cc
+
+-- what a parsed store shows of one that opens
+pub record Seen (b p : List ℕ) (gss : List (List SafeBag)) (ks : List (List ℕ)) (n : ℕ) (o : StoreOpens b p gss ks n) (v : ℕ) (t : List ℕ) (m : MacData) (cs : List ContentInfo) : Type 0 where
+  pub version : o.store.version ≡ v
+  pub text : o.text ≡ t
+  pub mac : o.mac ≡ m
+  pub parts : o.parts ≡ cs
+  pub held : HeldOpen p cs gss ks
+
+pub seen_of : (b p : List ℕ) (gss : List (List SafeBag)) (ks : List (List ℕ)) (n : ℕ) (o : StoreOpens b p gss ks n) (version : ℕ) (text : List ℕ) (m : MacData) (cs : List ContentInfo)
+    → ((s : PFX) → IsStore b s → (s.version ≡ version) × (s.auth_safe ≡ content.Data text) × (s.mac_data ≡ Some m)) → IsContents text cs → Seen b p gss ks n o version text m cs
+seen_of b p gss ks n o version text m cs outer lists =
+    let u = outer o.store o.is in
+    let t : o.text ≡ text = data_is o.text text (sym o.is_data ∙ u.1) in
+    let parts : o.parts ≡ cs = contents_sole text o.parts cs (subst (λ (x : List ℕ). IsContents x o.parts) t o.opening.contents) lists in
+    record {
+      version = u.0;
+      text = t;
+      mac = mac_is o.mac m (sym o.has ∙ u.2);
+      parts = parts;
+      held = record { bags = subst (λ (x : List ContentInfo). Each (HoldsBags p) x gss) parts o.opening.bags; are_opened = o.opening.keys };
+    }
+
+-- A store opens in one way.
+record OpensOnce (b p : List ℕ) (gss hss : List (List SafeBag)) (ks js : List (List ℕ)) (n m : ℕ) (o : StoreOpens b p gss ks n) (r : StoreOpens b p hss js m) : Type 0 where
+  bags : gss ≡ hss
+  parts : o.parts ≡ r.parts
+  mac : o.mac ≡ r.mac
+  store : o.store ≡ r.store
+
+opens_once : (b p : List ℕ) (gss hss : List (List SafeBag)) (ks js : List (List ℕ)) (n m : ℕ) (o : StoreOpens b p gss ks n) (r : StoreOpens b p hss js m) → OpensOnce b p gss hss ks js n m o r
+opens_once b p gss hss ks js n m o r =
+    let store : o.store ≡ r.store = store_sole b o.store r.store o.is r.is in
+    let text : o.text ≡ r.text = data_is o.text r.text (sym o.is_data ∙ ap (λ (s : PFX). s.auth_safe) store ∙ r.is_data) in
+    let parts : o.parts ≡ r.parts = contents_sole r.text o.parts r.parts (subst (λ (x : List ℕ). IsContents x o.parts) text o.opening.contents) r.opening.contents in
+    record {
+      bags = each_sole (HoldsBags p) r.parts gss hss (λ c x y h k. holds_sole p c x y h k) (subst (λ (x : List ContentInfo). Each (HoldsBags p) x gss) parts o.opening.bags) r.opening.bags;
+      parts = parts;
+      mac = mac_is o.mac r.mac (sym o.has ∙ ap (λ (s : PFX). s.mac_data) store ∙ r.has);
+      store = store;
+    }
+
+pub draws_once : (b p : List ℕ) (limit : ℕ) (a d : IsAllowed b p limit) → draws b p limit a ≡ draws b p limit d
+draws_once b p limit a d =
+    let s = opens_once b p a.bags d.bags a.keys d.keys a.work d.work a.opens d.opens in
+    ap (λ (x : List ContentInfo). change_draws x a.bags) s.parts ∙ ap (λ (x : List (List SafeBag)). change_draws d.opens.parts x) s.bags
+
+pub size_once : (b p : List ℕ) (limit : ℕ) (a d : IsAllowed b p limit) → size b p limit a ≡ size b p limit d
+size_once b p limit a d =
+    let s = opens_once b p a.bags d.bags a.keys d.keys a.work d.work a.opens d.opens in
+    ap (λ (x : PFX). changed_size x.version a.opens.mac p a.opens.parts a.bags) s.store ∙ ap (λ (x : MacData). changed_size d.opens.store.version x p a.opens.parts a.bags) s.mac
+    ∙ ap (λ (x : List ContentInfo). changed_size d.opens.store.version d.opens.mac p x a.bags) s.parts ∙ ap (λ (x : List (List SafeBag)). changed_size d.opens.store.version d.opens.mac p d.opens.parts x) s.bags
+
+-- ---- causes
+
+pub no_cause : (b p : List ℕ) (limit : ℕ) → IsAllowed b p limit → FirstCause b p limit None
+no_cause b p limit a = (a.bags, a.keys, a.work, (opened_exactly b p limit a.bags a.keys a.work).1 (a.opens, a.within))
+
+pub no_refusal : (b p : List ℕ) (limit : ℕ) (e : TransferError) → IsAllowed b p limit → FirstCause b p limit (Some e) → ⊥
+no_refusal b p limit e a (n, v) =
+    let w = (opened_exactly b p limit a.bags a.keys a.work).1 (a.opens, a.within) in
+    not_refused a.bags a.keys e (verdict_sole b p limit _ _ a.work n w v).0
+
+abbrev pub Answer : Type 0
+Answer = Result (List ℕ) TransferError
+
+abbrev pub err : TransferError → Answer
+err e = Err e
+
+pub memory_rng : err Memory ≡ err Rng → ⊥
+memory_rng e = cc
+
+long_rng : err TooLong ≡ err Rng → ⊥
+long_rng e = cc
+
+pub ok_rng : (c : List ℕ) → Ok c ≡ err Rng → ⊥
+ok_rng c e = cc
+
+pub if_told : (left : Option (List ℕ)) (P Q : List ℕ → Type 0) → ((d : List ℕ) → P d → Q d) → IfSome left P → IfSome left Q
+if_told None P Q f h = tt
+if_told (Some d) P Q f h = f d h
+
+pub told_all : (left : Option (List ℕ)) (Q : List ℕ → Type 0) → ((d : List ℕ) → Q d) → IfSome left Q
+told_all None Q f = tt
+told_all (Some d) Q f = f d
+
+pub settled_memory : (b p : List ℕ) (limit : ℕ) (left : Option (List ℕ)) → IsSettled b p limit left (Err Memory)
+settled_memory b p limit left = record {
+  refuses = λ e f. inl refl;
+  fits = λ a h. inr (inl refl);
+  grows = λ a h. inl (inl refl);
+  lacks = λ a. told_all left _ (λ d h. inl refl);
+  suffices = λ a. told_all left _ (λ d h e. memory_rng e);
+}
+
+is_memory : {T : Type 0} (e : TransferError) (r : Result T TransferError) → r ≡ Err e → IsOk r ⊎ (r ≡ Err Memory) → e ≡ Memory
+is_memory e (Ok x) is h = absurd cc
+is_memory e (Err f) is (inl h) = absurd cc
+is_memory e (Err f) is (inr h) = cc
+
+refusal_as : {T : Type 0} (e f : TransferError) (r : Result T TransferError) → r ≡ Err e → IsRefusal r f → IsRefusal (err e) f
+refusal_as e f r is (inl h) = let k : e ≡ Memory = cc in inl (ap err k)
+refusal_as e f r is (inr h) = let k : e ≡ f = cc in inr (ap err k)
+
+pub settled_refused : {T : Type 0} (b p : List ℕ) (limit : ℕ) (left : Option (List ℕ)) (e : TransferError) (r : Result T TransferError) → r ≡ Err e → IsDecided b p limit r → IsSettled b p limit left (Err e)
+settled_refused b p limit left e r is d = record {
+  refuses = λ f h. refusal_as e f r is (d.refuses f h);
+  fits = λ a h. inr (inl (ap err (is_memory e r is (d.completes (no_cause b p limit a)))));
+  grows = λ a h. inl (inl (ap err (is_memory e r is (d.completes (no_cause b p limit a)))));
+  lacks = λ a. told_all left _ (λ l h. inl (ap err (is_memory e r is (d.completes (no_cause b p limit a)))));
+  suffices = λ a. told_all left _ (λ l h f. memory_rng (sym (ap err (is_memory e r is (d.completes (no_cause b p limit a)))) ∙ f));
+}
+
+pub settled_short : (b p : List ℕ) (limit : ℕ) (left : Option (List ℕ)) (before now : ℕ) (o : IsAllowed b p limit) → Lacks before now left (draws b p limit o) → IsSettled b p limit left (Err Rng)
+settled_short b p limit left before now o l = record {
+  refuses = λ f h. absurd (no_refusal b p limit f o h);
+  fits = λ a h. inr (inr refl);
+  grows = λ a h. inr refl;
+  lacks = λ a. told_all left _ (λ d h. inr refl);
+  suffices = λ a. if_told left _ _ (λ d short enough e. omega (arith, short, enough, draws_once b p limit a o)) l.1;
+}
+
+enough_in : (left after : Option (List ℕ)) (drawn : List ℕ) → Consumes left after drawn → IfSome left (λ d. length drawn ≤ length d)
+enough_in None after drawn h = tt
+enough_in (Some d) None drawn h = absurd h
+enough_in (Some d) (Some e) drawn h = omega (arith, ap length h, length-append drawn e)
+
+pub settled_long : (b p : List ℕ) (limit : ℕ) (left after : Option (List ℕ)) (drawn : List ℕ) (o : IsAllowed b p limit) → length drawn ≡ draws b p limit o → Consumes left after drawn → store_limit < size b p limit o
+    → IsSettled b p limit left (Err TooLong)
+settled_long b p limit left after drawn o l c long = record {
+  refuses = λ f h. absurd (no_refusal b p limit f o h);
+  fits = λ a h. absurd (omega (arith, h, long, size_once b p limit a o));
+  grows = λ a h. inl (inr refl);
+  lacks = λ a. if_told left _ _ (λ d enough h. absurd (omega (arith, enough, h, l, draws_once b p limit a o))) (enough_in left after drawn c);
+  suffices = λ a. told_all left _ (λ d h e. long_rng e);
+}
+
+pub settled_done : (b p : List ℕ) (limit : ℕ) (left after : Option (List ℕ)) (drawn c : List ℕ) (o : IsAllowed b p limit) → length drawn ≡ draws b p limit o → Consumes left after drawn
+    → length c ≡ size b p limit o → length c ≤ store_limit → IsSettled b p limit left (Ok c)
+settled_done b p limit left after drawn c o l k sized short = record {
+  refuses = λ f h. absurd (no_refusal b p limit f o h);
+  fits = λ a h. inl refl;
+  grows = λ a h. absurd (omega (arith, h, sized, short, size_once b p limit a o));
+  lacks = λ a. if_told left _ _ (λ d enough h. absurd (omega (arith, enough, h, l, draws_once b p limit a o))) (enough_in left after drawn k);
+  suffices = λ a. told_all left _ (λ d h e. ok_rng c e);
+}
+
+-- ---- a change
+
+pub draws_seen : (b p : List ℕ) (gss : List (List SafeBag)) (ks : List (List ℕ)) (n version : ℕ) (text : List ℕ) (m : MacData) (cs : List ContentInfo) (o : StoreOpens b p gss ks n) → Seen b p gss ks n o version text m cs
+    → change_draws cs gss ≡ change_draws o.parts gss
+draws_seen b p gss ks n version text m cs o s = ap (λ (x : List ContentInfo). change_draws x gss) (sym s.parts)
+
+pub size_seen : (b p : List ℕ) (gss : List (List SafeBag)) (ks : List (List ℕ)) (n version : ℕ) (text : List ℕ) (m : MacData) (cs : List ContentInfo) (o : StoreOpens b p gss ks n) → Seen b p gss ks n o version text m cs
+    → changed_size version m p cs gss ≡ changed_size o.store.version o.mac p o.parts gss
+size_seen b p gss ks n version text m cs o s =
+    ap (λ (x : ℕ). changed_size x m p cs gss) (sym s.version) ∙ ap (λ (x : MacData). changed_size o.store.version x p cs gss) (sym s.mac) ∙ ap (λ (x : List ContentInfo). changed_size o.store.version o.mac p x gss) (sym s.parts)
+
+pub rekeyed : (b p q : List ℕ) (limit : ℕ) (left after : Option (List ℕ)) (steps steps_after : ℕ) (gss : List (List SafeBag)) (ks : List (List ℕ)) (n version : ℕ) (text : List ℕ) (m : MacData) (cs : List ContentInfo) (drawn c : List ℕ)
+    (o : StoreOpens b p gss ks n) → n ≤ limit → Seen b p gss ks n o version text m cs → length drawn ≡ change_draws cs gss → Consumes left after drawn → steps_after ≡ steps + n
+    → TextSealed p q version m cs drawn c → Rekeys b p q limit left after steps steps_after c
+rekeyed b p q limit left after steps steps_after gss ks n version text m cs drawn c o within s l k counted t =
+    let a : IsAllowed b p limit = record { bags = gss; keys = ks; work = n; opens = o; within = within } in
+    let made = store_anew o.store.version o.mac q t.salt t.contents in
+    let is : c ≡ store_canon made = t.is ∙ ap (λ (x : ℕ). store_canon (store_anew x m q t.salt t.contents)) (sym s.version) ∙ ap (λ (x : MacData). store_canon (store_anew o.store.version x q t.salt t.contents)) (sym s.mac) in
+    let bags = subst (λ (x : List ContentInfo). Each (HoldsBags p) x gss) s.parts o.opening.bags in
+    let sized : length c ≡ size b p limit a = ap length is ∙ store_size p q o.store.version o.mac cs t.contents gss t.taken t.salt o.mac_ok.known t.sealed bags t.of_8
+    ∙ ap (λ (x : List ContentInfo). changed_size o.store.version o.mac p x gss) (sym s.parts) in
+    let outer : length (contents_canon t.contents) ≤ size b p limit a = omega (
+      arith,
+      contents_same p q cs t.contents gss t.taken t.sealed bags,
+      contents_in o.store.version o.mac p cs gss,
+      ap (λ (x : List ContentInfo). changed_size o.store.version o.mac p x gss) (sym s.parts),
+    ) in
+    let lists = subst (λ (x : List ContentInfo). IsContents o.text x) s.parts o.opening.contents in
+    let ch = store_changes b o.text p q o.store o.mac cs t.contents t.taken t.salt o.is o.is_data o.has o.mac_ok.known o.mac_ok.some_rounds lists t.sealed t.of_8 (omega (arith, outer, sized, t.short)) (omega (arith, ap length is, t.short)) in
+    record {
+      allowed = a;
+      drawn = drawn;
+      exactly = l ∙ draws_seen b p gss ks n version text m cs o s;
+      took = k;
+      changes = subst (λ (x : List ℕ). Changes b p x q drawn) (sym is) (subst (λ (x : List ℕ). Changes b p (store_canon made) q x) (sym t.order) ch);
+      sized = sized;
+      short = t.short;
+      counted = counted;
+    }
+
+-- ---- the refusals back the opening
+
+pub refused_short : (F : TransferError → Type 0) (R S T : Type 0) (e : TransferError) → (R → S) → RefusedBy (λ e. ⊥) R e → RefusedFor F S T e
+refused_short F R S T Memory f h = tt
+refused_short F R S T Rng f h = f h
+refused_short F R S T TooLong f h = absurd h
+refused_short F R S T Malformed f h = absurd h
+refused_short F R S T Unsupported f h = absurd h
+refused_short F R S T MacMissing f h = absurd h
+refused_short F R S T MacUnsupported f h = absurd h
+refused_short F R S T ZeroIterations f h = absurd h
+refused_short F R S T WorkLimit f h = absurd h
+refused_short F R S T MacMismatch f h = absurd h
+refused_short F R S T ContentMalformed f h = absurd h
+refused_short F R S T DecryptFailed f h = absurd h
+refused_short F R S T KeyMalformed f h = absurd h
+
+pub refused_long : (F : TransferError → Type 0) (P R T : Type 0) (e : TransferError) → (P → T) → LongOnly P e → RefusedFor F R T e
+refused_long F P R T Memory f h = tt
+refused_long F P R T TooLong f h = inr (f h)
+refused_long F P R T Rng f h = absurd h
+refused_long F P R T Malformed f h = absurd h
+refused_long F P R T Unsupported f h = absurd h
+refused_long F P R T MacMissing f h = absurd h
+refused_long F P R T MacUnsupported f h = absurd h
+refused_long F P R T ZeroIterations f h = absurd h
+refused_long F P R T WorkLimit f h = absurd h
+refused_long F P R T MacMismatch f h = absurd h
+refused_long F P R T ContentMalformed f h = absurd h
+refused_long F P R T DecryptFailed f h = absurd h
+refused_long F P R T KeyMalformed f h = absurd h
+
+pub settled_drawn : (R : Type 0) (b p : List ℕ) (limit : ℕ) (left : Option (List ℕ)) (e : TransferError) → (R → IsSettled b p limit left (Err Rng)) → RefusedBy (λ e. ⊥) R e → IsSettled b p limit left (Err e)
+settled_drawn R b p limit left Memory f h = settled_memory b p limit left
+settled_drawn R b p limit left Rng f h = f h
+settled_drawn R b p limit left TooLong f h = absurd h
+settled_drawn R b p limit left Malformed f h = absurd h
+settled_drawn R b p limit left Unsupported f h = absurd h
+settled_drawn R b p limit left MacMissing f h = absurd h
+settled_drawn R b p limit left MacUnsupported f h = absurd h
+settled_drawn R b p limit left ZeroIterations f h = absurd h
+settled_drawn R b p limit left WorkLimit f h = absurd h
+settled_drawn R b p limit left MacMismatch f h = absurd h
+settled_drawn R b p limit left ContentMalformed f h = absurd h
+settled_drawn R b p limit left DecryptFailed f h = absurd h
+settled_drawn R b p limit left KeyMalformed f h = absurd h
+
+pub settled_text : (P : Type 0) (b p : List ℕ) (limit : ℕ) (left : Option (List ℕ)) (e : TransferError) → (P → IsSettled b p limit left (Err TooLong)) → LongOnly P e → IsSettled b p limit left (Err e)
+settled_text P b p limit left Memory f h = settled_memory b p limit left
+settled_text P b p limit left TooLong f h = f h
+settled_text P b p limit left Rng f h = absurd h
+settled_text P b p limit left Malformed f h = absurd h
+settled_text P b p limit left Unsupported f h = absurd h
+settled_text P b p limit left MacMissing f h = absurd h
+settled_text P b p limit left MacUnsupported f h = absurd h
+settled_text P b p limit left ZeroIterations f h = absurd h
+settled_text P b p limit left WorkLimit f h = absurd h
+settled_text P b p limit left MacMismatch f h = absurd h
+settled_text P b p limit left ContentMalformed f h = absurd h
+settled_text P b p limit left DecryptFailed f h = absurd h
+settled_text P b p limit left KeyMalformed f h = absurd h
+
+-- what is known back the opening: the store is allowed, and this is what it draws and how long it becomes
+pub record Known (b p : List ℕ) (limit steps steps_after : ℕ) (gss : List (List SafeBag)) (ks : List (List ℕ)) (version : ℕ) (m : MacData) (cs : List ContentInfo) : Type 0 where
+  pub allowed : IsAllowed b p limit
+  pub counted : steps_after ≡ steps + allowed.work
+  pub draws_are : change_draws cs gss ≡ draws b p limit allowed
+  pub size_is : changed_size version m p cs gss ≡ size b p limit allowed
+  pub held : HeldOpen p cs gss ks
+  pub rekeys : (q : List ℕ) (left after : Option (List ℕ)) (drawn c : List ℕ) → length drawn ≡ change_draws cs gss → Consumes left after drawn → TextSealed p q version m cs drawn c
+      → Rekeys b p q limit left after steps steps_after c
+
+pub known_of : (b p : List ℕ) (limit steps steps_after : ℕ) (gss : List (List SafeBag)) (ks : List (List ℕ)) (version : ℕ) (text : List ℕ) (m : MacData) (cs : List ContentInfo)
+    → (n : ℕ) × StoreOpens b p gss ks n × (n ≤ limit) × (steps_after ≡ steps + n)
+    → ((s : PFX) → IsStore b s → (s.version ≡ version) × (s.auth_safe ≡ content.Data text) × (s.mac_data ≡ Some m)) → IsContents text cs → Known b p limit steps steps_after gss ks version m cs
+known_of b p limit steps steps_after gss ks version text m cs (n, o, within, counted) outer lists =
+    let s = seen_of b p gss ks n o version text m cs outer lists in
+    record {
+      allowed = record { bags = gss; keys = ks; work = n; opens = o; within = within };
+      counted = counted;
+      draws_are = draws_seen b p gss ks n version text m cs o s;
+      size_is = size_seen b p gss ks n version text m cs o s;
+      held = s.held;
+      rekeys = λ q left after drawn c l k t. rekeyed b p q limit left after steps steps_after gss ks n version text m cs drawn c o within s l k counted t;
+    }
+
+pub runs_short : (b p : List ℕ) (limit steps steps_after : ℕ) (gss : List (List SafeBag)) (ks : List (List ℕ)) (version : ℕ) (m : MacData) (cs : List ContentInfo) (left : Option (List ℕ)) (before now k : ℕ)
+    → Known b p limit steps steps_after gss ks version m cs → k ≡ change_draws cs gss → Lacks before now left k → RunsShort b p limit left before now steps steps_after
+runs_short b p limit steps steps_after gss ks version m cs left before now k w e l = record {
+  allowed = w.allowed;
+  short = subst (λ (x : ℕ). Lacks before now left x) (e ∙ w.draws_are) l;
+  counted = w.counted;
+}
+
+pub grows_long : (b p : List ℕ) (limit steps steps_after : ℕ) (gss : List (List SafeBag)) (ks : List (List ℕ)) (version : ℕ) (m : MacData) (cs : List ContentInfo) (left after : Option (List ℕ)) (drawn : List ℕ)
+    → Known b p limit steps steps_after gss ks version m cs → length drawn ≡ change_draws cs gss → Consumes left after drawn → ((p : List ℕ) → HeldOpen p cs gss ks → store_limit < changed_size version m p cs gss)
+    → GrowsTooLong b p limit left after steps steps_after
+grows_long b p limit steps steps_after gss ks version m cs left after drawn w l k f = record {
+  allowed = w.allowed;
+  drawn = drawn;
+  exactly = l ∙ w.draws_are;
+  took = k;
+  long = omega (arith, f p w.held, w.size_is);
+  counted = w.counted;
+}
+
+pub short_settles : (b p : List ℕ) (limit steps steps_after : ℕ) (left : Option (List ℕ)) (before now : ℕ) → RunsShort b p limit left before now steps steps_after → IsSettled b p limit left (Err Rng)
+short_settles b p limit steps steps_after left before now r = settled_short b p limit left before now r.allowed r.short
+
+pub long_settles : (b p : List ℕ) (limit steps steps_after : ℕ) (left after : Option (List ℕ)) → GrowsTooLong b p limit left after steps steps_after → IsSettled b p limit left (Err TooLong)
+long_settles b p limit steps steps_after left after r = settled_long b p limit left after r.drawn r.allowed r.exactly r.took r.long
+
+pub done_settles : (b p q : List ℕ) (limit steps steps_after : ℕ) (left after : Option (List ℕ)) (c : List ℕ) → Rekeys b p q limit left after steps steps_after c → IsSettled b p limit left (Ok c)
+done_settles b p q limit steps steps_after left after c r = settled_done b p limit left after r.drawn c r.allowed r.exactly r.took r.sized r.short
+
+-- ---- refusals on which nothing was drawn
+
+undrawn_of : (R T P : Type 0) (e : TransferError) → RefusedFor (λ e. ⊥) R T e → IsUndrawn e → P
+undrawn_of R T P Memory h u = absurd (u.not_memory refl)
+undrawn_of R T P Rng h u = absurd (u.not_rng refl)
+undrawn_of R T P TooLong h u = absurd (u.not_too_long refl)
+undrawn_of R T P Malformed h u = absurd h
+undrawn_of R T P Unsupported h u = absurd h
+undrawn_of R T P MacMissing h u = absurd h
+undrawn_of R T P MacUnsupported h u = absurd h
+undrawn_of R T P ZeroIterations h u = absurd h
+undrawn_of R T P WorkLimit h u = absurd h
+undrawn_of R T P MacMismatch h u = absurd h
+undrawn_of R T P ContentMalformed h u = absurd h
+undrawn_of R T P DecryptFailed h u = absurd h
+undrawn_of R T P KeyMalformed h u = absurd h
+
+pub undrawn_short : (R P : Type 0) (e : TransferError) → RefusedBy (λ e. ⊥) R e → IsUndrawn e → P
+undrawn_short R P e h u = undrawn_of R ⊤ P e (refused_short (λ e. ⊥) R R ⊤ e (λ r. r) h) u
+
+pub undrawn_long : (T P : Type 0) (e : TransferError) → LongOnly T e → IsUndrawn e → P
+undrawn_long T P e h u = undrawn_of ⊤ T P e (refused_long (λ e. ⊥) T ⊤ T e (λ t. t) h) u

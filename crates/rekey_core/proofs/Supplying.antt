@@ -1,0 +1,376 @@
+-- Bags and contents that are sealed anew one after the other.
+use Rattle.std.proofs.Common.{◌≡◌, ℕ, ◌+◌, ◌<◌, ◌≤◌, ◌^◌, List, [], ◌∷◌, ◌++◌, length, Some, true, refl, sym, ap, subst, ◌∙◌, arith, append-nil}
+use Rattle.std.specs.List.{sum_by}
+use Rattle.std.proofs.lemmas.List.{append_assoc}
+use Rattle.std.proofs.lemmas.List.Sums.{sum_by-append, sum_by-cons}
+use Rattle.asn1_core.specs.Sets.{Each}
+use Rattle.p12.specs.AlgorithmIdentifier.{count, openable, unlock}
+use Rattle.p12.specs.Canonical.{bag_canon, content_canon, contents_canon}
+use Rattle.p12.specs.Collected.{HoldsBags}
+use Rattle.p12.specs.declared.content_info.ContentInfo.{ContentInfo}
+use Rattle.p12.specs.declared.encrypted_private_key_info.EncryptedPrivateKeyInfo.{EncryptedPrivateKeyInfo}
+use Rattle.p12.specs.declared.safe_bag.SafeBag.{SafeBag}
+use Rattle.p12.specs.declared.safe_bag.SafeBagKind.{SafeBagKind}
+use Rattle.p12.specs.declared.safe_bag.SafeBagKind.TheVariants as kind
+use Rattle.p12.proofs.DefinitionLaws.{unlock_opened}
+use Rattle.transfer.specs.Opening.{KeyOpens, all_shrouded, shrouded_among, shrouded_in}
+use Rattle.transfer.specs.declared.store.error.TransferError.{TransferError}
+use Rattle.transfer.specs.declared.store.error.TransferError.TheVariants.{TooLong, Malformed, Unsupported, MacMissing, MacUnsupported, ZeroIterations, WorkLimit, MacMismatch, ContentMalformed, DecryptFailed, KeyMalformed, Rng, Memory}
+use Rattle.rekey_core.specs.Anew.{content_draws, drawn_for, key_draws}
+use Rattle.rekey_core.specs.Like.{EachDrawn, IsAnew, KindLike}
+use Rattle.rekey_core.specs.Sealing.{BagSealed, BagsSealed, ContentSealed, ContentsSealed, LongOnly, Supplies, SuppliesAll, bag_draws, bags_draw}
+use Rattle.rekey_core.specs.Size.{blank_bag, blank_content, blank_contents, blank_text, sealed_size}
+use Rattle.rekey_core.proofs.Sizes.{bag_in, blank_data_size, content_in, key_in}
+
+pub long_map : (P Q : Type 0) (e : TransferError) → (P → Q) → LongOnly P e → LongOnly Q e
+long_map P Q TooLong f h = f h
+long_map P Q Memory f h = tt
+long_map P Q Malformed f h = absurd h
+long_map P Q Unsupported f h = absurd h
+long_map P Q MacMissing f h = absurd h
+long_map P Q MacUnsupported f h = absurd h
+long_map P Q ZeroIterations f h = absurd h
+long_map P Q WorkLimit f h = absurd h
+long_map P Q MacMismatch f h = absurd h
+long_map P Q ContentMalformed f h = absurd h
+long_map P Q DecryptFailed f h = absurd h
+long_map P Q KeyMalformed f h = absurd h
+long_map P Q Rng f h = absurd h
+
+-- ---- how many octets are drawn
+
+pub bags_draw_cons : (g : SafeBag) (gs : List SafeBag) → bags_draw (g ∷ gs) ≡ bag_draws g + bags_draw gs
+bags_draw_cons g gs = sum_by-cons bag_draws g gs
+
+pub key_draw : (g : SafeBag) (k : EncryptedPrivateKeyInfo) → g.bag ≡ kind.Pkcs8ShroudedKeyBag k → bag_draws g ≡ drawn_for k.encryption_algorithm
+key_draw g k e = let zero_more : 0 + drawn_for k.encryption_algorithm ≡ drawn_for k.encryption_algorithm = omega arith in ap (λ (x : SafeBagKind). sum_by key_draws (shrouded_in x)) e ∙ zero_more
+
+bags_keys : (gs : List SafeBag) → bags_draw gs ≡ sum_by key_draws (shrouded_among gs)
+bags_keys [] = refl
+bags_keys (g ∷ gs) = bags_draw_cons g gs ∙ ap (λ (n : ℕ). bag_draws g + n) (bags_keys gs) ∙ sym (sum_by-append key_draws (shrouded_in g.bag) (shrouded_among gs))
+
+pub all_keys : (gss : List (List SafeBag)) → sum_by bags_draw gss ≡ sum_by key_draws (all_shrouded gss)
+all_keys [] = refl
+all_keys (gs ∷ gss) = sum_by-cons bags_draw gs gss ∙ ap (λ (n : ℕ). n + sum_by bags_draw gss) (bags_keys gs) ∙ ap (λ (n : ℕ). sum_by key_draws (shrouded_among gs) + n) (all_keys gss)
+    ∙ sym (sum_by-append key_draws (shrouded_among gs) (all_shrouded gss))
+
+pub draws_cons : (c : ContentInfo) (cs : List ContentInfo) → sum_by content_draws (c ∷ cs) ≡ content_draws c + sum_by content_draws cs
+draws_cons c cs = sum_by-cons content_draws c cs
+
+pub all_draws_cons : (gs : List SafeBag) (gss : List (List SafeBag)) → sum_by bags_draw (gs ∷ gss) ≡ bags_draw gs + sum_by bags_draw gss
+all_draws_cons gs gss = sum_by-cons bags_draw gs gss
+
+-- ---- the supply of keys
+
+record Parted {A B : Type 0} (R : A → B → Type 0) (xs ys : List A) (zs : List B) : Type 0 where
+  pub front : List B
+  pub back : List B
+  pub are : zs ≡ front ++ back
+  pub first : Each R xs front
+  pub second : Each R ys back
+
+each_split : {A B : Type 0} (R : A → B → Type 0) (xs ys : List A) (zs : List B) → Each R (xs ++ ys) zs → Parted R xs ys zs
+each_split R [] ys zs e = record { front = []; back = zs; are = refl; first = tt; second = e }
+each_split R (x ∷ xs) ys [] e = absurd e
+each_split R (x ∷ xs) ys (z ∷ zs) e =
+    let p = each_split R xs ys zs e.1 in
+    record { front = z ∷ p.front; back = p.back; are = ap (λ l. z ∷ l) p.are; first = (e.0, p.first); second = p.second }
+
+pub record SuppliesBoth (p : List ℕ) (g : SafeBag) (back : List SafeBag) (keys more : List (List ℕ)) : Type 0 where
+  pub mid : List (List ℕ)
+  pub one : Supplies p (g ∷ []) keys mid
+  pub rest : Supplies p back mid more
+
+pub supplies_split : (p : List ℕ) (g : SafeBag) (back : List SafeBag) (keys more : List (List ℕ)) → Supplies p (g ∷ back) keys more → SuppliesBoth p g back keys more
+supplies_split p g back keys more s =
+    let t = each_split (KeyOpens p) (shrouded_in g.bag) (shrouded_among back) s.front s.are_opened in
+    record {
+      mid = t.back ++ more;
+      one = record {
+        front = t.front;
+        splits = s.splits ∙ ap (λ l. l ++ more) t.are ∙ append_assoc t.front t.back more;
+        are_opened = subst (λ (l : List EncryptedPrivateKeyInfo). Each (KeyOpens p) l t.front) (sym (append-nil (shrouded_in g.bag))) t.first;
+      };
+      rest = record { front = t.back; splits = refl; are_opened = t.second };
+    }
+
+pub record SuppliesMany (p : List ℕ) (gs : List SafeBag) (gss : List (List SafeBag)) (keys more : List (List ℕ)) : Type 0 where
+  pub mid : List (List ℕ)
+  pub one : Supplies p gs keys mid
+  pub rest : SuppliesAll p gss mid more
+
+pub supplies_all_split : (p : List ℕ) (gs : List SafeBag) (gss : List (List SafeBag)) (keys more : List (List ℕ)) → SuppliesAll p (gs ∷ gss) keys more → SuppliesMany p gs gss keys more
+supplies_all_split p gs gss keys more s =
+    let t = each_split (KeyOpens p) (shrouded_among gs) (all_shrouded gss) s.front s.are_opened in
+    record {
+      mid = t.back ++ more;
+      one = record { front = t.front; splits = s.splits ∙ ap (λ l. l ++ more) t.are ∙ append_assoc t.front t.back more; are_opened = t.first };
+      rest = record { front = t.back; splits = refl; are_opened = t.second };
+    }
+
+none_left : (p : List ℕ) (front : List (List ℕ)) → Each (KeyOpens p) [] front → front ≡ []
+none_left p [] e = refl
+none_left p (f ∷ front) e = absurd e
+
+supplies_none : (p : List ℕ) (keys more : List (List ℕ)) (front : List (List ℕ)) → keys ≡ front ++ more → Each (KeyOpens p) [] front → keys ≡ more
+supplies_none p keys more front e o = e ∙ ap (λ l. l ++ more) (none_left p front o)
+
+-- ---- one bag
+
+pub plain_bag : (p q : List ℕ) (g : SafeBag) (keys more : List (List ℕ)) → shrouded_in g.bag ≡ [] → Supplies p (g ∷ []) keys more → (keys ≡ more) × BagSealed p q [] g g
+plain_bag p q g keys more none s = plain g.bag refl
+  where
+    first : Each (KeyOpens p) [] s.front
+    first = subst (λ (l : List EncryptedPrivateKeyInfo). Each (KeyOpens p) l s.front) (append-nil (shrouded_in g.bag) ∙ none) s.are_opened
+
+    value : (k : SafeBagKind) → shrouded_in k ≡ [] → KindLike p q [] k k
+    value (kind.CertBag c) e = (refl, refl)
+    value (kind.OtherBagKind o) e = (refl, refl)
+    value (kind.Pkcs8ShroudedKeyBag k) e = absurd cc
+
+    plain : (k : SafeBagKind) → g.bag ≡ k → (keys ≡ more) × BagSealed p q [] g g
+    plain k e = (supplies_none p keys more s.front s.splits first, record { attributes = refl; value = value g.bag none })
+
+pub record FirstKey (p : List ℕ) (k : EncryptedPrivateKeyInfo) (keys more : List (List ℕ)) : Type 0 where
+  pub key : List ℕ
+  pub is : keys ≡ key ∷ more
+  pub opens : KeyOpens p k key
+
+key_of : (p : List ℕ) (k : EncryptedPrivateKeyInfo) (keys more front : List (List ℕ)) → keys ≡ front ++ more → Each (KeyOpens p) (k ∷ []) front → FirstKey p k keys more
+key_of p k keys more [] e o = absurd o
+key_of p k keys more (f ∷ []) e o = record { key = f; is = e; opens = o.0 }
+key_of p k keys more (f ∷ g ∷ front) e o = absurd o.1
+
+pub first_key : (p : List ℕ) (g : SafeBag) (k : EncryptedPrivateKeyInfo) (keys more : List (List ℕ)) → g.bag ≡ kind.Pkcs8ShroudedKeyBag k → Supplies p (g ∷ []) keys more → FirstKey p k keys more
+first_key p g k keys more e s =
+    key_of p k keys more s.front s.splits (subst (λ (x : SafeBagKind). Each (KeyOpens p) (shrouded_in x ++ []) s.front) e s.are_opened)
+
+-- what is sealed can be opened
+pub bag_opens : (g : SafeBag) (k : EncryptedPrivateKeyInfo) (keys : List (List ℕ)) → g.bag ≡ kind.Pkcs8ShroudedKeyBag k → (p : List ℕ) × (more : List (List ℕ)) × Supplies p (g ∷ []) keys more
+    → (openable k.encryption_algorithm ≡ true) × (0 < count k.encryption_algorithm)
+bag_opens g k keys is (p, more, s) =
+    let f = first_key p g k keys more is s in
+    let o = unlock_opened k.encryption_algorithm p k.encrypted_data f.key f.opens.0 in
+    (o.openable, o.some_rounds)
+
+heads : (x y : List ℕ) (xs ys : List (List ℕ)) → x ∷ xs ≡ y ∷ ys → x ≡ y
+heads x y xs ys e = cc
+
+tails : (x y : List ℕ) (xs ys : List (List ℕ)) → x ∷ xs ≡ y ∷ ys → xs ≡ ys
+tails x y xs ys e = cc
+
+pub key_bag : (p q z : List ℕ) (g h : SafeBag) (k l : EncryptedPrivateKeyInfo) (key : List ℕ) (keys rest more : List (List ℕ)) → g.bag ≡ kind.Pkcs8ShroudedKeyBag k → h.bag ≡ kind.Pkcs8ShroudedKeyBag l
+    → h.attributes ≡ g.attributes → keys ≡ key ∷ rest → Supplies p (g ∷ []) keys more → IsAnew z k.encryption_algorithm l.encryption_algorithm → unlock l.encryption_algorithm q l.encrypted_data ≡ Some key
+    → (rest ≡ more) × BagSealed p q z g h
+key_bag p q z g h k l key keys rest more is il same e s n o =
+    let f = first_key p g k keys more is s in
+    let eq = sym e ∙ f.is in
+    let opens = subst (λ (x : List ℕ). unlock k.encryption_algorithm p k.encrypted_data ≡ Some x) (sym (heads key f.key rest more eq)) f.opens.0 in
+    let v : KindLike p q z (kind.Pkcs8ShroudedKeyBag k) (kind.Pkcs8ShroudedKeyBag l) = (n, record { text = key; opens = opens; opens_anew = o }) in (
+      tails key f.key rest more eq,
+      record {
+        attributes = same;
+        value = subst (λ (x : SafeBagKind). KindLike p q z x h.bag) (sym is) (subst (λ (x : SafeBagKind). KindLike p q z (kind.Pkcs8ShroudedKeyBag k) x) (sym il) v);
+      },
+    )
+
+pub key_long : (p : List ℕ) (g : SafeBag) (k : EncryptedPrivateKeyInfo) (key : List ℕ) (keys rest more : List (List ℕ)) → g.bag ≡ kind.Pkcs8ShroudedKeyBag k → keys ≡ key ∷ rest → Supplies p (g ∷ []) keys more
+    → 2 ^ 32 ≤ sealed_size k.encryption_algorithm (length key) → 2 ^ 32 ≤ length (bag_canon (blank_bag p g))
+key_long p g k key keys rest more is e s h =
+    let f = first_key p g k keys more is s in
+    let opens = subst (λ (x : List ℕ). unlock k.encryption_algorithm p k.encrypted_data ≡ Some x) (sym (heads key f.key rest more (sym e ∙ f.is))) f.opens.0 in
+    omega (arith, h, blank_data_size p k key opens, key_in p g k is)
+
+-- ---- bags, one after the other
+
+pub record BagsOn (q : List ℕ) (gs rest : List SafeBag) (keys keys_now : List (List ℕ)) (drawn drawn_now : List ℕ) (made : List SafeBag) : Type 0 where
+  pub before : List SafeBag
+  pub split : gs ≡ before ++ rest
+  pub room : bags_draw rest ≤ length drawn_now
+  pub used : length drawn + bags_draw rest ≡ bags_draw gs + length drawn_now
+  pub goes : (p : List ℕ) (more : List (List ℕ)) → Supplies p gs keys more → Supplies p rest keys_now more
+      × ((hs : List SafeBag) (d tail : List ℕ) → drawn_now ≡ d ++ tail → EachDrawn (BagSealed p q) rest hs d → (z : List ℕ) × (drawn ≡ z ++ tail) × EachDrawn (BagSealed p q) gs (made ++ hs) z)
+
+pub bags_start : (q : List ℕ) (gs : List SafeBag) (keys : List (List ℕ)) (drawn : List ℕ) → bags_draw gs ≤ length drawn → BagsOn q gs gs keys keys drawn drawn []
+bags_start q gs keys drawn room = record { before = []; split = refl; room = room; used = omega arith; goes = λ p more s. (s, λ hs d tail e t. (d, e, t)) }
+
+pub bags_step : (q : List ℕ) (gs rest : List SafeBag) (g : SafeBag) (back : List SafeBag) (keys keys_now keys_after : List (List ℕ)) (drawn drawn_now drawn_after : List ℕ) (made : List SafeBag) (h : SafeBag)
+    → BagsOn q gs rest keys keys_now drawn drawn_now made → rest ≡ g ∷ back
+    → ((p : List ℕ) (more : List (List ℕ)) → Supplies p (g ∷ []) keys_now more → (keys_after ≡ more) × (z : List ℕ) × (drawn_now ≡ z ++ drawn_after) × BagSealed p q z g h)
+    → length drawn_now ≡ bag_draws g + length drawn_after → BagsOn q gs back keys keys_after drawn drawn_after (made ++ h ∷ [])
+bags_step q gs rest g back keys keys_now keys_after drawn drawn_now drawn_after made h i e sealed used =
+    let draws : bags_draw rest ≡ bag_draws g + bags_draw back = ap bags_draw e ∙ bags_draw_cons g back in
+    record {
+      before = i.before ++ g ∷ [];
+      split = i.split ∙ ap (λ l. i.before ++ l) e ∙ sym (append_assoc i.before (g ∷ []) back);
+      room = omega (arith, i.room, draws, used);
+      used = omega (arith, i.used, draws, used);
+      goes = λ p more s. (
+          let r = i.goes p more s in
+          let b = supplies_split p g back keys_now more (subst (λ (l : List SafeBag). Supplies p l keys_now more) e r.0) in
+          let one = sealed p b.mid b.one in (
+            subst (λ (l : List (List ℕ)). Supplies p back l more) (sym one.0) b.rest,
+            λ hs d tail f t. (
+                let all = r.1 (h ∷ hs) (one.1 ++ d) tail (one.2 ∙ ap (λ l. one.1 ++ l) f ∙ sym (append_assoc one.1 d tail))
+                (subst (λ (l : List SafeBag). EachDrawn (BagSealed p q) l (h ∷ hs) (one.1 ++ d)) (sym e) (one.1, d, refl, one.3, t)) in
+                (all.0, all.1, subst (λ (l : List SafeBag). EachDrawn (BagSealed p q) gs l all.0) (sym (append_assoc made (h ∷ []) hs)) all.2)
+                ),
+          )
+          );
+    }
+
+pub bags_end : (q : List ℕ) (gs rest : List SafeBag) (keys keys_now : List (List ℕ)) (drawn drawn_now : List ℕ) (made : List SafeBag) → BagsOn q gs rest keys keys_now drawn drawn_now made → rest ≡ []
+    → (p : List ℕ) (more : List (List ℕ)) → Supplies p gs keys more → (keys_now ≡ more) × BagsSealed p q gs drawn drawn_now made
+bags_end q gs rest keys keys_now drawn drawn_now made i e p more s =
+    let r = i.goes p more s in
+    let o = subst (λ (l : List SafeBag). Supplies p l keys_now more) e r.0 in
+    let all = r.1 [] [] drawn_now refl (subst (λ (l : List SafeBag). EachDrawn (BagSealed p q) l [] []) (sym e) refl) in
+    (supplies_none p keys_now more o.front o.splits o.are_opened, record { took = all.0; splits = all.1; sealed = subst (λ (l : List SafeBag). EachDrawn (BagSealed p q) gs l all.0) (append-nil made) all.2 })
+
+pub bags_used : (q : List ℕ) (gs rest : List SafeBag) (keys keys_now : List (List ℕ)) (drawn drawn_now : List ℕ) (made : List SafeBag) → BagsOn q gs rest keys keys_now drawn drawn_now made → rest ≡ []
+    → length drawn ≡ bags_draw gs + length drawn_now
+bags_used q gs rest keys keys_now drawn drawn_now made i e = omega (arith, i.used, ap bags_draw e)
+
+pub bags_next : (q : List ℕ) (gs rest : List SafeBag) (g : SafeBag) (back : List SafeBag) (keys keys_now : List (List ℕ)) (drawn drawn_now : List ℕ) (made : List SafeBag)
+    → BagsOn q gs rest keys keys_now drawn drawn_now made → rest ≡ g ∷ back → (p : List ℕ) × (more : List (List ℕ)) × Supplies p gs keys more → (p : List ℕ) × (more : List (List ℕ)) × Supplies p (g ∷ []) keys_now more
+bags_next q gs rest g back keys keys_now drawn drawn_now made i e (p, more, s) =
+    let b = supplies_split p g back keys_now more (subst (λ (l : List SafeBag). Supplies p l keys_now more) e (i.goes p more s).0) in
+    (p, b.mid, b.one)
+
+pub bags_room : (q : List ℕ) (gs rest : List SafeBag) (g : SafeBag) (back : List SafeBag) (keys keys_now : List (List ℕ)) (drawn drawn_now : List ℕ) (made : List SafeBag)
+    → BagsOn q gs rest keys keys_now drawn drawn_now made → rest ≡ g ∷ back → bag_draws g ≤ length drawn_now
+bags_room q gs rest g back keys keys_now drawn drawn_now made i e = omega (arith, i.room, ap bags_draw e ∙ bags_draw_cons g back)
+
+pub bags_long : (q : List ℕ) (gs rest : List SafeBag) (g : SafeBag) (back : List SafeBag) (keys keys_now : List (List ℕ)) (drawn drawn_now : List ℕ) (made : List SafeBag) (f : TransferError)
+    → BagsOn q gs rest keys keys_now drawn drawn_now made → rest ≡ g ∷ back
+    → LongOnly ((p : List ℕ) (more : List (List ℕ)) → Supplies p (g ∷ []) keys_now more → 2 ^ 32 ≤ length (bag_canon (blank_bag p g))) f
+    → LongOnly ((p : List ℕ) (more : List (List ℕ)) → Supplies p gs keys more → 2 ^ 32 ≤ length (blank_text p gs)) f
+bags_long q gs rest g back keys keys_now drawn drawn_now made f i e h =
+    long_map _ _ f (λ all p more s. (
+    let b = supplies_split p g back keys_now more (subst (λ (l : List SafeBag). Supplies p l keys_now more) e (i.goes p more s).0) in
+    omega (arith, all p b.mid b.one, bag_in p i.before g back gs (i.split ∙ ap (λ l. i.before ++ l) e))
+    )) h
+
+-- ---- contents, one after the other
+
+pub record ContentsOn (q : List ℕ) (cs rest : List ContentInfo) (gss rest_bags : List (List SafeBag)) (keys keys_now : List (List ℕ)) (drawn drawn_now : List ℕ) (made : List ContentInfo) : Type 0 where
+  pub before : List ContentInfo
+  pub bags_before : List (List SafeBag)
+  pub split : cs ≡ before ++ rest
+  pub bags_split : gss ≡ bags_before ++ rest_bags
+  pub room : sum_by content_draws rest + sum_by bags_draw rest_bags ≤ length drawn_now
+  pub used : length drawn + (sum_by content_draws rest + sum_by bags_draw rest_bags) ≡ sum_by content_draws cs + sum_by bags_draw gss + length drawn_now
+  pub holds : (p : List ℕ) → Each (HoldsBags p) cs gss → Each (HoldsBags p) before bags_before × Each (HoldsBags p) rest rest_bags
+  pub goes : (p : List ℕ) (more : List (List ℕ)) → Each (HoldsBags p) cs gss → SuppliesAll p gss keys more → SuppliesAll p rest_bags keys_now more
+      × ((es : List ContentInfo) (d tail : List ℕ) → drawn_now ≡ d ++ tail → EachDrawn (ContentSealed p q) rest es d → (z : List ℕ) × (drawn ≡ z ++ tail) × EachDrawn (ContentSealed p q) cs (made ++ es) z)
+
+pub contents_start : (q : List ℕ) (cs : List ContentInfo) (gss : List (List SafeBag)) (keys : List (List ℕ)) (drawn : List ℕ) → sum_by content_draws cs + sum_by bags_draw gss ≤ length drawn
+    → ContentsOn q cs cs gss gss keys keys drawn drawn []
+contents_start q cs gss keys drawn room = record {
+  before = [];
+  bags_before = [];
+  split = refl;
+  bags_split = refl;
+  room = room;
+  used = omega arith;
+  holds = λ p h. (tt, h);
+  goes = λ p more h s. (s, λ es d tail e t. (d, e, t));
+}
+
+each_more : {A B : Type 0} (R : A → B → Type 0) (xs : List A) (x : A) (ys : List B) (y : B) → Each R xs ys → R x y → Each R (xs ++ x ∷ []) (ys ++ y ∷ [])
+each_more R [] x [] y e r = (r, tt)
+each_more R [] x (z ∷ ys) y e r = absurd e
+each_more R (w ∷ xs) x [] y e r = absurd e
+each_more R (w ∷ xs) x (z ∷ ys) y e r = (e.0, each_more R xs x ys y e.1 r)
+
+pub contents_step : (q : List ℕ) (cs rest : List ContentInfo) (c : ContentInfo) (back : List ContentInfo) (gss rest_bags : List (List SafeBag)) (gs : List SafeBag) (bags_after : List (List SafeBag))
+    (keys keys_now keys_after : List (List ℕ)) (drawn drawn_now drawn_after : List ℕ) (made : List ContentInfo) (e : ContentInfo)
+    → ContentsOn q cs rest gss rest_bags keys keys_now drawn drawn_now made → rest ≡ c ∷ back → rest_bags ≡ gs ∷ bags_after
+    → ((p : List ℕ) (more : List (List ℕ)) → HoldsBags p c gs → Supplies p gs keys_now more → (keys_after ≡ more) × (z : List ℕ) × (drawn_now ≡ z ++ drawn_after) × ContentSealed p q z c e)
+    → length drawn_now ≡ content_draws c + bags_draw gs + length drawn_after → ContentsOn q cs back gss bags_after keys keys_after drawn drawn_after (made ++ e ∷ [])
+contents_step q cs rest c back gss rest_bags gs bags_after keys keys_now keys_after drawn drawn_now drawn_after made e i is are sealed used =
+    let draws : sum_by content_draws rest ≡ content_draws c + sum_by content_draws back = ap (sum_by content_draws) is ∙ draws_cons c back in
+    let bag_draws : sum_by bags_draw rest_bags ≡ bags_draw gs + sum_by bags_draw bags_after = ap (sum_by bags_draw) are ∙ all_draws_cons gs bags_after in
+    let both : (p : List ℕ) → Each (HoldsBags p) cs gss → Each (HoldsBags p) (c ∷ back) (gs ∷ bags_after) =
+    λ p h. subst (λ (l : List ContentInfo). Each (HoldsBags p) l (gs ∷ bags_after)) is (subst (λ (l : List (List SafeBag)). Each (HoldsBags p) rest l) are (i.holds p h).1) in
+    record {
+      before = i.before ++ c ∷ [];
+      bags_before = i.bags_before ++ gs ∷ [];
+      split = i.split ∙ ap (λ l. i.before ++ l) is ∙ sym (append_assoc i.before (c ∷ []) back);
+      bags_split = i.bags_split ∙ ap (λ l. i.bags_before ++ l) are ∙ sym (append_assoc i.bags_before (gs ∷ []) bags_after);
+      room = omega (arith, i.room, draws, bag_draws, used);
+      used = omega (arith, i.used, draws, bag_draws, used);
+      holds = λ p h. (each_more (HoldsBags p) i.before c i.bags_before gs (i.holds p h).0 (both p h).0, (both p h).1);
+      goes = λ p more h s. (
+          let r = i.goes p more h s in
+          let b = supplies_all_split p gs bags_after keys_now more (subst (λ (l : List (List SafeBag)). SuppliesAll p l keys_now more) are r.0) in
+          let one = sealed p b.mid (both p h).0 b.one in (
+            subst (λ (l : List (List ℕ)). SuppliesAll p bags_after l more) (sym one.0) b.rest,
+            λ es d tail f t. (
+                let all = r.1 (e ∷ es) (one.1 ++ d) tail (one.2 ∙ ap (λ l. one.1 ++ l) f ∙ sym (append_assoc one.1 d tail))
+                (subst (λ (l : List ContentInfo). EachDrawn (ContentSealed p q) l (e ∷ es) (one.1 ++ d)) (sym is) (one.1, d, refl, one.3, t)) in
+                (all.0, all.1, subst (λ (l : List ContentInfo). EachDrawn (ContentSealed p q) cs l all.0) (sym (append_assoc made (e ∷ []) es)) all.2)
+                ),
+          )
+          );
+    }
+
+pub contents_end : (q : List ℕ) (cs rest : List ContentInfo) (gss rest_bags : List (List SafeBag)) (keys keys_now : List (List ℕ)) (drawn drawn_now : List ℕ) (made : List ContentInfo)
+    → ContentsOn q cs rest gss rest_bags keys keys_now drawn drawn_now made → rest ≡ [] → (p : List ℕ) (more : List (List ℕ)) → Each (HoldsBags p) cs gss → SuppliesAll p gss keys more
+    → ContentsSealed p q cs drawn drawn_now made
+contents_end q cs rest gss rest_bags keys keys_now drawn drawn_now made i e p more h s =
+    let all = (i.goes p more h s).1 [] [] drawn_now refl (subst (λ (l : List ContentInfo). EachDrawn (ContentSealed p q) l [] []) (sym e) refl) in
+    record { took = all.0; splits = all.1; sealed = subst (λ (l : List ContentInfo). EachDrawn (ContentSealed p q) cs l all.0) (append-nil made) all.2 }
+
+both_done : (p : List ℕ) (rest_bags : List (List SafeBag)) → Each (HoldsBags p) [] rest_bags → rest_bags ≡ []
+both_done p [] h = refl
+both_done p (gs ∷ gss) h = absurd h
+
+pub contents_used : (q : List ℕ) (cs rest : List ContentInfo) (gss rest_bags : List (List SafeBag)) (keys keys_now : List (List ℕ)) (drawn drawn_now : List ℕ) (made : List ContentInfo)
+    → ContentsOn q cs rest gss rest_bags keys keys_now drawn drawn_now made → rest ≡ [] → (p : List ℕ) × (more : List (List ℕ)) × Each (HoldsBags p) cs gss × SuppliesAll p gss keys more
+    → length drawn ≡ sum_by content_draws cs + sum_by bags_draw gss + length drawn_now
+contents_used q cs rest gss rest_bags keys keys_now drawn drawn_now made i e (p, more, h, s) =
+    let none = both_done p rest_bags (subst (λ (l : List ContentInfo). Each (HoldsBags p) l rest_bags) e (i.holds p h).1) in
+    omega (arith, i.used, ap (sum_by content_draws) e, ap (sum_by bags_draw) none)
+
+pub contents_next : (q : List ℕ) (cs rest : List ContentInfo) (c : ContentInfo) (back : List ContentInfo) (gss rest_bags : List (List SafeBag)) (gs : List SafeBag) (bags_after : List (List SafeBag))
+    (keys keys_now : List (List ℕ)) (drawn drawn_now : List ℕ) (made : List ContentInfo) → ContentsOn q cs rest gss rest_bags keys keys_now drawn drawn_now made → rest ≡ c ∷ back → rest_bags ≡ gs ∷ bags_after
+    → (p : List ℕ) × (more : List (List ℕ)) × Each (HoldsBags p) cs gss × SuppliesAll p gss keys more → (p : List ℕ) × (more : List (List ℕ)) × HoldsBags p c gs × Supplies p gs keys_now more
+contents_next q cs rest c back gss rest_bags gs bags_after keys keys_now drawn drawn_now made i is are (p, more, h, s) =
+    let both = subst (λ (l : List ContentInfo). Each (HoldsBags p) l (gs ∷ bags_after)) is (subst (λ (l : List (List SafeBag)). Each (HoldsBags p) rest l) are (i.holds p h).1) in
+    let b = supplies_all_split p gs bags_after keys_now more (subst (λ (l : List (List SafeBag)). SuppliesAll p l keys_now more) are (i.goes p more h s).0) in
+    (p, b.mid, both.0, b.one)
+
+pub contents_room : (q : List ℕ) (cs rest : List ContentInfo) (c : ContentInfo) (back : List ContentInfo) (gss rest_bags : List (List SafeBag)) (gs : List SafeBag) (bags_after : List (List SafeBag))
+    (keys keys_now : List (List ℕ)) (drawn drawn_now : List ℕ) (made : List ContentInfo) → ContentsOn q cs rest gss rest_bags keys keys_now drawn drawn_now made → rest ≡ c ∷ back → rest_bags ≡ gs ∷ bags_after
+    → content_draws c + bags_draw gs ≤ length drawn_now
+contents_room q cs rest c back gss rest_bags gs bags_after keys keys_now drawn drawn_now made i is are =
+    omega (arith, i.room, ap (sum_by content_draws) is ∙ draws_cons c back, ap (sum_by bags_draw) are ∙ all_draws_cons gs bags_after)
+
+-- there are bags for each content
+pub contents_have : (q : List ℕ) (cs rest : List ContentInfo) (c : ContentInfo) (back : List ContentInfo) (gss rest_bags : List (List SafeBag)) (keys keys_now : List (List ℕ)) (drawn drawn_now : List ℕ)
+    (made : List ContentInfo) → ContentsOn q cs rest gss rest_bags keys keys_now drawn drawn_now made → rest ≡ c ∷ back → (p : List ℕ) × (more : List (List ℕ)) × Each (HoldsBags p) cs gss × SuppliesAll p gss keys more
+    → rest_bags ≡ [] → ⊥
+contents_have q cs rest c back gss rest_bags keys keys_now drawn drawn_now made i is (p, more, h, s) none =
+    subst (λ (l : List ContentInfo). Each (HoldsBags p) l []) is (subst (λ (l : List (List SafeBag)). Each (HoldsBags p) rest l) none (i.holds p h).1)
+
+pub contents_long : (q : List ℕ) (cs rest : List ContentInfo) (c : ContentInfo) (back : List ContentInfo) (gss rest_bags : List (List SafeBag)) (gs : List SafeBag) (bags_after : List (List SafeBag))
+    (keys keys_now : List (List ℕ)) (drawn drawn_now : List ℕ) (made : List ContentInfo) (f : TransferError) → ContentsOn q cs rest gss rest_bags keys keys_now drawn drawn_now made → rest ≡ c ∷ back
+    → rest_bags ≡ gs ∷ bags_after
+    → LongOnly ((p : List ℕ) (more : List (List ℕ)) → HoldsBags p c gs → Supplies p gs keys_now more → 2 ^ 32 ≤ length (content_canon (blank_content p c gs))) f
+    → LongOnly ((p : List ℕ) (more : List (List ℕ)) → Each (HoldsBags p) cs gss → SuppliesAll p gss keys more → 2 ^ 32 ≤ length (contents_canon (blank_contents p cs gss))) f
+contents_long q cs rest c back gss rest_bags gs bags_after keys keys_now drawn drawn_now made f i is are h =
+    long_map _ _ f (λ all p more k s. (
+    let n = contents_next q cs rest c back gss rest_bags gs bags_after keys keys_now drawn drawn_now made i is are (p, more, k, s) in
+    let both = subst (λ (l : List ContentInfo). Each (HoldsBags p) l (gs ∷ bags_after)) is (subst (λ (l : List (List SafeBag)). Each (HoldsBags p) rest l) are (i.holds p k).1) in
+    let b = supplies_all_split p gs bags_after keys_now more (subst (λ (l : List (List SafeBag)). SuppliesAll p l keys_now more) are (i.goes p more k s).0) in
+    omega (arith, all p b.mid both.0 b.one, content_in p i.before c back cs i.bags_before gs bags_after gss (i.holds p k).0 (i.split ∙ ap (λ l. i.before ++ l) is) (i.bags_split ∙ ap (λ l. i.bags_before ++ l) are))
+    )) h
+
+pub room_is : (n : ℕ) (rest : List (List SafeBag)) (cs : List ContentInfo) (gss : List (List SafeBag)) → rest ≡ [] → n + sum_by bags_draw rest ≡ 8 + sum_by content_draws cs + sum_by bags_draw gss
+    → n ≡ sum_by content_draws cs + sum_by key_draws (all_shrouded gss) + 8
+room_is n rest cs gss e h = omega (arith, h, ap (sum_by bags_draw) e, all_keys gss)
+
+pub empty_is : {A : Type 0} (xs : List A) → length xs ≡ 0 → xs ≡ []
+empty_is [] h = refl
+empty_is (x ∷ xs) h = absurd (omega (arith, h))

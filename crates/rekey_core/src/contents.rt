@@ -1,0 +1,121 @@
+//! Contents that are sealed anew.
+ghost use Rattle.std.specs.Prelude.{◌≡◌, ◌≤◌, ◌<◌, ◌^◌, ◌+◌, ◌++◌, ◌∷◌, [], All, List, ℕ, length, IfOk, IfErr, OnOk, Some};
+ghost use Rattle.std.specs.List.{sum_by};
+ghost use Rattle.asn1_core.specs.Sets.{Each};
+ghost use Rattle.p12.specs.Canonical.{content_canon, contents_canon};
+ghost use Rattle.p12.specs.Collected.{HoldsBags};
+ghost use Rattle.p12.specs.declared.safe_bag.SafeBag.{SafeBag};
+ghost use Rattle.rekey_core.specs.Anew.{content_draws};
+ghost use Rattle.rekey_core.specs.Like.{EachDrawn};
+ghost use Rattle.rekey_core.specs.Sealing.{ContentSealed, ContentsSealed, LongOnly, Supplies, SuppliesAll, bags_draw};
+ghost use Rattle.rekey_core.specs.Size.{blank_content, blank_contents};
+
+use crate::algorithm::{Sealed, drawn_for, seal};
+use crate::bags::{seal_bags, text_of};
+use crate::supply::Supply;
+use asn1_core::Items;
+use p12::{ContentInfo, EncryptedContentInfo, EncryptedData, SafeBag};
+use std::alloc::Global;
+use transfer::TransferError;
+
+/// A content that holds these bags, sealed anew with the keys among them.
+fn seal_content(
+    alloc: Global,
+    content: &ContentInfo,
+    bags: &[SafeBag],
+    supply: &mut Supply<'_>,
+    new: &str,
+) -> Result<ContentInfo, TransferError>
+    requires open { (p : List ℕ) × (more : List (List ℕ)) × HoldsBags p content.now bags.now
+        × Supplies p bags.now supply.old.keys.now more }
+    requires room { content_draws content.now + bags_draw bags.now ≤ length supply.old.drawn.now }
+    requires password { length new.now < 2 ^ 57 }
+    ensures sealed { IfOk result (λ e. (p : List ℕ) (more : List (List ℕ))
+        → HoldsBags p content.now bags.now → Supplies p bags.now supply.old.keys.now more
+        → (supply.new.keys.now ≡ more) × (z : List ℕ) × (supply.old.drawn.now
+        ≡ z ++ supply.new.drawn.now)
+        × ContentSealed p new.now z content.now e) }
+    ensures used { OnOk result (length supply.old.drawn.now
+        ≡ content_draws content.now + bags_draw bags.now + length supply.new.drawn.now) }
+    ensures err { IfErr result (LongOnly ((p : List ℕ) (more : List (List ℕ))
+        → HoldsBags p content.now bags.now → Supplies p bags.now supply.old.keys.now more
+        → 2 ^ 32 ≤ length (content_canon (blank_content p content.now bags.now)))) }
+{
+    match content {
+        ContentInfo::Data(_) => {
+            let bags = match seal_bags(alloc, bags, supply, new) {
+                Ok(bags) => bags,
+                Err(e) => return Err(e),
+            };
+            match text_of(alloc, bags.as_slice()) {
+                Ok(text) => Ok(ContentInfo::Data(text)),
+                Err(e) => Err(e),
+            }
+        }
+        ContentInfo::EncryptedData(data) => {
+            let algorithm = &data.encrypted_content_info.content_encryption_algorithm;
+            let drawn = supply.next_drawn(drawn_for(algorithm));
+            let bags = match seal_bags(alloc, bags, supply, new) {
+                Ok(bags) => bags,
+                Err(e) => return Err(e),
+            };
+            let text = match text_of(alloc, bags.as_slice()) {
+                Ok(text) => text,
+                Err(e) => return Err(e),
+            };
+            let sealed = match seal(alloc, algorithm, drawn, text.as_slice(), new) {
+                Ok(sealed) => sealed,
+                Err(e) => return Err(e),
+            };
+            let Sealed { algorithm, text } = sealed;
+            Ok(ContentInfo::EncryptedData(EncryptedData {
+                encrypted_content_info: EncryptedContentInfo {
+                    content_encryption_algorithm: algorithm,
+                    encrypted_content: text,
+                },
+            }))
+        }
+        ContentInfo::OtherContext(_) => unreachable!(),
+    }
+}
+
+/// Contents that hold these bags, sealed anew in order.
+pub(crate) fn seal_contents(
+    alloc: Global,
+    contents: &[ContentInfo],
+    bags: &[Items<SafeBag>],
+    supply: &mut Supply<'_>,
+    new: &str,
+) -> Result<Items<ContentInfo>, TransferError>
+    requires open { (p : List ℕ) × (more : List (List ℕ))
+        × Each (HoldsBags p) contents.now bags.now
+        × SuppliesAll p bags.now supply.old.keys.now more }
+    requires room { sum_by content_draws contents.now + sum_by bags_draw bags.now
+        ≤ length supply.old.drawn.now }
+    requires password { length new.now < 2 ^ 57 }
+    ensures sealed { IfOk result (λ es. (p : List ℕ) (more : List (List ℕ))
+        → Each (HoldsBags p) contents.now bags.now → SuppliesAll p bags.now supply.old.keys.now more
+        → ContentsSealed p new.now contents.now supply.old.drawn.now supply.new.drawn.now es) }
+    ensures used { OnOk result (length supply.old.drawn.now
+        ≡ sum_by content_draws contents.now + sum_by bags_draw bags.now + length
+        supply.new.drawn.now) }
+    ensures err { IfErr result (LongOnly ((p : List ℕ) (more : List (List ℕ))
+        → Each (HoldsBags p) contents.now bags.now → SuppliesAll p bags.now supply.old.keys.now more
+        → 2 ^ 32 ≤ length (contents_canon (blank_contents p contents.now bags.now)))) }
+{
+    let mut made = Items::new(alloc);
+    let mut rest = contents;
+    let mut rest_bags = bags;
+    while let Some((content, back)) = rest.split_first() {
+        let Some((held, held_after)) = rest_bags.split_first() else {
+            unreachable!()
+        };
+        match seal_content(alloc, content, held.as_slice(), supply, new) {
+            Ok(sealed) => made.push(sealed)?,
+            Err(e) => return Err(e),
+        }
+        rest = back;
+        rest_bags = held_after;
+    }
+    Ok(made)
+}

@@ -1,0 +1,39 @@
+//! Laws of changes, each stated by the contract of a function that does nothing.
+ghost use Rattle.rekey_core.specs.Changes.{AllChangesKeep, ChangesAlike, ChangesKeep, NoCauseAfter, SealsWithin};
+ghost use Rattle.rekey_core.specs.Making.{MadeStoresAreChanges, MadeStoresAreSized};
+
+/// A store that is made of contents sealed anew is a change of the first store.
+pub fn made_stores_are_changes()
+    ensures { MadeStoresAreChanges }
+{}
+
+/// The text of such a store has the size that is computed before anything is sealed.
+pub fn made_stores_are_sized()
+    ensures { MadeStoresAreSized }
+{}
+
+/// A change keeps what a store opens to: its keys, its certificates, and its bags up to the order
+/// of their attributes.
+pub fn changes_keep()
+    ensures { ChangesKeep }
+{}
+
+/// A part that is sealed anew costs no more steps than it did before.
+pub fn sealing_keeps_costs()
+    ensures { SealsWithin }
+{}
+
+/// Any number of changes keep what a store opens to.
+pub fn all_changes_keep()
+    ensures { AllChangesKeep }
+{}
+
+/// After a first change no cause refuses the store under the same limit.
+pub fn no_cause_after()
+    ensures { NoCauseAfter }
+{}
+
+/// A further change draws as many octets, and comes to a text of the same size.
+pub fn changes_are_alike()
+    ensures { ChangesAlike }
+{}

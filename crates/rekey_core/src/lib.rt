@@ -1,0 +1,24 @@
+//! A PKCS#12 store (RFC 7292) under another password.
+//!
+//! `rekey` opens a store and seals its parts anew, `rekey_all` makes a list of changes, and
+//! `rekey_run` does so from an input to an output: what the program `rekey` does. `laws` says what
+//! changes keep.
+#![tactic(auto)]
+
+mod algorithm;
+mod bags;
+mod change;
+mod command;
+mod contents;
+mod drawing;
+pub mod laws;
+mod list;
+mod password_change;
+mod supply;
+mod top_call;
+mod words;
+mod work;
+
+pub use list::rekey_all;
+pub use password_change::rekey;
+pub use top_call::rekey_run;
