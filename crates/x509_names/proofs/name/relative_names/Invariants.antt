@@ -1,0 +1,5 @@
+use Rattle.std.proofs.Common.{length}
+use Rattle.x509_names.proofs.name.relative_names.Given as goal
+
+abbrev pub decreases-loop-body : goal.decreases-loop-body
+decreases-loop-body l = length l.body.rest.now
