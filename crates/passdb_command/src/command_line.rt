@@ -1,0 +1,234 @@
+//! The arguments of the command, as `--help` shows them.
+use clap::{Arg, ArgAction, Command};
+use std::alloc::{AllocError, Global};
+
+/// What is under the options of each subcommand.
+const NOTES: &str = "\
+A password is never an argument, since other users can read those. Without any of its options, ./passdb asks for it
+at a terminal. Of a file, its first line is the password, without LF or CR LF; /dev/fd/3 and other pipes work;
+./passdb uses descriptors 7, 8 and 9 itself.";
+
+/// What is under the whole help.
+const AFTER: &str = "\
+A file has a line NAME:HASH for each name, HASH being a PHC string of PBKDF2. It is written anew beside its place, for
+its owner alone (mode 0600), and then renamed: it is never half written. While it is changed FILE.lock is there, so that
+of two runs at the same time both changes are kept.
+
+Examples:
+  ./passdb add users ann
+  ./passdb check users ann --password-stdin
+  ./passdb change users ann --password-file old --new-password-file new
+  ./passdb remove users ann
+  ./passdb list users
+
+Exit numbers:
+   0  Done                done; of check, the password is that of the name
+   1  BuildFailed         ./passdb could not build the program
+   2  Usage               bad arguments
+   3  ReadFault           the file or a password cannot be read
+   4  WriteFault          the file cannot be written; it is as it was
+   5  Locked              another run is changing the file, or was killed while it did
+   6  Malformed           the file is not a password file
+   7  Memory              there was not enough memory
+   8  PasswordMissing     no password was given, and there is no terminal to ask at
+   9  NewPasswordMissing  no new password was given, and there is no terminal to ask at
+  10  WrongPassword       the password is not that of the name
+  11  NameUnknown         the file does not have the name
+  12  NameExists          the file has the name already
+  20  Rng                 the system gave no random octets
+  22  PasswordUnusable    a password is not UTF-8, too long, or an empty new one";
+
+/// How an argument is given. The first text stands for its value in the help; the second, where there is one, is its default.
+#[derive(Clone, Copy)]
+enum Form {
+    /// By its place, and never left out.
+    Place(&'static str),
+    /// As an option that may be left out.
+    Optional(&'static str),
+    /// As an option of a number that has a default; one below zero is read too, so that its refusal says which numbers there are.
+    Number(&'static str, &'static str),
+    /// As an option without a value.
+    Flag,
+}
+
+/// An argument of a subcommand.
+struct Argument {
+    /// Its name, which is that of its option too.
+    name: &'static str,
+    form: Form,
+    /// The group of which at most one is given.
+    group: Option<&'static str>,
+    help: &'static str,
+}
+
+const FILE: Argument = Argument {
+    name: "file",
+    form: Form::Place("FILE"),
+    group: None,
+    help: "The password file; add makes it where it is not there",
+};
+
+const NAME: Argument = Argument {
+    name: "name",
+    form: Form::Place("NAME"),
+    group: None,
+    help: "The name: 1 to 32 characters of a to z, 0 to 9 and -",
+};
+
+const PASSWORD_FILE: Argument = Argument {
+    name: "password-file",
+    form: Form::Optional("FILE"),
+    group: Some("password"),
+    help: "The password is the first line of FILE",
+};
+
+const PASSWORD_ENV: Argument = Argument {
+    name: "password-env",
+    form: Form::Optional("VARIABLE"),
+    group: Some("password"),
+    help: "The password is the environment variable VARIABLE",
+};
+
+const PASSWORD_STDIN: Argument = Argument {
+    name: "password-stdin",
+    form: Form::Flag,
+    group: Some("password"),
+    help: "The password is the first line of the standard input",
+};
+
+const NEW_PASSWORD_FILE: Argument = Argument {
+    name: "new-password-file",
+    form: Form::Optional("FILE"),
+    group: Some("new-password"),
+    help: "The new password is the first line of FILE",
+};
+
+const NEW_PASSWORD_ENV: Argument = Argument {
+    name: "new-password-env",
+    form: Form::Optional("VARIABLE"),
+    group: Some("new-password"),
+    help: "The new password is the environment variable VARIABLE",
+};
+
+const NEW_PASSWORD_STDIN: Argument = Argument {
+    name: "new-password-stdin",
+    form: Form::Flag,
+    group: Some("new-password"),
+    help: "The new password is the first line of the standard input",
+};
+
+const ROUNDS: Argument = Argument {
+    name: "rounds",
+    form: Form::Number("ROUNDS", "600000"),
+    group: None,
+    help: "Rounds of PBKDF2 for a new entry; check makes an entry anew that has fewer: 1000 to 10000000",
+};
+
+/// Those of `add` and `check`, in the order of the help.
+static OF_ONE_PASSWORD: [Argument; 6] = [
+    FILE,
+    NAME,
+    PASSWORD_FILE,
+    PASSWORD_ENV,
+    PASSWORD_STDIN,
+    ROUNDS,
+];
+
+/// Those of `change`.
+static OF_CHANGE: [Argument; 9] = [
+    FILE,
+    NAME,
+    PASSWORD_FILE,
+    PASSWORD_ENV,
+    PASSWORD_STDIN,
+    NEW_PASSWORD_FILE,
+    NEW_PASSWORD_ENV,
+    NEW_PASSWORD_STDIN,
+    ROUNDS,
+];
+
+/// Those of `remove`.
+static OF_REMOVE: [Argument; 2] = [FILE, NAME];
+
+/// Those of `list`.
+static OF_LIST: [Argument; 1] = [FILE];
+
+/// An option that takes a value.
+fn option<'a>(arg: Arg<'a>, name: &'a str, value: &'a str) -> Arg<'a> {
+    arg.long(name).value_name(value)
+}
+
+/// The argument, for clap.
+fn described<'a>(alloc: Global, argument: &Argument) -> Arg<'a> {
+    let name = argument.name;
+    let arg = Arg::new(alloc, name).help(argument.help);
+    match argument.form {
+        Form::Place(value) => arg.value_name(value).required(true),
+        Form::Optional(value) => option(arg, name, value),
+        Form::Number(value, default) => option(arg, name, value)
+            .allow_negative_numbers(true)
+            .default_value(default),
+        Form::Flag => arg.long(name).action(ArgAction::SetTrue),
+    }
+}
+
+/// The same, in its group where it has one.
+fn grouped<'a>(alloc: Global, argument: &Argument) -> Result<Arg<'a>, AllocError> {
+    let arg = described(alloc, argument);
+    match argument.group {
+        Some(group) => arg.group(group),
+        None => Ok(arg),
+    }
+}
+
+/// The command with these arguments.
+fn with_arguments<'a>(
+    alloc: Global,
+    command: Command<'a>,
+    arguments: &[Argument],
+) -> Result<Command<'a>, AllocError> {
+    let mut command = command;
+    for argument in arguments {
+        command = command.arg(grouped(alloc, argument)?)?;
+    }
+    Ok(command)
+}
+
+/// The command with one subcommand more.
+fn with_subcommand<'a>(
+    alloc: Global,
+    command: Command<'a>,
+    name: &'a str,
+    about: &'a str,
+    arguments: &[Argument],
+) -> Result<Command<'a>, AllocError> {
+    let subcommand = Command::new(alloc, name).about(about).after_help(NOTES);
+    command.subcommand(with_arguments(alloc, subcommand, arguments)?)
+}
+
+/// The command with its subcommands.
+fn with_subcommands<'a>(alloc: Global, command: Command<'a>) -> Result<Command<'a>, AllocError> {
+    let about = "Add a name with a password";
+    let command = with_subcommand(alloc, command, "add", about, &OF_ONE_PASSWORD)?;
+    let about = "Test a password, and make the entry anew where it has few rounds";
+    let command = with_subcommand(alloc, command, "check", about, &OF_ONE_PASSWORD)?;
+    let about = "Change the password of a name";
+    let command = with_subcommand(alloc, command, "change", about, &OF_CHANGE)?;
+    let about = "Remove a name";
+    let command = with_subcommand(alloc, command, "remove", about, &OF_REMOVE)?;
+    let about = "Print the names, one a line";
+    with_subcommand(alloc, command, "list", about, &OF_LIST)
+}
+
+/// The whole command.
+pub fn command<'a>(alloc: Global) -> Result<Command<'a>, AllocError> {
+    let command = Command::new(alloc, "passdb")
+        .bin_name("passdb")?
+        .version("0.2.0")
+        .about("Keep a file of names and password hashes")
+        .after_help(AFTER)
+        .subcommand_required(true)
+        .arg_required_else_help(true)
+        .disable_help_subcommand(true);
+    with_subcommands(alloc, command)
+}

@@ -1,0 +1,215 @@
+//! The password file: it is there whole, as it was or as it is to be.
+ghost use Rattle.std.specs.Prelude.{◌≤◌};
+
+use crate::ending::{Ending, Failure};
+use passdb_core::Db;
+use std::alloc::{AllocError, Global};
+use std::fs::{OpenFile, OpenOptions};
+use std::io::Write;
+use std::os::unix::fs::OpenOptionsExt;
+use std::rt::Files;
+use std::{fs, io};
+
+/// The most octets of a file.
+const MOST_OCTETS: u64 = 67_108_864;
+
+/// The folder in which this path is.
+fn parent(path: &str) -> &str {
+    match path.rsplit_once('/') {
+        Some(("", _)) => "/",
+        Some((parent, _)) => parent,
+        None => ".",
+    }
+}
+
+fn read_fault(alloc: Global, path: &str, error: io::Error) -> Failure {
+    Failure::io(alloc, Ending::ReadFault, "the file", path, error)
+}
+
+fn write_fault(alloc: Global, path: &str, error: io::Error) -> Failure {
+    Failure::io(alloc, Ending::WriteFault, "the file", path, error)
+}
+
+/// Writes a file that was not there, for its owner alone, and waits until it is on the disk.
+fn write_new<R: Files>(rt: &R, path: &str, octets: &[u8]) -> io::Result<()> {
+    let mut file = OpenOptions::new()
+        .write(true)
+        .create_new(true)
+        .mode(0o600)
+        .open(rt, path)?;
+    file.write_all(octets)?;
+    file.sync_all()
+}
+
+/// Removes a file. Where that fails, a line on the standard error says so.
+fn remove_or_tell<R: Files + Eprint>(rt: &R, path: &str) {
+    match fs::remove_file(rt, path) {
+        Ok(()) => {}
+        Err(error) => {
+            // A standard error that cannot be written to is no failure of the work.
+            match eprintln!(rt; "passdb: {path} could not be removed: {error}") {
+                Ok(()) | Err(_) => {}
+            }
+        }
+    }
+}
+
+/// The path of the file, links followed, so that a link to it stays one. A file that is not there has its path as given;
+/// `ReadFault` where a link is there that leads to nothing.
+pub fn real_path<R: Files + AllocGlobal>(rt: &R, path: &str) -> Result<String, Failure> {
+    let alloc = rt.alloc();
+    match fs::canonicalize(rt, path) {
+        Ok(real) => Ok(String::from_str(alloc, real.as_path().as_str())?),
+        Err(error) if error.kind() == io::ErrorKind::NotFound => {
+            match fs::symlink_metadata(rt, path) {
+                Ok(_) => Err(read_fault(alloc, path, error)),
+                Err(_) => Ok(String::from_str(alloc, path)?),
+            }
+        }
+        Err(error) => Err(read_fault(alloc, path, error)),
+    }
+}
+
+/// The octets of the file; none where it is not there.
+fn octets_of<R: Files + AllocGlobal>(rt: &R, path: &str) -> Result<Option<Vec<u8>>, Failure> {
+    let alloc = rt.alloc();
+    match fs::metadata(rt, path) {
+        Ok(there) if !there.is_file() => Err(Failure::told(
+            Ending::ReadFault,
+            format!(in alloc; "{path} is not a file"),
+        )),
+        Ok(there) if there.len() > MOST_OCTETS => Err(Failure::told(
+            Ending::Malformed,
+            format!(in alloc; "{path} has more than 67,108,864 octets"),
+        )),
+        Ok(_) => match fs::read(rt, path) {
+            Ok(octets) => Ok(Some(octets)),
+            Err(error) => Err(read_fault(alloc, path, error)),
+        },
+        Err(error) if error.kind() == io::ErrorKind::NotFound => Ok(None),
+        Err(error) => Err(read_fault(alloc, path, error)),
+    }
+}
+
+/// The failure of a file that is no password file.
+fn malformed(alloc: Global, path: &str) -> Failure {
+    let text = format!(in alloc;
+        "{path} is not a password file: lines NAME:HASH, with LF after each, names in order"
+    );
+    Failure::told(Ending::Malformed, text)
+}
+
+fn parsed(alloc: Global, path: &str, octets: &[u8], rounds: u32) -> Result<Db, Failure>
+    requires some { 1000 ≤ rounds }
+    requires few { rounds ≤ 10000000 }
+{
+    let Ok(text) = std::str::from_utf8(octets) else {
+        return Err(malformed(alloc, path));
+    };
+    match Db::parse(alloc, text, rounds) {
+        Ok(db) => Ok(db),
+        Err(passdb_core::DbError::Malformed) => Err(malformed(alloc, path)),
+        Err(error) => Err(Failure::from(error)),
+    }
+}
+
+/// What the file has; where it is not there, nothing if `make` is set, else `ReadFault`.
+pub fn read<R: Files + AllocGlobal>(
+    rt: &R,
+    path: &str,
+    rounds: u32,
+    make: bool,
+) -> Result<Db, Failure>
+    requires some { 1000 ≤ rounds }
+    requires few { rounds ≤ 10000000 }
+{
+    let alloc = rt.alloc();
+    match octets_of(rt, path)? {
+        Some(octets) => parsed(alloc, path, octets.as_slice(), rounds),
+        None if make => parsed(alloc, path, b"", rounds),
+        None => Err(Failure::told(
+            Ending::ReadFault,
+            format!(in alloc; "there is no file {path}; add makes one"),
+        )),
+    }
+}
+
+/// A file that this process alone may change.
+#[derive(Drop)]
+pub struct Locked {
+    path: String,
+    lock: String,
+    part: String,
+}
+
+/// The failure of a lock that was not taken.
+fn not_locked(alloc: Global, path: &str, lock: &str, error: io::Error) -> Failure {
+    if error.kind() == io::ErrorKind::AlreadyExists {
+        let text = format!(in alloc;
+            "another run is changing {path}, or was killed while it did; if no run is, rm {lock}"
+        );
+        return Failure::told(Ending::Locked, text);
+    }
+    write_fault(alloc, lock, error)
+}
+
+impl Locked {
+    /// Takes the lock of the file at this path: the file FILE.lock, with the number of this process.
+    pub fn take<R: Files + AllocGlobal>(
+        rt: &R,
+        path: &str,
+        process: u32,
+    ) -> Result<Locked, Failure> {
+        let alloc = rt.alloc();
+        let taken = Locked {
+            path: String::from_str(alloc, path)?,
+            lock: format!(in alloc; "{path}.lock")?,
+            part: format!(in alloc; "{path}.part-{process}")?,
+        };
+        let number = format!(in alloc; "{process}\n")?;
+        match write_new(rt, taken.lock.as_str(), number.as_bytes()) {
+            Ok(()) => Ok(taken),
+            Err(error) => Err(not_locked(alloc, path, taken.lock.as_str(), error)),
+        }
+    }
+
+    /// Gives the lock back.
+    pub fn release<R: Files + Eprint>(&self, rt: &R) {
+        remove_or_tell(rt, self.lock.as_str());
+    }
+
+    /// Puts this text in the place of the file's. After a failure the file is as it was.
+    pub fn write<R: Files + Eprint + AllocGlobal>(
+        &self,
+        rt: &R,
+        text: &str,
+    ) -> Result<(), Failure> {
+        let path = self.path.as_str();
+        let part = self.part.as_str();
+        let placed = match write_new(rt, part, text.as_bytes()) {
+            Ok(()) => fs::rename(rt, part, path),
+            Err(error) => Err(error),
+        };
+        match placed {
+            Ok(()) => {
+                sync_folder(rt, parent(path));
+                Ok(())
+            }
+            Err(error) => {
+                if fs::symlink_metadata(rt, part).is_ok() {
+                    remove_or_tell(rt, part);
+                }
+                Err(write_fault(rt.alloc(), path, error))
+            }
+        }
+    }
+}
+
+/// Waits until the new name is on the disk. Where the folder cannot be opened for that, the file is there all the same.
+fn sync_folder<R: Files>(rt: &R, folder: &str) {
+    if let Ok(folder) = fs::open(rt, folder) {
+        match folder.sync_all() {
+            Ok(()) | Err(_) => {}
+        }
+    }
+}

@@ -1,0 +1,27 @@
+//! The command for people: `passdb add`, `check`, `change`, `remove` and `list`.
+#![tactic(auto)]
+
+mod command_line;
+mod ending;
+mod file;
+mod origin;
+mod password;
+mod request;
+mod run;
+
+use std::process;
+use std::process::ExitCode;
+
+fn main(rt: HostRuntime) -> ExitCode {
+    let process = process::id(rt.process());
+    match run::run(&rt, process) {
+        Ok(()) => ExitCode::from(0),
+        Err(failure) => {
+            let code = failure.ending.code();
+            // Where even the standard error is gone, the exit number still tells.
+            match run::explain(&rt, &failure) {
+                Ok(()) | Err(_) => ExitCode::from(code),
+            }
+        }
+    }
+}

@@ -1,0 +1,70 @@
+//! Passwords.
+ghost use Rattle.std.specs.Prelude.{◌≡◌, ◌≤◌, ◌↔◌, IfOk, IfErr, IsOk, length};
+ghost use Rattle.std.specs.String.{string_bytes};
+
+use crate::ending::{Ending, Failure};
+use std::marker::Model;
+
+/// The most octets of a password.
+pub const LONGEST: usize = 1024;
+
+/// A password of at most 1,024 octets in UTF-8. It has no `Debug`, so that it is never printed.
+#[derive(Drop)]
+pub struct Password {
+    text: String,
+}
+
+impl Model for Password {
+    ghost use Rattle.std.specs.Prelude.{ℕ, List, ◌≤◌, length};
+    ghost use Rattle.std.specs.String.{string_bytes};
+
+    ghost Value = { List ℕ };
+
+    ghost view = { λ p. string_bytes p.text };
+
+    ghost invariant = { λ p. length (string_bytes p.text) ≤ 1024 };
+}
+
+/// The failure of a password that is too long.
+pub fn too_long() -> Failure
+    ensures { result.ending ≡ Ending.PasswordUnusable }
+{
+    Failure::new(
+        Ending::PasswordUnusable,
+        "a password has more than 1,024 octets",
+    )
+}
+
+impl Password {
+    /// The password of this text. `PasswordUnusable` exactly where it has more than 1,024 octets.
+    pub fn new(text: String) -> Result<Password, Failure>
+        ensures ok { IfOk result (λ p. p ≡ string_bytes text) }
+        ensures exact { IsOk result ↔ length (string_bytes text) ≤ 1024 }
+        ensures err { IfErr result (λ e. e.ending ≡ Ending.PasswordUnusable) }
+    {
+        if text.len() > LONGEST {
+            return Err(too_long());
+        }
+        Ok(Password { text })
+    }
+
+    /// The text of the password.
+    pub fn as_str(&self) -> &str
+        ensures value { result.now ≡ self.now }
+        ensures short { length result.now ≤ 1024 }
+    {
+        self.text.as_str()
+    }
+}
+
+/// A password that a name is given. `PasswordUnusable` exactly where it is empty.
+pub fn as_new_password(password: Password) -> Result<Password, Failure>
+    ensures ok { IfOk result (λ p. (p ≡ password) × (1 ≤ length p)) }
+    ensures err { IfErr result (λ e. (e.ending ≡ Ending.PasswordUnusable)
+        × (length password ≡ 0)) }
+{
+    if password.as_str().is_empty() {
+        return Err(Failure::new(Ending::PasswordUnusable, "the new password is empty"));
+    }
+    Ok(password)
+}

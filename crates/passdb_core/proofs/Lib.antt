@@ -1,0 +1,9 @@
+mod Runs
+mod Cuts
+mod EntryTexts
+mod LastEntry
+mod Words
+mod Files
+mod Scripts
+mod Asking
+mod Exact
