@@ -1,0 +1,75 @@
+/* openssl STORE PASSWORD-FILE ROUNDS CALLS: the same by libcrypto: PKCS12_parse, then PEM of the certificates, and of the key under
+ * PBES2 in so many rounds. */
+#include <openssl/err.h>
+#include <openssl/evp.h>
+#include <openssl/pem.h>
+#include <openssl/pkcs12.h>
+#include <stdio.h>
+#include <stdlib.h>
+#include <time.h>
+
+static unsigned char store[1 << 24];
+static char password[1024];
+
+static size_t read_file(const char *path, void *to, size_t room)
+{
+    FILE *file = fopen(path, "rb");
+    if (!file)
+        exit(3);
+    size_t len = fread(to, 1, room, file);
+    fclose(file);
+    return len;
+}
+
+static void write_key(BIO *out, EVP_PKEY *key, int rounds)
+{
+    unsigned char salt[16] = {1};
+    PKCS8_PRIV_KEY_INFO *info = EVP_PKEY2PKCS8(key);
+    X509_ALGOR *algorithm = PKCS5_pbe2_set_iv(EVP_aes_256_cbc(), rounds, salt, 16, NULL, NID_hmacWithSHA256);
+    X509_SIG *sealed = PKCS8_set0_pbe("hunter42", 8, info, algorithm);
+    PEM_write_bio_PKCS8(out, sealed);
+    X509_SIG_free(sealed);
+    PKCS8_PRIV_KEY_INFO_free(info);
+}
+
+static void once(size_t len, int rounds)
+{
+    const unsigned char *at = store;
+    PKCS12 *read = d2i_PKCS12(NULL, &at, (long)len);
+    EVP_PKEY *key = NULL;
+    X509 *certificate = NULL;
+    STACK_OF(X509) *more = NULL;
+    if (!PKCS12_parse(read, password, &key, &certificate, &more)) {
+        ERR_print_errors_fp(stderr);
+        exit(1);
+    }
+    BIO *out = BIO_new(BIO_s_mem());
+    if (certificate)
+        PEM_write_bio_X509(out, certificate);
+    for (int i = 0; i < sk_X509_num(more); i++)
+        PEM_write_bio_X509(out, sk_X509_value(more, i));
+    if (key)
+        write_key(out, key, rounds);
+    BIO_free(out);
+    EVP_PKEY_free(key);
+    X509_free(certificate);
+    sk_X509_pop_free(more, X509_free);
+    PKCS12_free(read);
+}
+
+int main(int argc, char **argv)
+{
+    struct timespec from, to;
+    if (argc < 5)
+        return 2;
+    size_t len = read_file(argv[1], store, sizeof store), password_len = read_file(argv[2], password, sizeof password - 1);
+    while (password_len && (password[password_len - 1] == '\n' || password[password_len - 1] == '\r'))
+        password[--password_len] = 0;
+    int rounds = atoi(argv[3]), calls = atoi(argv[4]);
+    clock_gettime(CLOCK_PROCESS_CPUTIME_ID, &from);
+    for (int i = 0; i < calls; i++)
+        once(len, rounds);
+    clock_gettime(CLOCK_PROCESS_CPUTIME_ID, &to);
+    printf("%.0f\n", ((double)(to.tv_sec - from.tv_sec) * 1e6 + (double)(to.tv_nsec - from.tv_nsec) / 1e3) / calls);
+    return 0;
+}

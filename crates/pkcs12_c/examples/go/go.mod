@@ -1,0 +1,3 @@
+module example/transfer
+
+go 1.19

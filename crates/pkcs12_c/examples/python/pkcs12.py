@@ -1,0 +1,104 @@
+#!/usr/bin/env python3
+"""PKCS#12 stores from Python, by the shared library and ctypes: no build step.
+
+usage: pkcs12.py STORE PASSWORD-FILE NEW-PASSWORD-FILE     writes the certificates and the sealed keys as PEM text
+
+LIBPKCS12 names another library than libpkcs12.so.1.
+"""
+
+import ctypes
+import os
+import sys
+
+DONE, ROOM = 0, 100
+
+
+class Refused(Exception):
+    """A store was refused; `number` is one of those of pkcs12.h."""
+
+    def __init__(self, number):
+        super().__init__(f"refused: {number}")
+        self.number = number
+
+
+def _load():
+    library = ctypes.CDLL(os.environ.get("LIBPKCS12", "libpkcs12.so.1"))
+    octets, size = ctypes.c_char_p, ctypes.c_size_t
+    output = [ctypes.POINTER(ctypes.c_char), size, ctypes.POINTER(size)]
+    library.pkcs12_version.restype = ctypes.c_uint32
+    library.pkcs12_version.argtypes = []
+    for call in (library.pkcs12_transfer_pem, library.pkcs12_open_pem, library.pkcs12_list, library.pkcs12_rekey):
+        call.restype = ctypes.c_uint32
+    sealing = [octets, size] * 3 + [ctypes.c_uint32, ctypes.c_uint64, octets, size]
+    library.pkcs12_transfer_pem.argtypes = sealing + output
+    library.pkcs12_open_pem.argtypes = [octets, size] * 2 + [ctypes.c_uint64] + output
+    library.pkcs12_list.argtypes = library.pkcs12_open_pem.argtypes
+    library.pkcs12_rekey.argtypes = [octets, size] * 3 + [ctypes.c_uint64, octets, size] + output
+    if library.pkcs12_version() < 1:
+        raise ImportError("libpkcs12 is older than this module")
+    return library
+
+
+_library = _load()
+
+
+def _output(call, store, *arguments):
+    """Calls with as much room as the output takes; a second time where the first was too short."""
+    room = 2 * len(store) + 4096
+    while True:
+        output = ctypes.create_string_buffer(room)
+        needed = ctypes.c_size_t()
+        number = call(store, len(store), *arguments, output, room, ctypes.byref(needed))
+        if number == DONE:
+            return output.raw[: needed.value]
+        if number != ROOM:
+            raise Refused(number)
+        room = needed.value
+
+
+def transfer_pem(store, password, new_password, rounds=600_000, limit=100_000_000):
+    """The PEM text of the octets `store`: certificates, then keys sealed under `new_password`."""
+    random = os.urandom(len(store) + 32)  # a key takes more than 32 octets of a store
+    return _output(
+        _library.pkcs12_transfer_pem, store, password, len(password), new_password, len(new_password),
+        rounds, limit, random, len(random),
+    ).decode("ascii")
+
+
+def open_pem(store, password, limit=100_000_000):
+    """The same, with keys that are not sealed."""
+    return _output(_library.pkcs12_open_pem, store, password, len(password), limit).decode("ascii")
+
+
+def list(store, password, limit=100_000_000):
+    """A line for each certificate and each encrypted private key of the store, as pkcs12.h says."""
+    return _output(_library.pkcs12_list, store, password, len(password), limit).decode("ascii")
+
+
+def rekey(store, password, new_password, limit=100_000_000):
+    """The octets of the store under another password, with all that is in it."""
+    random = os.urandom(len(store) + 32)  # each part that is sealed anew takes more than 32 octets of a store
+    return _output(
+        _library.pkcs12_rekey, store, password, len(password), new_password, len(new_password), limit, random, len(random)
+    )
+
+
+def _first_line(path):
+    with open(path, "rb") as file:
+        return file.readline().rstrip(b"\n").removesuffix(b"\r")
+
+
+def main():
+    if len(sys.argv) != 4:
+        sys.exit(__doc__)
+    with open(sys.argv[1], "rb") as file:
+        store = file.read()
+    try:
+        sys.stdout.write(transfer_pem(store, _first_line(sys.argv[2]), _first_line(sys.argv[3])))
+    except Refused as refused:
+        print(refused, file=sys.stderr)
+        sys.exit(refused.number)
+
+
+if __name__ == "__main__":
+    main()

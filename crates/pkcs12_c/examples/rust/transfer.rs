@@ -1,0 +1,110 @@
+//! transfer STORE PASSWORD-FILE NEW-PASSWORD-FILE: writes the certificates and the sealed keys of a store as PEM text.
+//!
+//!     rustc --edition 2021 -O transfer.rs -L PREFIX/lib -l static=pkcs12
+use std::io::{Read, Write};
+use std::process::ExitCode;
+
+mod pkcs12 {
+    const DONE: u32 = 0;
+    const ROOM: u32 = 100;
+
+    extern "C" {
+        fn pkcs12_transfer_pem(
+            store: *const u8,
+            store_len: usize,
+            password: *const u8,
+            password_len: usize,
+            new_password: *const u8,
+            new_password_len: usize,
+            rounds: u32,
+            limit: u64,
+            random: *const u8,
+            random_len: usize,
+            output: *mut u8,
+            output_len: usize,
+            needed: *mut usize,
+        ) -> u32;
+    }
+
+    /// Why a call is refused: one of the numbers of `pkcs12.h`.
+    #[derive(Clone, Copy, Debug, PartialEq, Eq)]
+    pub struct Refused(pub u32);
+
+    /// The PEM text of a store, its keys sealed under the new password. `random` has 32 octets for each key.
+    ///
+    /// Slices are never null, valid for their length, and cannot overlap one that is written: so no call of this is unsafe.
+    pub fn transfer_pem(
+        store: &[u8],
+        password: &[u8],
+        new_password: &[u8],
+        rounds: u32,
+        limit: u64,
+        random: &[u8],
+    ) -> Result<Vec<u8>, Refused> {
+        let mut output = vec![0; 2 * store.len() + 4096];
+        loop {
+            let mut needed = 0;
+            let number = unsafe {
+                pkcs12_transfer_pem(
+                    store.as_ptr(),
+                    store.len(),
+                    password.as_ptr(),
+                    password.len(),
+                    new_password.as_ptr(),
+                    new_password.len(),
+                    rounds,
+                    limit,
+                    random.as_ptr(),
+                    random.len(),
+                    output.as_mut_ptr(),
+                    output.len(),
+                    &mut needed,
+                )
+            };
+            match number {
+                DONE => {
+                    output.truncate(needed);
+                    return Ok(output);
+                }
+                ROOM => output.resize(needed, 0),
+                _ => return Err(Refused(number)),
+            }
+        }
+    }
+}
+
+fn first_line(path: &str) -> std::io::Result<Vec<u8>> {
+    let octets = std::fs::read(path)?;
+    let line = octets.split(|octet| *octet == b'\n').next().unwrap_or_default();
+    Ok(line.strip_suffix(b"\r").unwrap_or(line).to_vec())
+}
+
+fn run(words: &[String]) -> std::io::Result<Result<Vec<u8>, pkcs12::Refused>> {
+    let store = std::fs::read(&words[0])?;
+    let mut random = vec![0; store.len() + 32];
+    std::fs::File::open("/dev/urandom")?.read_exact(&mut random)?;
+    let (password, new_password) = (first_line(&words[1])?, first_line(&words[2])?);
+    Ok(pkcs12::transfer_pem(&store, &password, &new_password, 600_000, 100_000_000, &random))
+}
+
+fn main() -> ExitCode {
+    let words: Vec<String> = std::env::args().skip(1).collect();
+    if words.len() != 3 {
+        eprintln!("usage: transfer STORE PASSWORD-FILE NEW-PASSWORD-FILE");
+        return ExitCode::from(2);
+    }
+    match run(&words) {
+        Ok(Ok(text)) => match std::io::stdout().write_all(&text) {
+            Ok(()) => ExitCode::SUCCESS,
+            Err(_) => ExitCode::from(4),
+        },
+        Ok(Err(refused)) => {
+            eprintln!("refused: {}", refused.0);
+            ExitCode::from(refused.0 as u8)
+        }
+        Err(fault) => {
+            eprintln!("{fault}");
+            ExitCode::from(3)
+        }
+    }
+}

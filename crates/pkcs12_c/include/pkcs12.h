@@ -1,0 +1,220 @@
+/* Opens PKCS#12 stores (RFC 7292) and seals their private keys under a new password, as PEM text.
+ *
+ * What each call returns is proved, from the grammar of the store down to the ciphers. The proofs assume of the caller:
+ *   - each pointer to octets is valid for its length, aligned for its type, and not NULL, even where the length is 0;
+ *   - memory that a call writes (output, needed) overlaps nothing else that the call is given, and no other thread touches
+ *     any of it during the call;
+ *   - malloc, realloc and free are one allocator, which aligns a block to each power of two up to 16 that divides its size;
+ *   - no call is made in a signal handler, or in the forked child of a process with threads.
+ * The calls keep nothing between them, and may be made in any number of threads at once.
+ *
+ * What may change: a later version of the interface may add calls, and numbers of refusals from 30 to 99, so treat every
+ * number other than PKCS12_DONE as a refusal. No call, number or argument of this header changes its meaning or goes away
+ * as long as the name of the shared library, libpkcs12.so.1, stays. The octets of the text may change only where the
+ * header says so.
+ */
+#ifndef PKCS12_H
+#define PKCS12_H
+
+#include <stddef.h>
+#include <stdint.h>
+
+#ifdef __cplusplus
+extern "C" {
+#endif
+
+/* The version of this interface: it rises with each call that is added. */
+#define PKCS12_VERSION 1
+
+/* The version of the interface that the library has: the header's calls are there where this is at least PKCS12_VERSION. */
+uint32_t pkcs12_version(void);
+
+/* What the calls return: the numbers are those with which the command pkcs12 ends. From PKCS12_MALFORMED to PKCS12_TOO_LONG
+ * they are those of the store, and only the first cause is returned. */
+enum {
+    PKCS12_DONE = 0,
+    PKCS12_ROUNDS = 2,             /* the rounds are not 1 to 100,000,000 */
+    PKCS12_MEMORY = 7,             /* malloc gave no memory */
+    PKCS12_MALFORMED = 10,         /* no PKCS#12 store in DER */
+    PKCS12_UNSUPPORTED = 11,       /* of a kind, or under an algorithm, that is not opened */
+    PKCS12_MAC_MISSING = 12,       /* no MAC, so a change to the store would go unnoticed */
+    PKCS12_MAC_UNSUPPORTED = 13,   /* the MAC is made neither with SHA-1 nor with SHA-256 */
+    PKCS12_ZERO_ITERATIONS = 14,   /* the store asks for zero iterations */
+    PKCS12_WORK_LIMIT = 15,        /* opening takes more steps than the limit; tested before the work is done */
+    PKCS12_MAC_MISMATCH = 16,      /* the password is wrong, or the store was changed */
+    PKCS12_CONTENT_MALFORMED = 17, /* the MAC agrees, but the contents are damaged */
+    PKCS12_DECRYPT_FAILED = 18,    /* the password agrees with the MAC, but a part does not decrypt with it */
+    PKCS12_KEY_MALFORMED = 19,     /* a private key opens, but is not a PKCS#8 key */
+    PKCS12_RANDOM_SHORT = 20,      /* too few random octets */
+    PKCS12_TOO_LONG = 21,          /* the store has more than PKCS12_STORE_MAX octets */
+    PKCS12_PASSWORD = 22,          /* a password of a store is not UTF-8, or has 2^57 octets or more */
+    PKCS12_ROOM = 100              /* the output is too short: *needed says how many octets the text has */
+};
+
+/* The most octets of a store. */
+#define PKCS12_STORE_MAX 16777215
+
+/* Opens the store, and writes a CERTIFICATE for each X.509 certificate, then an ENCRYPTED PRIVATE KEY for each encrypted
+ * private key, both in store order, as one PEM text (RFC 7468) with no NUL after it. Other kinds of bags, such as private
+ * keys that are not encrypted, are left out.
+ *
+ *   password      that of the store, in UTF-8
+ *   new_password  any octets; the keys are sealed by PBES2: PBKDF2 with HMAC-SHA-256, and AES-256-CBC (RFC 8018)
+ *   rounds        of PBKDF2 for each key, 1 to 100,000,000
+ *   limit         the most steps of opening; a step is one answer of the hash that the store asks for
+ *   random        32 octets for each key, in order; give the octets of a generator that is made for secrets, and never
+ *                 the same octets twice
+ *   output        where the text goes; its other octets stay as they are
+ *   needed        the number of octets of the text on PKCS12_DONE and PKCS12_ROOM, and else 0
+ *
+ * Nothing is written to the output but on PKCS12_DONE. A call with the same arguments gives the same text, so after
+ * PKCS12_ROOM call again with *needed octets of room. Twice the octets of the store and 4,096 are enough for stores as
+ * programs write them; that is not proved, and is not so for a store with many keys of a few octets each. */
+uint32_t pkcs12_transfer_pem(
+    const uint8_t *store, size_t store_len,
+    const uint8_t *password, size_t password_len,
+    const uint8_t *new_password, size_t new_password_len,
+    uint32_t rounds, uint64_t limit,
+    const uint8_t *random, size_t random_len,
+    uint8_t *output, size_t output_len, size_t *needed);
+
+/* Opens the store, and writes a CERTIFICATE for each X.509 certificate, then a PRIVATE KEY, which is not sealed, for each
+ * encrypted private key, both in store order. The rest is as above. The memory that the call took for keys is freed and not
+ * overwritten. */
+uint32_t pkcs12_open_pem(
+    const uint8_t *store, size_t store_len,
+    const uint8_t *password, size_t password_len,
+    uint64_t limit,
+    uint8_t *output, size_t output_len, size_t *needed);
+
+/* Opens the store, and writes the table of what it holds: a line for each X.509 certificate, then a line for each encrypted
+ * private key, both in store order and numbered from 0.
+ *
+ *   cert 0 453fc35ac11be04ad4b7700cfa2205783db2ac2747569a2e16c7d74b06138d8e 1
+ *   cert 1 a5845e53fad222c97589a36645dbf220d069af746ba0bae62474fab9cbf67df3 self
+ *   key 0 0 1
+ *
+ *   cert  its number; the SHA-256 digest of its SubjectPublicKeyInfo in DER; and the number of its issuer's certificate, or
+ *         "self" where that is itself, or "-" where the store has none. "cert 0 - -" is a certificate that cannot be read.
+ *   key   its number, and the numbers of its chain: the first certificate with the local key id of the key, then the
+ *         issuer of each. "key 0 -" is a key for which there is none.
+ *
+ * Issuers are found by their names alone; no signature is tested. No name is written, and neither are friendly names, which
+ * may be any octets that the store's maker chose: each line is ASCII text and ends with a line feed. A store with neither
+ * certificates nor encrypted keys has a table of no octets. The rest is as for pkcs12_open_pem. */
+uint32_t pkcs12_list(
+    const uint8_t *store, size_t store_len,
+    const uint8_t *password, size_t password_len,
+    uint64_t limit,
+    uint8_t *output, size_t output_len, size_t *needed);
+
+/* Changes the password of the store, and writes the changed store, in DER: its bags, keys, certificates and attributes are
+ * kept. A part under Triple DES stays under Triple DES with its count; a part under PBES2 is sealed under PBKDF2 with
+ * HMAC-SHA-256 and AES-256-CBC with its count; the MAC keeps its digest and its count.
+ *
+ *   new_password  in UTF-8, as password
+ *   random        32 octets for each part under PBES2 and 8 for each under Triple DES, a key or a content, and 8 for the MAC
+ *
+ * PKCS12_TOO_LONG is returned too where the changed store would have more than PKCS12_STORE_MAX octets. The rest is as
+ * for pkcs12_transfer_pem. */
+uint32_t pkcs12_rekey(
+    const uint8_t *store, size_t store_len,
+    const uint8_t *password, size_t password_len,
+    const uint8_t *new_password, size_t new_password_len,
+    uint64_t limit,
+    const uint8_t *random, size_t random_len,
+    uint8_t *output, size_t output_len, size_t *needed);
+
+/* ---- The same in one step, on the C side: written in C, and no part of what is proved.
+ *
+ * Define PKCS12_ONE_STEP before this header is included. On PKCS12_DONE *text is from malloc and has a NUL after its *len
+ * octets: free it. Else *text is NULL. The random octets are the system's. */
+#ifdef PKCS12_ONE_STEP
+#include <stdlib.h>
+#include <sys/random.h>
+
+/* 600,000 rounds and 100,000,000 steps are what the command pkcs12 takes by default. */
+#define PKCS12_ROUNDS_DEFAULT 600000
+#define PKCS12_LIMIT_DEFAULT 100000000
+
+static inline int pkcs12_random(uint8_t *at, size_t len)
+{
+    while (len > 0) {
+        ssize_t got = getrandom(at, len < 256 ? len : 256, 0);
+        if (got <= 0)
+            return 0;
+        at += got;
+        len -= (size_t)got;
+    }
+    return 1;
+}
+
+static inline uint32_t pkcs12_transfer_pem_new(
+    const uint8_t *store, size_t store_len,
+    const uint8_t *password, size_t password_len,
+    const uint8_t *new_password, size_t new_password_len,
+    uint32_t rounds, uint64_t limit, char **text, size_t *len)
+{
+    /* a private key takes more than 32 octets of a store, so there are enough random octets */
+    size_t room = 2 * store_len + 4096, random_len = store_len + 32, needed = 0;
+    uint32_t answer;
+    *text = NULL;
+    *len = 0;
+    if (store_len > PKCS12_STORE_MAX)
+        return PKCS12_TOO_LONG;
+    do {
+        uint8_t *random = (uint8_t *)malloc(random_len), *output = (uint8_t *)malloc(room + 1);
+        if (!random || !output)
+            answer = PKCS12_MEMORY;
+        else if (!pkcs12_random(random, random_len))
+            answer = PKCS12_RANDOM_SHORT;
+        else
+            answer = pkcs12_transfer_pem(store, store_len, password, password_len, new_password, new_password_len, rounds,
+                limit, random, random_len, output, room, &needed);
+        free(random);
+        if (answer == PKCS12_DONE) {
+            output[needed] = 0;
+            *text = (char *)output;
+            *len = needed;
+        } else {
+            free(output);
+            room = needed;
+        }
+    } while (answer == PKCS12_ROOM);
+    return answer;
+}
+
+static inline uint32_t pkcs12_open_pem_new(
+    const uint8_t *store, size_t store_len,
+    const uint8_t *password, size_t password_len,
+    uint64_t limit, char **text, size_t *len)
+{
+    size_t room = 2 * store_len + 4096, needed = 0;
+    uint32_t answer;
+    *text = NULL;
+    *len = 0;
+    if (store_len > PKCS12_STORE_MAX)
+        return PKCS12_TOO_LONG;
+    do {
+        uint8_t *output = (uint8_t *)malloc(room + 1);
+        if (!output)
+            answer = PKCS12_MEMORY;
+        else
+            answer = pkcs12_open_pem(store, store_len, password, password_len, limit, output, room, &needed);
+        if (answer == PKCS12_DONE) {
+            output[needed] = 0;
+            *text = (char *)output;
+            *len = needed;
+        } else {
+            free(output);
+            room = needed;
+        }
+    } while (answer == PKCS12_ROOM);
+    return answer;
+}
+#endif
+
+#ifdef __cplusplus
+}
+#endif
+#endif

@@ -1,0 +1,226 @@
+//! The exports, and the typed calls that they number.
+ghost use Rattle.std.specs.Prelude.{◌≡◌, ◌⊎◌, Result};
+ghost use Rattle.pkcs12_c.specs.Answers.{ChangeAnswers, Fills, ListAnswers, OpenAnswers, TransferAnswers};
+ghost use Rattle.pkcs12_c.specs.Refusal.{answer_number};
+ghost use Rattle.pkcs12_c.specs.declared.refusal.Refusal.{Refusal};
+
+use crate::changed::changed;
+use crate::drawn::transferred;
+use crate::filled::filled;
+use crate::listed::listed;
+use crate::opening::opened;
+use crate::password::password_of;
+use crate::pem::{opened_text_of, pem_text_of};
+use crate::refusal::{Refusal, number_of};
+use std::alloc::Global;
+use transfer::TransferError;
+
+/// The most rounds of PBKDF2 in a document.
+const ROUNDS: u32 = 100_000_000;
+
+/// The transfer, as PEM text.
+fn transfer_pem(
+    alloc: Global,
+    store: &[u8],
+    password: &[u8],
+    new_password: &[u8],
+    rounds: u32,
+    limit: u64,
+    random: &[u8],
+    output: &mut [u8],
+    needed: &mut usize,
+) -> Result<(), Refusal>
+    ensures { TransferAnswers store.now password.now new_password.now random.now rounds limit
+        output.old output.new needed.new result }
+{
+    *needed = 0;
+    if rounds == 0 || rounds > ROUNDS {
+        return Err(Refusal::Rounds);
+    }
+    let Some(password) = password_of(password) else {
+        return Err(Refusal::Password);
+    };
+    match transferred(alloc, store, &password, new_password, rounds, limit, random) {
+        Ok(made) => {
+            match pem_text_of(
+                alloc,
+                made.certificates.as_slice(),
+                made.documents.as_slice(),
+            ) {
+                Ok(text) => filled(text.as_slice(), output, needed),
+                Err(_) => Err(Refusal::Store(TransferError::Memory)),
+            }
+        }
+        Err(refusal) => Err(Refusal::Store(refusal)),
+    }
+}
+
+/// The opened store, as PEM text.
+fn open_pem(
+    alloc: Global,
+    store: &[u8],
+    password: &[u8],
+    limit: u64,
+    output: &mut [u8],
+    needed: &mut usize,
+) -> Result<(), Refusal>
+    ensures { OpenAnswers store.now password.now limit output.old output.new needed.new result }
+{
+    *needed = 0;
+    let Some(password) = password_of(password) else {
+        return Err(Refusal::Password);
+    };
+    match opened(alloc, store, &password, limit) {
+        Ok(made) => match opened_text_of(alloc, made.contents.as_slice(), made.keys.as_slice()) {
+            Ok(text) => filled(text.as_slice(), output, needed),
+            Err(_) => Err(Refusal::Store(TransferError::Memory)),
+        },
+        Err(refusal) => Err(Refusal::Store(refusal)),
+    }
+}
+
+/// The list of what the store holds.
+fn list(
+    alloc: Global,
+    store: &[u8],
+    password: &[u8],
+    limit: u64,
+    output: &mut [u8],
+    needed: &mut usize,
+) -> Result<(), Refusal>
+    ensures { ListAnswers store.now password.now limit output.old output.new needed.new result }
+{
+    *needed = 0;
+    let Some(password) = password_of(password) else {
+        return Err(Refusal::Password);
+    };
+    match listed(alloc, store, &password, limit) {
+        Ok(table) => filled(table.as_str().as_bytes(), output, needed),
+        Err(refusal) => Err(Refusal::Store(refusal)),
+    }
+}
+
+/// The store under another password.
+fn rekey(
+    alloc: Global,
+    store: &[u8],
+    password: &[u8],
+    new_password: &[u8],
+    limit: u64,
+    random: &[u8],
+    output: &mut [u8],
+    needed: &mut usize,
+) -> Result<(), Refusal>
+    ensures { ChangeAnswers store.now password.now new_password.now random.now limit
+        output.old output.new needed.new result }
+{
+    *needed = 0;
+    let Some(password) = password_of(password) else {
+        return Err(Refusal::Password);
+    };
+    let Some(new_password) = password_of(new_password) else {
+        return Err(Refusal::Password);
+    };
+    match changed(alloc, store, &password, &new_password, limit, random) {
+        Ok(text) => filled(text.as_slice(), output, needed),
+        Err(refusal) => Err(Refusal::Store(refusal)),
+    }
+}
+
+/// The version of the interface that `pkcs12.h` declares.
+#[unsafe(no_mangle)]
+pub extern "C" fn pkcs12_version() -> u32
+    ensures { result ≡ 1 }
+{
+    1
+}
+
+/// `pkcs12_transfer_pem` of `pkcs12.h`.
+#[unsafe(no_mangle)]
+pub extern "C" fn pkcs12_transfer_pem(
+    alloc: Global,
+    store: &[u8],
+    password: &[u8],
+    new_password: &[u8],
+    rounds: u32,
+    limit: u64,
+    random: &[u8],
+    output: &mut [u8],
+    needed: &mut usize,
+) -> u32
+    ensures { (r : Result (Unit {0}) Refusal) × (result ≡ answer_number r)
+        × TransferAnswers store.now password.now new_password.now random.now rounds limit
+        output.old output.new needed.new r }
+{
+    number_of(transfer_pem(
+        alloc,
+        store,
+        password,
+        new_password,
+        rounds,
+        limit,
+        random,
+        output,
+        needed,
+    ))
+}
+
+/// `pkcs12_open_pem` of `pkcs12.h`.
+#[unsafe(no_mangle)]
+pub extern "C" fn pkcs12_open_pem(
+    alloc: Global,
+    store: &[u8],
+    password: &[u8],
+    limit: u64,
+    output: &mut [u8],
+    needed: &mut usize,
+) -> u32
+    ensures { (r : Result (Unit {0}) Refusal) × (result ≡ answer_number r)
+        × OpenAnswers store.now password.now limit output.old output.new needed.new r }
+{
+    number_of(open_pem(alloc, store, password, limit, output, needed))
+}
+
+/// `pkcs12_list` of `pkcs12.h`.
+#[unsafe(no_mangle)]
+pub extern "C" fn pkcs12_list(
+    alloc: Global,
+    store: &[u8],
+    password: &[u8],
+    limit: u64,
+    output: &mut [u8],
+    needed: &mut usize,
+) -> u32
+    ensures { (r : Result (Unit {0}) Refusal) × (result ≡ answer_number r)
+        × ListAnswers store.now password.now limit output.old output.new needed.new r }
+{
+    number_of(list(alloc, store, password, limit, output, needed))
+}
+
+/// `pkcs12_rekey` of `pkcs12.h`.
+#[unsafe(no_mangle)]
+pub extern "C" fn pkcs12_rekey(
+    alloc: Global,
+    store: &[u8],
+    password: &[u8],
+    new_password: &[u8],
+    limit: u64,
+    random: &[u8],
+    output: &mut [u8],
+    needed: &mut usize,
+) -> u32
+    ensures { (r : Result (Unit {0}) Refusal) × (result ≡ answer_number r)
+        × ChangeAnswers store.now password.now new_password.now random.now limit
+        output.old output.new needed.new r }
+{
+    number_of(rekey(
+        alloc,
+        store,
+        password,
+        new_password,
+        limit,
+        random,
+        output,
+        needed,
+    ))
+}

@@ -1,0 +1,17 @@
+//! The transfer of a store for C: exports of a static library, which `pkcs12.h` declares.
+//!
+//! Each export tests what the Rattle call requires, hands on what C gave, and returns a number: 0, or that of a refusal.
+#![tactic(auto)]
+
+mod changed;
+mod drawn;
+mod exports;
+mod filled;
+pub mod laws;
+mod listed;
+mod opening;
+mod password;
+mod pem;
+mod refusal;
+#[cfg(test)]
+mod tests;
