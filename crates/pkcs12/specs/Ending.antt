@@ -1,7 +1,7 @@
 -- How the command ends where it has not done what was asked.
 use Rattle.std.specs.Prelude.{ℕ}
 use Rattle.pkcs12.specs.declared.ending.Ending.{Ending}
-use Rattle.pkcs12.specs.declared.ending.Ending.TheVariants.{Usage, ReadFault, WriteFault, Memory, PasswordMissing, NewPasswordMissing, PasswordUnusable, OutputExists, SelfTestFailed, Refused}
+use Rattle.pkcs12.specs.declared.ending.Ending.TheVariants.{Usage, ReadFault, WriteFault, Memory, PasswordMissing, NewPasswordMissing, PasswordUnusable, OutputExists, SelfTestFailed, NotExported, SealLimit, TooManyFiles, Refused}
 use Rattle.frame.specs.Status.{status_code}
 use Rattle.transfer.specs.Status.{status_of}
 
@@ -16,4 +16,7 @@ code_of NewPasswordMissing = 9
 code_of PasswordUnusable = 22
 code_of OutputExists = 23
 code_of SelfTestFailed = 24
+code_of NotExported = 25
+code_of SealLimit = 26
+code_of TooManyFiles = 27
 code_of (Refused refusal) = status_code (status_of refusal)

@@ -1,2 +1,5 @@
 pub mod Ending
+pub mod Exports
 pub mod Origin
+pub mod Others
+pub mod Pairs

@@ -8,10 +8,11 @@ Write the store anew with algorithms that are opened (OpenSSL handles one privat
     openssl pkcs12 -in STORE.p12 -out all.pem
     openssl pkcs12 -export -in all.pem -out NEW.p12 -certpbe AES-256-CBC -keypbe AES-256-CBC -macalg sha256
     rm all.pem
-Add -legacy to the first command if the store is under RC2, and -nokeys to the second if it has no private key.";
+Add -legacy to the first command if the store is under RC2, and -nokeys to the second if it has \
+    no private key.";
 
 const LOOK: &str = "\
-Look whether it is the right file; a store in PEM has to be decoded first. To see what is in the file:
+Look whether it is the right file. To see what is in it:
     openssl asn1parse -inform DER -in STORE.p12 | head
 OpenSSL can convert a store from BER to DER:
     openssl pkcs12 -in STORE.p12 -out all.pem
@@ -19,39 +20,72 @@ OpenSSL can convert a store from BER to DER:
     rm all.pem
 Add -nokeys to the second command if the store has no private key.";
 
+const DAMAGED: &str = "\
+Have it exported again where it came from. If OpenSSL reads it, it can write it anew:
+    openssl pkcs12 -in STORE.p12 -out all.pem
+    openssl pkcs12 -export -in all.pem -out NEW.p12
+    rm all.pem";
+
+const NO_MAC: &str = "\
+Anybody may have changed it. Have it exported again, with a MAC, where it came from.
+Only if you know from elsewhere that nobody changed it, write it anew as the manual page says
+(EXAMPLES): the new store hides that this one had no MAC.";
+
 const OTHER_PASSWORD: &str = "\
-The certificates or keys have another password than the MAC, or are damaged. OpenSSL asks for both passwords:
+The certificates or keys have another password than the MAC, or are damaged. OpenSSL asks for \
+both passwords:
     openssl pkcs12 -twopass -in STORE.p12 -out all.pem
     openssl pkcs12 -export -in all.pem -out NEW.p12
     rm all.pem
 Add -nokeys to the second command if the store has no private key.";
 
 const PASSWORD: &str = "\
-Give it by one of these, or run ./pkcs12 at a terminal, which asks for it:
+This program does not ask for it; the script ./pkcs12 beside it does, at a terminal. Or give it \
+by one of these:
     --password-file FILE    --password-env NAME    --password-stdin";
 
 const NEW_PASSWORD: &str = "\
-Give it by one of these, or run ./pkcs12 at a terminal, which asks for it:
-    --new-password-file FILE    --new-password-env NAME    --new-password-stdin";
+This program does not ask for it; the script ./pkcs12 beside it does, at a terminal. Or give it \
+by one of these:
+    --new-password-file FILE    --new-password-env NAME    --new-password-stdin    --same-password";
+
+const WRONG_PASSWORD: &str = "\
+Try the password again. Of a file the first line counts, with its spaces; a byte order mark \
+would be a part of it.
+To test the password with OpenSSL:
+    openssl pkcs12 -in STORE.p12 -noout";
+
+const UNUSABLE: &str = "\
+A password has at most 1,024 octets of UTF-8; a new one has at least 1 unless \
+--allow-empty-password is given. To convert:
+    iconv -f LATIN1 -t UTF-8 FILE >NEWFILE";
+
+const SELF_TEST: &str = "\
+Do not use this program: it, or the machine, does not do what was proved. Build it anew:
+    rm crates/pkcs12/out/pkcs12
+    ./pkcs12 self-test";
+
+const NOT_EXPORTED: &str = "\
+Give --skip-others to export the rest. OpenSSL writes out a private key that is not encrypted too:
+    openssl pkcs12 -in STORE.p12 -out all.pem";
 
 /// The next command to type, or what to look at.
 pub fn advice(ending: Ending) -> &'static str {
     match ending {
-        Ending::Usage => "See ./pkcs12 --help, ./pkcs12 export --help and ./pkcs12 check --help.",
-        Ending::ReadFault =>
-            "Look whether the file is there and can be read, or the environment variable is exported:\n    ls -l FILE",
-        Ending::WriteFault =>
-            "Look at the folder above it, and whether its disk is full:\n    df -h .",
+        Ending::Usage => "See pkcs12 --help, pkcs12 export --help and pkcs12 check --help.",
+        Ending::ReadFault => "Look whether the file is there and can be read.",
+        Ending::WriteFault => "Look at the folder above it.",
         Ending::Memory =>
             "Nothing was left behind. Close other programs, or use a machine with more memory.",
         Ending::PasswordMissing => PASSWORD,
         Ending::NewPasswordMissing => NEW_PASSWORD,
-        Ending::PasswordUnusable =>
-            "A password has at most 1,024 octets of UTF-8; a new one has at least 1 unless --allow-empty-password is given. To convert:\n    iconv -f LATIN1 -t UTF-8 FILE >NEWFILE",
-        Ending::OutputExists =>
-            "Give the name of a new folder, or --force to replace a folder with all that is in it.",
-        Ending::SelfTestFailed =>
-            "Do not use this program: it, or the machine, does not do what was proved. Build it anew:\n    rm crates/pkcs12/out/pkcs12\n    ./pkcs12 self-test",
+        Ending::PasswordUnusable => UNUSABLE,
+        Ending::OutputExists => "Give the name of a new folder.",
+        Ending::SelfTestFailed => SELF_TEST,
+        Ending::NotExported => NOT_EXPORTED,
+        Ending::SealLimit =>
+            "Give a larger --seal-limit, or fewer --rounds, which make a password easier to guess.",
+        Ending::TooManyFiles => "If that is what you expect of the store, give a larger number.",
         Ending::Refused(refusal) => advice_on_store(refusal),
     }
 }
@@ -59,18 +93,15 @@ pub fn advice(ending: Ending) -> &'static str {
 fn advice_on_store(refusal: TransferError) -> &'static str {
     match refusal {
         TransferError::Malformed => LOOK,
-        TransferError::Unsupported
-        | TransferError::MacMissing
-        | TransferError::MacUnsupported
-        | TransferError::ContentMalformed
-        | TransferError::KeyMalformed => EXPORT_ANEW,
+        TransferError::Unsupported | TransferError::MacUnsupported | TransferError::KeyMalformed =>
+            EXPORT_ANEW,
+        TransferError::ContentMalformed => DAMAGED,
+        TransferError::MacMissing => NO_MAC,
         TransferError::DecryptFailed => OTHER_PASSWORD,
         TransferError::ZeroIterations =>
             "Do not trust the store; have it exported again where it came from.",
-        TransferError::WorkLimit =>
-            "If you trust the store, give a larger limit:\n    --limit 1000000000",
-        TransferError::MacMismatch =>
-            "Try the password again. To test the password with OpenSSL:\n    openssl pkcs12 -in STORE.p12 -noout",
+        TransferError::WorkLimit => "If you trust the store, give a larger --limit.",
+        TransferError::MacMismatch => WRONG_PASSWORD,
         TransferError::Rng => "Look whether /dev/urandom can be read:\n    ls -l /dev/urandom",
         TransferError::TooLong =>
             "Look whether it is the right file, or export the store in smaller parts.",

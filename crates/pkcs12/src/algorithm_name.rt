@@ -6,8 +6,9 @@ use p12::AlgorithmView;
 use pkcs5::pbes2::{PBES2_OID, PBKDF2_OID, Parameters};
 use std::fmt;
 
-/// Identifiers that stores of other programs have, and their names: schemes of encryption and MACs under a password, and kinds of
-/// content; digests, and the functions under PBKDF2; key derivations and ciphers of PBES2.
+/// Identifiers that stores of other programs have, and their names: schemes of encryption and MACs
+/// under a password, and kinds of content; digests, and the functions under PBKDF2; key derivations
+/// and ciphers of PBES2.
 static NAMES: [(&str, &str); 38] = [
     ("1.2.840.113549.1.5.1", "pbeWithMD2AndDES-CBC"),
     ("1.2.840.113549.1.5.3", "pbeWithMD5AndDES-CBC"),
@@ -88,7 +89,8 @@ fn algorithm_in<'a>(r: &mut SliceReader<'a>) -> Result<(ObjectIdentifier, SliceR
     Ok((identifier, body))
 }
 
-/// The pseudorandom function in the parameters of PBKDF2 (RFC 8018 appendix A.2), where one is named.
+/// The pseudorandom function in the parameters of PBKDF2 (RFC 8018 appendix A.2), where one is
+/// named.
 fn prf_of(mut derivation: SliceReader<'_>) -> Result<Option<ObjectIdentifier>, Error> {
     let mut body = read_inner(&mut derivation, Tag::SEQUENCE)?;
     read_inner(&mut body, Tag::OCTET_STRING)?;
@@ -140,7 +142,8 @@ impl fmt::Display for Pbes2Named<'_> {
     }
 }
 
-/// PBES2 under which nothing is opened: with scrypt, or with a length of the key that is not the cipher's.
+/// PBES2 under which nothing is opened: with scrypt, or with a length of the key that is not the
+/// cipher's.
 #[derive(Drop)]
 struct Pbes2NotOpened<'a>(&'a Parameters);
 

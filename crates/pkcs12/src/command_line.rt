@@ -1,30 +1,35 @@
 //! The arguments of the command, as `--help` shows them.
+use crate::{check, export, list, rekey};
 use clap::{Arg, ArgAction, Command};
 use std::alloc::{AllocError, Global};
 
-/// What stands under the options of each subcommand.
+/// What is below the options of each subcommand.
 const NOTES: &str = "\
-A password is never an argument, since other users can read those. Without any of its options, ./pkcs12 asks for it
-at a terminal. Of a file, its first line is the password, without LF or CR LF; /dev/fd/3 and other pipes work;
-./pkcs12 uses descriptors 7, 8 and 9 itself.
+A password is never an argument, since other users can read those. Without any of its options,
+./pkcs12 asks for it at a terminal. Of a file, its first line is the password, without LF or CR LF;
+/dev/fd/3 and other pipes work; ./pkcs12 uses descriptor 7 itself.";
 
-Listing the names afterwards decrypts the contents once more, outside the limit.";
-
-/// What stands under the whole help.
+/// What is below the whole help.
 const AFTER: &str = "\
 Examples:
-  ./pkcs12 check store.p12
-  ./pkcs12 export store.p12 --out pem
-  ./pkcs12 export store.p12 --out der --format der --password-file old --new-password-file new
-  ./pkcs12 export - --out pem --password-env OLD --new-password-env NEW <store.p12
-  ./pkcs12 self-test
+  pkcs12 check store.p12
+  pkcs12 list store.p12
+  pkcs12 export store.p12 --out pem
+  pkcs12 export store.p12 --out der --format der --password-file old --new-password-file new
+  pkcs12 export - --out pem --password-env OLD --new-password-env NEW <store.p12
+  pkcs12 rekey store.p12 --out new.p12
+  pkcs12 self-test
+
+Exported private keys are always encrypted. OpenSSL takes the password off one:
+  openssl pkey -in pem/key-0.pem -out key.pem
+The script ./pkcs12 has subcommands of its own: build, install [PREFIX] and uninstall [PREFIX].
 
 Exit numbers:
-   0  Done                the store was opened, and the answer written whole
-   1  BuildFailed         ./pkcs12 could not build the program
+   0  Done                the store was opened, and all output was written
+   1  BuildFailed         ./pkcs12 could not build or install the program
    2  Usage               bad arguments
    3  ReadFault           the store, a password or /dev/urandom cannot be read
-   4  WriteFault          the answer cannot be written; nothing of it is left
+   4  WriteFault          the output cannot be written; nothing of it is left
    7  Memory              there was not enough memory
    8  PasswordMissing     no password was given, and there is no terminal to ask at
    9  NewPasswordMissing  the store has private keys, and no new password was given
@@ -41,12 +46,16 @@ Exit numbers:
   20  Rng                 the system gave no random octets
   21  TooLong             the store has more than 16,777,215 octets
   22  PasswordUnusable    a password is not UTF-8, too long, or an empty new one
-  23  OutputExists        the output folder is there and not empty, or is no folder
-  24  SelfTestFailed      the self-test gave a wrong result";
+  23  OutputExists        the output folder is there and cannot be replaced
+  24  SelfTestFailed      the self-test gave a wrong result
+  25  NotExported         the store has something that is not exported; nothing was written
+  26  SealLimit           the private keys take more rounds than --seal-limit allows
+  27  TooManyFiles        the store has more certificates and keys than --most-files allows";
 
-/// How an argument is given. The first text stands for its value in the help; the second, where there is one, is its default.
+/// How an argument is given. The first text stands for its value in the help; the second, where
+/// there is one, is its default.
 #[derive(Clone, Copy)]
-enum Form {
+pub enum Form {
     /// By its place, and never left out.
     Place(&'static str),
     /// As an option that is never left out.
@@ -55,132 +64,59 @@ enum Form {
     Optional(&'static str),
     /// As an option that has a default.
     Text(&'static str, &'static str),
-    /// The same of a number; one below zero is read too, so that its refusal says which numbers there are.
+    /// The same of a number; one below zero is read too, so that its refusal says which numbers
+    /// there are.
     Number(&'static str, &'static str),
     /// As an option without a value.
     Flag,
 }
 
 /// An argument of a subcommand.
-struct Argument {
+pub struct Argument {
     /// Its name, which is that of its option too.
-    name: &'static str,
-    form: Form,
+    pub name: &'static str,
+    pub form: Form,
     /// The group of which at most one is given.
-    group: Option<&'static str>,
-    help: &'static str,
+    pub group: Option<&'static str>,
+    pub help: &'static str,
 }
 
-const STORE: Argument = Argument {
+/// The store, by its place.
+pub const STORE: Argument = Argument {
     name: "store",
     form: Form::Place("STORE"),
     group: None,
     help: "The store (.p12, .pfx); - is the standard input",
 };
 
-const OUT: Argument = Argument {
-    name: "out",
-    form: Form::Required("DIR"),
-    group: None,
-    help: "The folder that is made: cert-0.pem, .. and key-0.pem, ..",
-};
-
-const FORMAT: Argument = Argument {
-    name: "format",
-    form: Form::Text("FORMAT", "pem"),
-    group: None,
-    help: "How the files are written: pem or der",
-};
-
-const FORCE: Argument = Argument {
-    name: "force",
-    form: Form::Flag,
-    group: None,
-    help: "Replace DIR, with all that is in it, where it is not empty; no file that is read may be in it",
-};
-
-const PASSWORD_FILE: Argument = Argument {
+pub const PASSWORD_FILE: Argument = Argument {
     name: "password-file",
     form: Form::Optional("FILE"),
     group: Some("password"),
     help: "The store's password is the first line of FILE",
 };
 
-const PASSWORD_ENV: Argument = Argument {
+pub const PASSWORD_ENV: Argument = Argument {
     name: "password-env",
     form: Form::Optional("NAME"),
     group: Some("password"),
     help: "The store's password is the environment variable NAME",
 };
 
-const PASSWORD_STDIN: Argument = Argument {
+pub const PASSWORD_STDIN: Argument = Argument {
     name: "password-stdin",
     form: Form::Flag,
     group: Some("password"),
     help: "The store's password is the first line of the standard input",
 };
 
-const NEW_PASSWORD_FILE: Argument = Argument {
-    name: "new-password-file",
-    form: Form::Optional("FILE"),
-    group: Some("new-password"),
-    help: "The new password is the first line of FILE",
-};
-
-const NEW_PASSWORD_ENV: Argument = Argument {
-    name: "new-password-env",
-    form: Form::Optional("NAME"),
-    group: Some("new-password"),
-    help: "The new password is the environment variable NAME",
-};
-
-const NEW_PASSWORD_STDIN: Argument = Argument {
-    name: "new-password-stdin",
-    form: Form::Flag,
-    group: Some("new-password"),
-    help: "The new password is the first line of the standard input",
-};
-
-const EMPTY_PASSWORD: Argument = Argument {
-    name: "allow-empty-password",
-    form: Form::Flag,
-    group: None,
-    help: "Let the new password be empty: the keys are then not protected",
-};
-
-const ROUNDS: Argument = Argument {
-    name: "rounds",
-    form: Form::Number("ROUNDS", "600000"),
-    group: None,
-    help: "Rounds of PBKDF2 for each exported key; more make a password harder to guess: 1 to 100000000",
-};
-
-const LIMIT: Argument = Argument {
+pub const LIMIT: Argument = Argument {
     name: "limit",
     form: Form::Number("STEPS", "100000000"),
     group: None,
-    help: "Refuse a store that takes more than this many steps (hash computations of key derivation) to open: 0 to 18446744073709551615",
+    help: "Refuse a store that takes more than this many steps (hash computations of key \
+        derivation) to open: 0 to 18446744073709551615",
 };
-
-/// Those of `export`, in the order of the help.
-static OF_EXPORT: [Argument; 13] = [
-    STORE,
-    OUT,
-    FORMAT,
-    FORCE,
-    PASSWORD_FILE,
-    PASSWORD_ENV,
-    PASSWORD_STDIN,
-    NEW_PASSWORD_FILE,
-    NEW_PASSWORD_ENV,
-    NEW_PASSWORD_STDIN,
-    EMPTY_PASSWORD,
-    ROUNDS,
-    LIMIT,
-];
-
-/// Those of `check`.
-static OF_CHECK: [Argument; 5] = [STORE, PASSWORD_FILE, PASSWORD_ENV, PASSWORD_STDIN, LIMIT];
 
 /// An option that takes a value.
 fn option<'a>(arg: Arg<'a>, name: &'a str, value: &'a str) -> Arg<'a> {
@@ -245,20 +181,14 @@ fn self_test<'a>(alloc: Global) -> Command<'a> {
 
 /// The command with its subcommands.
 fn with_subcommands<'a>(alloc: Global, command: Command<'a>) -> Result<Command<'a>, AllocError> {
-    let command = with_subcommand(
-        alloc,
-        command,
-        "export",
-        "Write the certificates, and the private keys sealed under a new password, into a new folder",
-        &OF_EXPORT,
-    )?;
-    let command = with_subcommand(
-        alloc,
-        command,
-        "check",
-        "Open the store, write nothing, and say what is in it",
-        &OF_CHECK,
-    )?;
+    let export = &export::ARGUMENTS;
+    let command = with_subcommand(alloc, command, export::NAME, export::ABOUT, export)?;
+    let check = &check::ARGUMENTS;
+    let command = with_subcommand(alloc, command, check::NAME, check::ABOUT, check)?;
+    let list = &list::ARGUMENTS;
+    let command = with_subcommand(alloc, command, list::NAME, list::ABOUT, list)?;
+    let rekey = &rekey::ARGUMENTS;
+    let command = with_subcommand(alloc, command, rekey::NAME, rekey::ABOUT, rekey)?;
     command.subcommand(self_test(alloc))
 }
 
@@ -266,7 +196,7 @@ fn with_subcommands<'a>(alloc: Global, command: Command<'a>) -> Result<Command<'
 pub fn command<'a>(alloc: Global) -> Result<Command<'a>, AllocError> {
     let command = Command::new(alloc, "pkcs12")
         .bin_name("pkcs12")?
-        .version("0.1.0")
+        .version("0.2.0")
         .about("Open a PKCS#12 store, and take out its certificates and private keys")
         .after_help(AFTER)
         .subcommand_required(true)

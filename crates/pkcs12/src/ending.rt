@@ -2,6 +2,8 @@
 ghost use Rattle.std.specs.Prelude.{◌≡◌};
 ghost use Rattle.pkcs12.specs.Ending.{code_of};
 
+use crate::io_advice::advice_on_io;
+use crate::printable::Printable;
 use std::alloc::{AllocError, AllocFailed, Global};
 use std::io;
 use transfer::{Status, TransferError};
@@ -23,10 +25,16 @@ pub enum Ending {
     NewPasswordMissing,
     /// A password is not UTF-8, has more than 1,024 octets, or is an empty new one.
     PasswordUnusable,
-    /// The output folder is there, and is not an empty folder.
+    /// The output folder is there, and cannot be replaced.
     OutputExists,
     /// The self-test gave a wrong result.
     SelfTestFailed,
+    /// The store has bags that are not exported.
+    NotExported,
+    /// The private keys take more rounds than `--seal-limit` allows.
+    SealLimit,
+    /// The store has more certificates and private keys than `--most-files` allows.
+    TooManyFiles,
     /// The store is refused.
     Refused(TransferError),
 }
@@ -47,6 +55,9 @@ impl Ending {
             Ending::PasswordUnusable => 22,
             Ending::OutputExists => 23,
             Ending::SelfTestFailed => 24,
+            Ending::NotExported => 25,
+            Ending::SealLimit => 26,
+            Ending::TooManyFiles => 27,
             Ending::Refused(refusal) => Status::from(refusal).code(),
         }
     }
@@ -63,6 +74,9 @@ impl Ending {
             Ending::PasswordUnusable => "PasswordUnusable",
             Ending::OutputExists => "OutputExists",
             Ending::SelfTestFailed => "SelfTestFailed",
+            Ending::NotExported => "NotExported",
+            Ending::SealLimit => "SealLimit",
+            Ending::TooManyFiles => "TooManyFiles",
             Ending::Refused(refusal) => Status::from(refusal).name(),
         }
     }
@@ -84,11 +98,13 @@ impl Message {
     }
 }
 
-/// A failure: its kind, and what exactly was wrong.
+/// A failure: its kind, what exactly was wrong, and what to do, where that is more than its kind
+/// says.
 #[derive(Drop)]
 pub struct Failure {
     pub ending: Ending,
     pub message: Message,
+    pub advice: Option<Message>,
 }
 
 impl Failure {
@@ -98,6 +114,7 @@ impl Failure {
         Failure {
             ending,
             message: Message::Fixed(text),
+            advice: None,
         }
     }
 
@@ -107,6 +124,32 @@ impl Failure {
         Failure {
             ending,
             message: Message::Made(text),
+            advice: None,
+        }
+    }
+
+    /// The failure with this advice in place of that of its kind.
+    pub fn advised(self, advice: &'static str) -> Failure
+        ensures { result.ending ≡ self.ending }
+    {
+        Failure {
+            ending: self.ending,
+            message: self.message,
+            advice: Some(Message::Fixed(advice)),
+        }
+    }
+
+    /// The failure with this advice, where there was memory for it.
+    pub fn advised_by(self, advice: Result<String, AllocError>) -> Failure
+        ensures { result.ending ≡ self.ending }
+    {
+        match advice {
+            Ok(text) => Failure {
+                ending: self.ending,
+                message: self.message,
+                advice: Some(Message::Made(text)),
+            },
+            Err(_) => self,
         }
     }
 
@@ -118,7 +161,8 @@ impl Failure {
         }
     }
 
-    /// The failure of a call on the system, for this purpose and at this path.
+    /// The failure of a call on the system, for this purpose and at this path, with advice by its
+    /// cause.
     pub fn io(
         alloc: Global,
         ending: Ending,
@@ -129,7 +173,12 @@ impl Failure {
         if error.kind() == io::ErrorKind::OutOfMemory {
             return Failure::from(AllocError);
         }
-        Failure::told(ending, format!(in alloc; "{purpose} {path}: {error}"))
+        let shown = Printable(path);
+        let failure = Failure::told(ending, format!(in alloc; "{purpose} {shown}: {error}"));
+        match advice_on_io(alloc, ending, path, &error) {
+            Some(advice) => failure.advised_by(advice),
+            None => failure,
+        }
     }
 }
 

@@ -1,32 +1,38 @@
 //! The output folder: it is there whole, or not at all.
+use crate::attributes::Attributes;
 use crate::ending::{Ending, Failure};
-use crate::request::Format;
-use asn1_core::Octets;
-use pem_text::pem_of;
+use crate::export::Target;
+use crate::file_name::is_exported_name;
+use crate::listing::Listing;
+use crate::output_exists::{Kept, replaceable};
+use crate::paths::{name, parent};
+use crate::printable::{Printable, ShellWord, fits_in_command};
+use crate::written_files::fill;
 use std::alloc::{AllocError, Global};
-use std::fs::{DirBuilder, Metadata, OpenFile, OpenOptions};
-use std::io::Write;
-use std::os::unix::fs::{DirBuilderExt, OpenOptionsExt};
+use std::fs::{DirBuilder, Metadata, OpenFile};
+use std::os::unix::fs::{DirBuilderExt, MetadataExt};
 use std::rt::Files;
 use std::{fs, io};
 use transfer::Transferred;
 
-/// Where the answer goes: a folder that is not there yet, is empty, or is to be replaced.
+/// Where the answer goes: a folder that is not there yet, or is to be replaced.
 #[derive(Clone, Copy)]
 pub struct Folder<'a> {
-    /// Its path, without slashes behind it.
+    pub target: Target<'a>,
+    /// Its path, without slashes at its end.
     path: &'a str,
-    /// Whether a folder that is not empty stands there now, which is replaced.
+    /// The number of the process, which is in the names of what it makes beside the folder.
+    process: u32,
+    /// What stays of a folder that is there now.
+    pub kept: Option<Kept>,
+    /// Whether a folder that is not empty is there now.
     replaces: bool,
 }
 
 /// The folder of this path. `Usage` where the path has no name at its end.
 fn named_folder(out: &str) -> Result<&str, Failure> {
     let path = out.trim_end_matches('/');
-    let name = match path.rsplit_once('/') {
-        Some((_, name)) => name,
-        None => path,
-    };
+    let name = name(path);
     if name.is_empty() || name == "." || name == ".." {
         return Err(Failure::new(
             Ending::Usage,
@@ -36,63 +42,65 @@ fn named_folder(out: &str) -> Result<&str, Failure> {
     Ok(path)
 }
 
-/// The folder in which this path stands.
-fn parent(path: &str) -> &str {
-    match path.rsplit_once('/') {
-        Some(("", _)) => "/",
-        Some((parent, _)) => parent,
-        None => ".",
-    }
-}
-
-/// Whether the folder has no files.
-fn is_empty<R: Files + AllocGlobal + Clone + Drop>(rt: &R, path: &str) -> io::Result<bool> {
-    let mut entries = fs::read_dir(rt, path)?;
-    match entries.next() {
-        None => Ok(true),
-        Some(Ok(_)) => Ok(false),
-        Some(Err(error)) => Err(error),
-    }
-}
-
-fn in_the_way(alloc: Global, path: &str, what: &str) -> Failure {
-    Failure::told(Ending::OutputExists, format!(in alloc; "{path} {what}"))
-}
-
 fn write_fault(alloc: Global, purpose: &str, path: &str, error: io::Error) -> Failure {
     Failure::io(alloc, Ending::WriteFault, purpose, path, error)
 }
 
-/// Why the folder in which the answer is begun was not made. Where one of that name is there already, a process of the same
-/// number left it.
-fn not_made(alloc: Global, part: &str, error: io::Error) -> Failure {
-    if error.kind() == io::ErrorKind::AlreadyExists {
-        let text = format!(in alloc;
-            "{part} is left of a run that was killed; remove it: rm -r {part}"
-        );
-        return Failure::told(Ending::WriteFault, text);
+/// The failure where a process of the same number left the folder in which the answer is begun.
+fn left_over(alloc: Global, part: &str) -> Failure {
+    let shown = Printable(part);
+    let failure = Failure::told(
+        Ending::WriteFault,
+        format!(in alloc; "{shown} is left of a run that was killed"),
+    );
+    if !fits_in_command(part) {
+        return failure.advised("Remove it.");
     }
-    write_fault(alloc, "the folder", part, error)
+    let word = ShellWord(part);
+    failure.advised_by(format!(in alloc; "Remove it:\n    rm -r {word}"))
 }
 
-/// The failure where the folder that stood at the path could not be given its name back.
-fn not_put_back(alloc: Global, path: &str, old: &str, error: io::Error) -> Failure {
+/// The failure where the attributes of a folder that is there cannot be kept.
+fn not_kept(alloc: Global, path: &str, error: io::Error) -> Failure {
+    let shown = Printable(path);
     let text = format!(in alloc;
-        "the output folder {path}: {error}; the folder that stood there is now at {old}"
+        "{shown} is there already, and its mode, owner and group cannot be kept: {error}"
+    );
+    Failure::told(Ending::WriteFault, text).advised(
+        "Run as its owner, or give the name of a new folder.",
+    )
+}
+
+/// The failure where the folder that was at the path could not be given its name back.
+fn not_put_back(alloc: Global, path: &str, old: &str, error: io::Error) -> Failure {
+    let shown = Printable(path);
+    let old = Printable(old);
+    let text = format!(in alloc;
+        "the output folder {shown}: {error}; the folder that was there is now at {old}"
     );
     Failure::told(Ending::WriteFault, text)
 }
 
-/// Removes a folder. Where that fails, a line on the standard error says so.
-fn remove_or_tell<R: Files + Eprint + AllocGlobal>(rt: &R, path: &str, what: &str) {
-    match fs::remove_dir_all(rt, path) {
-        Ok(()) => {}
-        Err(error) => {
-            // A standard error that cannot be written to is no failure of the work.
-            match eprintln!(rt; "pkcs12: {path}, {what}, could not be removed: {error}") {
-                Ok(()) | Err(_) => {}
-            }
-        }
+/// The failure where the new folder could not get its name. Another run may have made a folder of
+/// the name meanwhile.
+fn not_placed(alloc: Global, path: &str, error: io::Error) -> Failure {
+    if matches!(
+        error.kind(),
+        io::ErrorKind::DirectoryNotEmpty | io::ErrorKind::AlreadyExists
+    ) {
+        let shown = Printable(path);
+        let text = format!(in alloc; "{shown} was made meanwhile, and is not empty");
+        return Failure::told(Ending::OutputExists, text);
+    }
+    write_fault(alloc, "the output folder", path, error)
+}
+
+/// Says on the standard error that something was not done which does not make the answer wrong.
+fn tell<R: Eprint>(rt: &R, path: &str, what: &str, error: &io::Error) {
+    let shown = Printable(path);
+    // A standard error that cannot be written to is no failure of the work.
+    match eprintln!(rt; "pkcs12: {shown}, {what}: {error}") {
+        Ok(()) | Err(_) => {}
     }
 }
 
@@ -103,73 +111,161 @@ fn lies_in<R: Files + AllocGlobal>(rt: &R, file: &str, folder: &str) -> io::Resu
     Ok(file.as_path().starts_with(folder.as_path()))
 }
 
-/// Where nothing stands at the path: it can be made where its parent is a folder.
-fn new_folder<'a, R: Files + AllocGlobal>(rt: &R, path: &'a str) -> Result<Folder<'a>, Failure> {
-    match fs::metadata(rt, parent(path)) {
-        Ok(_) => Ok(Folder {
-            path,
-            replaces: false,
-        }),
-        Err(error) => Err(write_fault(rt.alloc(), "the folder", parent(path), error)),
-    }
-}
-
-/// Where something stands at the path: a folder is taken where it is empty, or `force` is set.
-fn found<'a, R: Files + AllocGlobal + Clone + Drop>(
-    rt: &R,
-    path: &'a str,
-    there: &Metadata,
-    force: bool,
-) -> Result<Folder<'a>, Failure> {
-    if there.is_symlink() {
-        return Err(in_the_way(rt.alloc(), path, "is a link, and not a folder"));
-    }
-    if !there.is_dir() {
-        return Err(in_the_way(rt.alloc(), path, "is there already, and is not a folder"));
-    }
-    match is_empty(rt, path) {
-        Ok(empty) if empty || force => Ok(Folder {
-            path,
-            replaces: !empty,
-        }),
-        Ok(_) => Err(in_the_way(rt.alloc(), path, "is there already, and is not empty")),
-        Err(error) => Err(write_fault(rt.alloc(), "the output folder", path, error)),
-    }
-}
-
 /// The failure where `--force` would remove this file.
 fn would_go(alloc: Global, file: &str, path: &str) -> Failure {
+    let file = Printable(file);
+    let path = Printable(path);
     let text = format!(in alloc;
         "{file} lies in {path}, and --force would remove it with all that is there"
     );
     Failure::told(Ending::Usage, text)
 }
 
-/// Makes the folder in which the answer is begun, which only its owner may read.
-fn make<R: Files + AllocGlobal>(rt: &R, part: &str) -> Result<(), Failure> {
-    match DirBuilder::new().mode(0o700).create(rt, part) {
-        Ok(()) => Ok(()),
-        Err(error) => Err(not_made(rt.alloc(), part, error)),
+/// Whether the entries of a folder belong to who made them, as in /tmp.
+fn is_sticky<R: Files>(rt: &R, path: &str) -> bool {
+    match fs::metadata(rt, path) {
+        Ok(there) => there.mode() & 0o1000 != 0,
+        Err(_) => false,
     }
 }
 
+/// Whether it is the same file or folder.
+fn is_same(one: &Metadata, other: &Metadata) -> bool {
+    one.dev() == other.dev() && one.ino() == other.ino()
+}
+
+/// Gives what is at `from` the path `to`. Over NFS a rename may be called failed though it was
+/// done: then it is done.
+pub fn rename_whole<R: Files>(rt: &R, from: &str, to: &str) -> io::Result<()> {
+    let moved = fs::symlink_metadata(rt, from)?;
+    match fs::rename(rt, from, to) {
+        Ok(()) => Ok(()),
+        Err(error) => {
+            let is_gone = fs::symlink_metadata(rt, from).is_err();
+            match fs::symlink_metadata(rt, to) {
+                Ok(there) if is_gone && is_same(&there, &moved) => Ok(()),
+                _ => Err(error),
+            }
+        }
+    }
+}
+
+/// Whether a file system that has no such call gave this error.
+fn is_unsupported(error: &io::Error) -> bool {
+    matches!(
+        error.kind(),
+        io::ErrorKind::InvalidInput | io::ErrorKind::Unsupported | io::ErrorKind::PermissionDenied
+    )
+}
+
+/// Brings the entries of a folder to the disk, where its file system and mode allow that.
+pub fn sync_folder<R: Files>(rt: &R, path: &str) -> io::Result<()> {
+    let synced = match fs::open(rt, path) {
+        Ok(folder) => folder.sync_all(),
+        Err(error) => Err(error),
+    };
+    match synced {
+        Err(error) if is_unsupported(&error) => Ok(()),
+        synced => synced,
+    }
+}
+
+/// Removes what `export` writes from a folder, and then the folder.
+fn remove_exported<R: Files + AllocGlobal + Clone + Drop>(rt: &R, path: &str) -> io::Result<()> {
+    for entry in fs::read_dir(rt, path)? {
+        let entry = entry?;
+        if is_exported_name(entry.file_name()) {
+            fs::remove_file(rt, entry.path())?;
+        }
+    }
+    fs::remove_dir(rt, path)
+}
+
 impl<'a> Folder<'a> {
-    /// The folder at this path. `OutputExists` where something is there other than an empty folder, unless it is a folder
-    /// and `force` is set.
-    pub fn find<R: Files + AllocGlobal + Clone + Drop>(
+    /// The folder at this path. `OutputExists` where something is there that cannot be replaced,
+    /// and `WriteFault` where the folder cannot be made there: that is tried, beside its place.
+    pub fn find<R: Files + Eprint + AllocGlobal + Clone + Drop>(
         rt: &R,
-        out: &'a str,
-        force: bool,
+        target: Target<'a>,
+        process: u32,
     ) -> Result<Folder<'a>, Failure> {
-        let path = named_folder(out)?;
-        match fs::symlink_metadata(rt, path) {
-            Ok(there) => found(rt, path, &there, force),
-            Err(error) if error.kind() == io::ErrorKind::NotFound => new_folder(rt, path),
-            Err(error) => Err(write_fault(rt.alloc(), "the output folder", path, error)),
+        let path = named_folder(target.out)?;
+        let (kept, replaces) = match fs::symlink_metadata(rt, path) {
+            Ok(there) => {
+                let (kept, replaces) = replaceable(rt, path, &there, target.force)?;
+                (Some(kept), replaces)
+            }
+            Err(error) if error.kind() == io::ErrorKind::NotFound => (None, false),
+            Err(error) => return Err(write_fault(rt.alloc(), "the output folder", path, error)),
+        };
+        let folder = Folder {
+            target,
+            path,
+            process,
+            kept,
+            replaces,
+        };
+        folder.try_out(rt)?;
+        Ok(folder)
+    }
+
+    /// The path at which the answer is begun.
+    fn part(&self, alloc: Global) -> Result<String, AllocError> {
+        let path = self.path;
+        let process = self.process;
+        format!(in alloc; "{path}.part-{process}")
+    }
+
+    /// The path at which the folder that is replaced is meanwhile.
+    fn old(&self, alloc: Global) -> Result<String, AllocError> {
+        let path = self.path;
+        let process = self.process;
+        format!(in alloc; "{path}.old-{process}")
+    }
+
+    /// Makes the folder in which the answer is begun, which only its owner may read.
+    fn make<R: Files + AllocGlobal>(&self, rt: &R, part: &str) -> Result<(), Failure> {
+        match DirBuilder::new().mode(0o700).create(rt, part) {
+            Ok(()) => Ok(()),
+            Err(error) if error.kind() == io::ErrorKind::AlreadyExists => {
+                Err(left_over(rt.alloc(), part))
+            }
+            Err(error) => Err(write_fault(rt.alloc(), "the output folder", self.path, error)),
         }
     }
 
-    /// `Usage` where the file lies in the folder, and so would be removed with what the folder has now.
+    /// Makes the folder beside its place, with what it is to keep, and removes it again.
+    fn try_out<R: Files + Eprint + AllocGlobal>(&self, rt: &R) -> Result<(), Failure> {
+        let part = self.part(rt.alloc())?;
+        self.make(rt, part.as_str())?;
+        let tried = self.try_to_keep(rt, part.as_str());
+        if let Err(error) = fs::remove_dir(rt, part.as_str()) {
+            tell(rt, part.as_str(), "could not be removed", &error);
+        }
+        tried
+    }
+
+    /// That the folder made at `part` can get what is kept. `OutputExists` where the folder that is
+    /// there is another user's, among folders that everybody may make.
+    fn try_to_keep<R: Files + AllocGlobal>(&self, rt: &R, part: &str) -> Result<(), Failure> {
+        let Some(kept) = &self.kept else {
+            return Ok(());
+        };
+        let made = match fs::symlink_metadata(rt, part) {
+            Ok(made) => made,
+            Err(error) => return Err(write_fault(rt.alloc(), "the output folder", part, error)),
+        };
+        if kept.folder.owner != made.uid() && is_sticky(rt, parent(self.path)) {
+            return Err(anothers(rt.alloc(), self.path));
+        }
+        match kept.try_on(rt, part) {
+            Ok(()) => Ok(()),
+            Err(error) => Err(not_kept(rt.alloc(), self.path, error)),
+        }
+    }
+
+    /// `Usage` where the file lies in the folder, and so would be removed with what the folder has
+    /// now.
     pub fn keeps<R: Files + AllocGlobal>(&self, rt: &R, file: &str) -> Result<(), Failure> {
         if !self.replaces {
             return Ok(());
@@ -185,151 +281,142 @@ impl<'a> Folder<'a> {
         }
     }
 
-    /// Writes all of it beside the folder's place, in a folder that this process alone has, and then gives it the folder's
-    /// name. After a failure that is removed again, and what stood at the place before stands there again; where either cannot
-    /// be done, a line or the failure says so. A folder that was replaced and cannot be removed is no failure: a line names it.
-    pub fn write<R: Files + Eprint + AllocGlobal>(
+    /// Writes all of it beside the folder's place, in a folder that this process alone has, and
+    /// then gives it the folder's name. After a failure that is removed again, and what was at the
+    /// place before is there again; where either cannot be done, a line or the failure says so. A
+    /// folder that was replaced and cannot be removed is no failure: a line names it.
+    pub fn write<R: Files + Eprint + AllocGlobal + Clone + Drop>(
         &self,
         rt: &R,
-        process: u32,
-        format: Format,
         transferred: &Transferred,
+        found: &Listing,
     ) -> Result<(), Failure> {
-        let path = self.path;
-        let part = format!(in rt.alloc(); "{path}.part-{process}")?;
-        let old = format!(in rt.alloc(); "{path}.old-{process}")?;
-        make(rt, part.as_str())?;
-        let written = self.fill_and_place(rt, part.as_str(), old.as_str(), format, transferred);
+        let part = self.part(rt.alloc())?;
+        self.make(rt, part.as_str())?;
+        let written = self.fill_and_place(rt, part.as_str(), transferred, found);
         if written.is_err() {
-            remove_or_tell(rt, part.as_str(), "the new folder");
+            if let Err(error) = fs::remove_dir_all(rt, part.as_str()) {
+                tell(
+                    rt,
+                    part.as_str(),
+                    "the new folder, could not be removed",
+                    &error,
+                );
+            }
         }
         written
     }
 
     /// Writes all of it into the folder in which the answer is begun, and puts that in its place.
-    fn fill_and_place<R: Files + Eprint + AllocGlobal>(
+    fn fill_and_place<R: Files + Eprint + AllocGlobal + Clone + Drop>(
         &self,
         rt: &R,
         part: &str,
-        old: &str,
-        format: Format,
         transferred: &Transferred,
+        found: &Listing,
     ) -> Result<(), Failure> {
-        match fill(rt, part, format, transferred) {
-            Ok(()) => self.place(rt, part, old),
+        match fill(rt, self, part, transferred, found) {
+            Ok(()) => self.place(rt, part),
             Err(error) => Err(write_fault(rt.alloc(), "the output folder", self.path, error)),
         }
     }
 
     /// Gives the new folder the name of this one.
-    fn place<R: Files + Eprint + AllocGlobal>(
+    fn place<R: Files + Eprint + AllocGlobal + Clone + Drop>(
         &self,
         rt: &R,
         part: &str,
-        old: &str,
+    ) -> Result<(), Failure> {
+        if self.replaces {
+            return self.replace(rt, part);
+        }
+        match rename_whole(rt, part, self.path) {
+            Ok(()) => {
+                self.sync_place(rt);
+                Ok(())
+            }
+            Err(error) => Err(not_placed(rt.alloc(), self.path, error)),
+        }
+    }
+
+    /// Brings the folder's name to the disk. Whether it is there.
+    fn sync_place<R: Files + Eprint>(&self, rt: &R) -> bool {
+        match sync_folder(rt, parent(self.path)) {
+            Ok(()) => true,
+            Err(error) => {
+                tell(
+                    rt,
+                    self.path,
+                    "is written, and may not be on the disk yet",
+                    &error,
+                );
+                false
+            }
+        }
+    }
+
+    /// Puts the new folder in the place of the old one, which is removed once the new one is on the
+    /// disk.
+    fn replace<R: Files + Eprint + AllocGlobal + Clone + Drop>(
+        &self,
+        rt: &R,
+        part: &str,
     ) -> Result<(), Failure> {
         let path = self.path;
-        if self.replaces {
-            return replace(rt, part, path, old);
+        let old = self.old(rt.alloc())?;
+        let old = old.as_str();
+        if let Err(error) = rename_whole(rt, path, old) {
+            return Err(write_fault(rt.alloc(), "the output folder", path, error));
         }
-        match fs::rename(rt, part, path) {
-            Ok(()) => Ok(()),
-            Err(error) => Err(write_fault(rt.alloc(), "the output folder", path, error)),
+        match rename_whole(rt, part, path) {
+            Ok(()) => {
+                self.remove_old(rt, old);
+                Ok(())
+            }
+            Err(error) => match rename_whole(rt, old, path) {
+                Ok(()) => Err(write_fault(rt.alloc(), "the output folder", path, error)),
+                Err(_) => Err(not_put_back(rt.alloc(), path, old, error)),
+            },
+        }
+    }
+
+    /// Removes the folder that was replaced, where the new one is on the disk.
+    fn remove_old<R: Files + Eprint + AllocGlobal + Clone + Drop>(&self, rt: &R, old: &str) {
+        if !self.sync_place(rt) {
+            return;
+        }
+        if let Err(error) = remove_exported(rt, old) {
+            tell(
+                rt,
+                old,
+                "the folder that was replaced, could not be removed",
+                &error,
+            );
         }
     }
 }
 
-/// Puts the new folder in the place of the old one, which is removed.
-fn replace<R: Files + Eprint + AllocGlobal>(
-    rt: &R,
-    part: &str,
-    path: &str,
-    old: &str,
-) -> Result<(), Failure> {
-    if let Err(error) = fs::rename(rt, path, old) {
-        return Err(write_fault(rt.alloc(), "the output folder", path, error));
-    }
-    match fs::rename(rt, part, path) {
-        Ok(()) => {
-            // The answer is there.
-            remove_or_tell(rt, old, "the folder that was replaced");
-            Ok(())
-        }
-        Err(error) => match fs::rename(rt, old, path) {
-            Ok(()) => Err(write_fault(rt.alloc(), "the output folder", path, error)),
-            Err(_) => Err(not_put_back(rt.alloc(), path, old, error)),
-        },
+/// The failure where the folder that is there is another user's.
+fn anothers(alloc: Global, path: &str) -> Failure {
+    let shown = Printable(path);
+    let text = format!(in alloc;
+        "{shown} is a folder of another user, in a folder that everybody may write to"
+    );
+    Failure::told(Ending::OutputExists, text).advised("Give the name of a new folder.")
+}
+
+impl Kept {
+    /// Gives what is kept to the folder at the path, to see whether that may be.
+    fn try_on<R: Files>(&self, rt: &R, path: &str) -> io::Result<()> {
+        give_owner_of(rt, self.certificates, path)?;
+        give_owner_of(rt, self.keys, path)?;
+        self.folder.give_to_folder(rt, path)
     }
 }
 
-/// Writes a file that was not there, which only its owner may read.
-fn write_new<R: Files>(rt: &R, path: &str, octets: &[u8]) -> io::Result<()> {
-    let mut file = OpenOptions::new()
-        .write(true)
-        .create_new(true)
-        .mode(0o600)
-        .open(rt, path)?;
-    file.write_all(octets)
-}
-
-/// The files of one kind.
-#[derive(Clone, Copy)]
-struct Kind<'a> {
-    folder: &'a str,
-    /// How their names begin.
-    name: &'static str,
-    /// What stands in the boundaries of their PEM text.
-    label: &'static str,
-    format: Format,
-}
-
-/// Writes one of them under its number.
-fn write_one<R: Files + AllocGlobal>(
-    rt: &R,
-    kind: &Kind<'_>,
-    number: usize,
-    octets: &[u8],
-) -> io::Result<()> {
-    let folder = kind.folder;
-    let name = kind.name;
-    let suffix = kind.format.suffix();
-    let path = format!(in rt.alloc(); "{folder}/{name}-{number}.{suffix}")?;
-    match kind.format {
-        Format::Der => write_new(rt, path.as_str(), octets),
-        Format::Pem => match pem_of(rt.alloc(), kind.label, octets) {
-            Ok(text) => write_new(rt, path.as_str(), text.as_slice()),
-            Err(_) => Err(io::Error::from(io::ErrorKind::OutOfMemory)),
-        },
+fn give_owner_of<R: Files>(rt: &R, files: Option<Attributes>, path: &str) -> io::Result<()> {
+    match files {
+        Some(files) => files.give_owner(rt, path),
+        None => Ok(()),
     }
-}
-
-/// Writes each of these.
-fn write_each<R: Files + AllocGlobal>(rt: &R, kind: &Kind<'_>, each: &[Octets]) -> io::Result<()> {
-    for (i, octets) in each.iter().enumerate() {
-        write_one(rt, kind, i, octets.as_slice())?;
-    }
-    Ok(())
-}
-
-/// Writes everything into a folder.
-fn fill<R: Files + AllocGlobal>(
-    rt: &R,
-    folder: &str,
-    format: Format,
-    transferred: &Transferred,
-) -> io::Result<()> {
-    let certificates = Kind {
-        folder,
-        name: "cert",
-        label: "CERTIFICATE",
-        format,
-    };
-    let documents = Kind {
-        folder,
-        name: "key",
-        label: "ENCRYPTED PRIVATE KEY",
-        format,
-    };
-    write_each(rt, &certificates, transferred.certificates.as_slice())?;
-    write_each(rt, &documents, transferred.documents.as_slice())
 }

@@ -1,4 +1,5 @@
-//! What stands in a store beside what is transferred: names of its bags, and algorithms that are not opened.
+//! What stands in a store beside what is transferred: names of its bags, and algorithms that are
+//! not opened.
 ghost use Rattle.std.specs.Prelude.{◌≡◌, ◌<◌, ◌≤◌, ◌^◌, IsTrue, length};
 ghost use Rattle.p12.specs.AlgorithmIdentifier.{salt_of};
 ghost use Rattle.p12.specs.AlgorithmView.{seen_algorithm};
@@ -6,9 +7,9 @@ ghost use Rattle.p12.specs.AlgorithmView.{seen_algorithm};
 use crate::algorithm_name::{AlgorithmName, Named};
 use crate::ending::Failure;
 use crate::listing::{Label, Listing};
-use crate::passed_over::PassedOver;
+use crate::other_bag::OtherBag;
 use crate::password::Password;
-use asn1_core::Octets;
+use asn1_core::{Items, Octets};
 use p12::{
     AlgorithmView, BagView, BagsView, ContentView, ContentsView, Error, SafeBag, SafeBagKind,
     StoreView,
@@ -84,7 +85,7 @@ fn opened_from<L: Ledger>(
 }
 
 /// The plain octets of a content under the password; None where it does not open.
-fn plain_of(
+pub fn plain_of(
     alloc: Global,
     content: &ContentView<'_>,
     password: &Password,
@@ -107,8 +108,8 @@ fn plain_of(
 
 /// Adds a bag to what was found.
 fn add_bag(alloc: Global, bag: &SafeBag, found: &mut Listing) -> Result<(), Failure> {
-    match PassedOver::of(&bag.bag) {
-        Some(kind) => found.passed_over.push(kind)?,
+    match OtherBag::of(&bag.bag) {
+        Some(kind) => found.others.push(kind)?,
         None => {
             let label = Label::of(alloc, bag)?;
             match &bag.bag {
@@ -122,24 +123,12 @@ fn add_bag(alloc: Global, bag: &SafeBag, found: &mut Listing) -> Result<(), Fail
     Ok(())
 }
 
-/// Adds the bags of a content to what was found.
-fn add_bags(alloc: Global, text: &[u8], found: &mut Listing) -> Result<(), Failure> {
-    let bags = SafeBag::parse_all(alloc, text)?;
-    for bag in bags.as_slice() {
-        add_bag(alloc, bag, found)?;
-    }
-    Ok(())
-}
-
-/// What stands in a store that was transferred under the password.
-pub fn listing(alloc: Global, store: &[u8], password: &Password) -> Result<Listing, Failure> {
+/// What stands in the bags of an opened store.
+pub fn listing(alloc: Global, contents: &[Items<SafeBag>]) -> Result<Listing, Failure> {
     let mut found = Listing::new(alloc);
-    let Some(mut contents) = contents_of(store) else {
-        return Ok(found);
-    };
-    while let Some(content) = contents.next() {
-        if let Some(plain) = plain_of(alloc, &content, password)? {
-            add_bags(alloc, plain.as_slice(), &mut found)?;
+    for bags in contents {
+        for bag in bags.as_slice() {
+            add_bag(alloc, bag, &mut found)?;
         }
     }
     Ok(found)
@@ -162,8 +151,21 @@ fn contents_work(mut contents: ContentsView<'_>) -> u128 {
     work
 }
 
-/// The steps of the MAC and of opening the contents, which are seen before one of them is opened; 0 where there is no store. Those
-/// of the private keys are not.
+/// The rounds of the MAC of a store; 0 where there is no store or no MAC.
+pub fn mac_rounds(store: &[u8]) -> u64 {
+    match StoreView::parse(store) {
+        Ok(
+            StoreView {
+                mac_data: Some(mac),
+                ..
+            },
+        ) => u64::from(mac.iterations),
+        _ => 0,
+    }
+}
+
+/// The steps of the MAC and of opening the contents, which are seen before one of them is opened; 0
+/// where there is no store. Those of the private keys are not.
 pub fn visible_work(store: &[u8]) -> u128 {
     let Ok(store) = StoreView::parse(store) else {
         return 0;
@@ -178,7 +180,8 @@ pub fn visible_work(store: &[u8]) -> u128 {
     }
 }
 
-/// The first private key among the bags in these octets that is under an algorithm that is not opened.
+/// The first private key among the bags in these octets that is under an algorithm that is not
+/// opened.
 fn key_not_opened(alloc: Global, text: &[u8]) -> Result<Option<String>, AllocError> {
     let Ok(mut bags) = BagsView::parse(text) else {
         return Ok(None);
@@ -256,8 +259,8 @@ fn outer_not_opened(alloc: Global, outer: &ContentView<'_>) -> Result<Option<Str
     }
 }
 
-/// What of the store is unsupported, where `transfer` said so: the kind of the outer content, the first content that is not
-/// opened, or the first key.
+/// What of the store is unsupported, where `transfer` said so: the kind of the outer content, the
+/// first content that is not opened, or the first key.
 pub fn unsupported(
     alloc: Global,
     store: &[u8],
@@ -290,18 +293,5 @@ pub fn mac_digest(store: &[u8]) -> Option<AlgorithmView<'_>> {
             },
         ) => Some(mac.algorithm),
         _ => None,
-    }
-}
-
-/// The octets of the outer content, where that is data.
-pub fn outer_text(store: &[u8]) -> &[u8] {
-    match StoreView::parse(store) {
-        Ok(
-            StoreView {
-                auth_safe: ContentView::Plain { content, .. },
-                ..
-            },
-        ) => content,
-        _ => &[],
     }
 }

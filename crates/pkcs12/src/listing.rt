@@ -1,16 +1,37 @@
-//! The certificates and private keys of a store by what their attributes say of them, and the bags that are passed over.
-use crate::passed_over::PassedOver;
+//! The certificates and private keys of a store by what their attributes say of them, and the bags
+//! that are not exported.
+ghost use Rattle.std.specs.Prelude.{◌≡◌, ◌≢◌, ℕ, List, length, IfOk, OnOk, map, option_map, option_and_then, position};
+ghost use Rattle.std.specs.BTreeMap as tree;
+ghost use Rattle.std.specs.Cmp.Lexicographic.{slice_cmp};
+ghost use Rattle.std.specs.Ordering.{nat_cmp};
+ghost use Rattle.pkcs12.specs.Pairs.{first_of, has_key_id, pair_of};
+
+use crate::certificate_shape::has_certificate_shape;
+use crate::export::Part;
+use crate::other_bag::OtherBag;
+use crate::printable::{Hexadecimal, InQuotes};
 use asn1_core::{Items, Octets, Text};
-use p12::{Error, SafeBag};
-use std::alloc::Global;
+use p12::{CertBag, Error, SafeBag, SafeBagKind};
+use std::alloc::{AllocError, Global};
+use std::collections::BTreeMap;
 use std::fmt;
 
-/// What the attributes of a certificate or private key say of it (RFC 2985 section 5.5). Writers give a private key and its
-/// certificate the same local key id.
+/// What the attributes of a certificate or private key say of it (RFC 2985 section 5.5). Writers
+/// give a private key and its certificate the same local key id.
 #[derive(Drop)]
 pub struct Label {
     friendly_name: Option<Text>,
     local_key_id: Option<Octets>,
+    /// Whether the bag is meant for a certificate and its octets are none.
+    is_no_certificate: bool,
+}
+
+/// Whether the bag is meant for a certificate and has other octets.
+fn is_no_certificate(bag: &SafeBagKind) -> bool {
+    match bag {
+        SafeBagKind::CertBag(CertBag::X509(octets)) => !has_certificate_shape(octets.as_slice()),
+        _ => false,
+    }
 }
 
 impl Label {
@@ -21,73 +42,59 @@ impl Label {
         Ok(Label {
             friendly_name,
             local_key_id,
+            is_no_certificate: is_no_certificate(&bag.bag),
         })
     }
 
+    /// Whether there is neither a name nor a key id.
     pub fn is_empty(&self) -> bool {
         self.friendly_name.is_none() && self.local_key_id.is_none()
     }
 
-    /// Whether both have a local key id, and it is the same.
-    fn is_of_the_same_key(&self, other: &Label) -> bool {
-        match (&self.local_key_id, &other.local_key_id) {
-            (Some(id), Some(other_id)) => id == other_id,
-            _ => false,
+    pub fn friendly_name(&self) -> Option<&str> {
+        match &self.friendly_name {
+            Some(name) => Some(name.as_str()),
+            None => None,
         }
     }
-}
 
-/// A text as a terminal may show it: control characters are escaped.
-#[derive(Drop)]
-struct Escaped<'a>(&'a str);
-
-impl fmt::Display for Escaped<'_> {
-    fn fmt<W: fmt::Write>(&self, f: &mut fmt::Formatter<W>) -> fmt::Result {
-        for c in self.0.chars() {
-            if c.is_control() || c == '"' || c == '\\' {
-                c.escape_unicode().fmt(f)?;
-            } else {
-                f.write_char(c)?;
-            }
+    pub fn local_key_id(&self) -> Option<&[u8]>
+        ensures { option_map (λ id. id.now) result ≡ self.now.local_key_id }
+    {
+        match &self.local_key_id {
+            Some(id) => Some(id.as_slice()),
+            None => None,
         }
-        Ok(())
     }
-}
 
-/// Octets in hexadecimal.
-#[derive(Drop)]
-struct Hexadecimal<'a>(&'a [u8]);
-
-impl fmt::Display for Hexadecimal<'_> {
-    fn fmt<W: fmt::Write>(&self, f: &mut fmt::Formatter<W>) -> fmt::Result {
-        for octet in self.0 {
-            write!(f, "{octet:02x}")?;
-        }
-        Ok(())
+    /// Whether what is exported as a certificate is none.
+    pub fn is_no_certificate(&self) -> bool {
+        self.is_no_certificate
     }
 }
 
 impl fmt::Display for Label {
     fn fmt<W: fmt::Write>(&self, f: &mut fmt::Formatter<W>) -> fmt::Result {
-        if let Some(name) = &self.friendly_name {
-            write!(f, "friendly name \"{}\"", Escaped(name.as_str()))?;
+        if let Some(name) = self.friendly_name() {
+            write!(f, "friendly name {}", InQuotes(name))?;
             if self.local_key_id.is_some() {
                 f.write_str(", ")?;
             }
         }
-        if let Some(id) = &self.local_key_id {
-            write!(f, "local key id {}", Hexadecimal(id.as_slice()))?;
+        if let Some(id) = self.local_key_id() {
+            write!(f, "local key id {}", Hexadecimal(id))?;
         }
         Ok(())
     }
 }
 
-/// What stands in a store, each in store order: so certificate 0 is the one that goes to the file `cert-0`.
+/// What a store has, each in store order: so certificate 0 is the one that goes to the file
+/// `cert-0`.
 #[derive(Drop)]
 pub struct Listing {
     pub certificates: Items<Label>,
     pub keys: Items<Label>,
-    pub passed_over: Items<PassedOver>,
+    pub others: Items<OtherBag>,
 }
 
 impl Listing {
@@ -95,17 +102,72 @@ impl Listing {
         Listing {
             certificates: Items::new(alloc),
             keys: Items::new(alloc),
-            passed_over: Items::new(alloc),
+            others: Items::new(alloc),
         }
     }
 
-    /// The place of the first certificate that has the key's local key id: the pair belongs together.
-    pub fn certificate_of(&self, key: &Label) -> Option<usize> {
-        for (place, certificate) in self.certificates.as_slice().iter().enumerate() {
-            if certificate.is_of_the_same_key(key) {
-                return Some(place);
-            }
+    /// How many certificates are written where this part of the store is.
+    pub fn written_certificates(&self, part: Part) -> usize
+        ensures all { part ≢ Part.Keys → result ≡ length self.now.certificates }
+    {
+        match part {
+            Part::Keys => 0,
+            Part::Whole | Part::Certificates => self.certificates.len(),
         }
-        None
+    }
+
+    /// For each private key the place of the first certificate that has its local key id: the pair
+    /// belongs together.
+    pub fn pairs(&self, alloc: Global) -> Result<Vec<Option<usize>>, AllocError>
+        ensures { IfOk result (λ pairs. pairs.items
+            ≡ map (pair_of self.now.certificates) self.now.keys) }
+    {
+        let places = first_places(alloc, self.certificates.as_slice())?;
+        let mut pairs = Vec::new(alloc);
+        for key in self.keys.as_slice() {
+            pairs.push(place_of(&places, key))?;
+        }
+        Ok(pairs)
+    }
+}
+
+/// Takes note of the place of a certificate whose local key id has none yet.
+fn note_place<'a>(
+    places: &mut BTreeMap<&'a [u8], usize>,
+    label: &'a Label,
+    place: usize,
+) -> Result<(), AllocError>
+    ensures { OnOk result ((id : List ℕ) → tree.get_by (λ k. slice_cmp nat_cmp id k.now) places.new
+        ≡ first_of (tree.get_by (λ k. slice_cmp nat_cmp id k.now) places.old)
+        (has_key_id id label.now) place) }
+{
+    if let Some(id) = label.local_key_id() {
+        if !places.contains_key(id) {
+            places.insert(id, place)?;
+        }
+    }
+    Ok(())
+}
+
+/// The place of the first certificate of each local key id.
+fn first_places(alloc: Global, labels: &[Label]) -> Result<BTreeMap<&[u8], usize>, AllocError>
+    ensures { IfOk result (λ m. (id : List ℕ) → tree.get_by (λ k. slice_cmp nat_cmp id k.now) m
+        ≡ position (has_key_id id) labels.now) }
+{
+    let mut places = BTreeMap::new(alloc);
+    for (place, label) in labels.iter().enumerate() {
+        note_place(&mut places, label, place)?;
+    }
+    Ok(places)
+}
+
+/// The place of the key's certificate, where there is one.
+fn place_of(places: &BTreeMap<&[u8], usize>, key: &Label) -> Option<usize>
+    ensures { result ≡ option_and_then
+        (λ id. tree.get_by (λ k. slice_cmp nat_cmp id k.now) places.now) key.now.local_key_id }
+{
+    match key.local_key_id() {
+        Some(id) => places.get(id).copied(),
+        None => None,
     }
 }

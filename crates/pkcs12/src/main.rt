@@ -1,23 +1,57 @@
-//! The command for people: `pkcs12 export STORE --out DIR`, `pkcs12 check STORE` and `pkcs12 self-test`.
+//! The command for people: `pkcs12 check STORE`, `list`, `export`, `rekey` and
+//! `self-test`.
 #![tactic(auto)]
 
 mod advice;
 mod algorithm_name;
+mod attributes;
+mod certificate_shape;
+mod chains;
+mod check;
+mod clock;
 mod command_line;
+mod damaged;
 mod ending;
+mod export;
+mod exporting;
+mod file_name;
 mod folder;
+mod given;
+mod input;
 mod inspection;
+mod io_advice;
+mod json;
+mod list;
+mod listed;
+mod listed_json;
+mod listed_text;
 mod listing;
+mod long_work;
+mod malformed;
+mod mounts;
+mod no_password;
 mod not_der;
 mod opening;
 mod origin;
-mod passed_over;
+mod other_bag;
+mod others;
+mod output;
+mod output_exists;
 mod password;
+mod paths;
+mod printable;
+mod progress;
+mod public_key;
 mod refusal;
+mod rekey;
+mod rekeying;
 mod request;
 mod run;
 mod self_test;
+mod store_file;
 mod summary;
+mod words;
+mod written_files;
 
 use run::Surroundings;
 use std::io::IsTerminal;

@@ -1,11 +1,14 @@
-//! The store, and its transfer.
-ghost use Rattle.std.specs.Prelude.{◌≡◌, ◌<◌, ◌≤◌, ◌^◌, [], length, IfOk, IfErr};
+//! The store: its opening, and the sealing of its private keys.
+ghost use Rattle.std.specs.Prelude.{◌≡◌, ◌<◌, ◌≤◌, ℕ, [], IfOk, None};
+ghost use Rattle.transfer.specs.Opening.{all_certificates};
+ghost use Rattle.transfer.specs.Transferred.{SealsOpened};
+ghost use Rattle.transfer.specs.Verdicts.{StoreOpens};
 
 use crate::ending::{Ending, Failure};
-use crate::password::Password;
-use crate::summary::Counts;
-use asn1_core::Items;
-use mac_modes::{Draw, ReadDraw};
+use crate::password::{NewPassword, Password};
+use crate::progress::{Progress, end_progress};
+use asn1_core::Octets;
+use mac_modes::{DrawnBytes, ReadDraw};
 use std::alloc::Global;
 use std::fs;
 use std::io::Read;
@@ -13,15 +16,16 @@ use std::marker::Brand;
 use std::rt::Files;
 use std::sync::ledger::{Blank, Ledger};
 use steps::Steps;
-use transfer::{TransferError, Transferred, transfer};
+use transfer::{Opened, TransferError, Transferred, open_store, seal_opened};
 
 /// Where the system's random octets are read.
-const RANDOM: &str = "/dev/urandom";
+pub const RANDOM: &str = "/dev/urandom";
 
 /// One octet more than the longest store that is opened, so that a longer one is told.
 const STORE_OCTETS: u64 = 16_777_216;
 
-/// The octets of the store: those of a file, or of the standard input for `-`. No more than 16,777,216 are read.
+/// The octets of the store: those of a file, or of the standard input for `-`. No more than
+/// 16,777,216 are read.
 pub fn read_store<R: Files + Input + AllocGlobal>(rt: &R, store: &str) -> Result<Vec<u8>, Failure> {
     let mut octets = Vec::new(rt.alloc());
     let read = if store == "-" {
@@ -38,48 +42,60 @@ pub fn read_store<R: Files + Input + AllocGlobal>(rt: &R, store: &str) -> Result
     }
 }
 
-/// What a store is transferred by.
-#[derive(Drop)]
-pub struct Order<'a> {
-    pub store: &'a [u8],
-    pub password: &'a Password,
-    /// Under which the private keys are sealed.
-    pub new_password: &'a str,
-    pub rounds: u32,
-    pub limit: u64,
+/// The failure that a refusal is.
+pub fn refused(refusal: TransferError) -> Failure {
+    match refusal {
+        TransferError::Memory => Failure::new(Ending::Memory, "there was not enough memory"),
+        refusal => Failure::new(Ending::Refused(refusal), meaning_of(refusal)),
+    }
 }
 
-/// The transfer with a step counter of its own.
-fn transfer_from<D: Draw, L: Ledger>(
+/// Opens a store with a step counter of its own.
+fn open_from<L: Ledger>(
     alloc: Global,
-    order: &Order<'_>,
-    draw: &mut D,
+    store: &[u8],
+    password: &Password,
+    limit: u64,
     blank: Blank,
-) -> Result<Transferred, TransferError>
+) -> Result<Opened, TransferError>
     requires name { blank.name ≡ L.name }
     requires parts { blank.parts ≡ L.parts }
     requires some { 0 < blank.parts }
-    requires rounds { (1 ≤ order.now.rounds) × (order.now.rounds ≤ 100000000) }
+    ensures { IfOk result (λ o. (n : ℕ)
+        × StoreOpens store.now password.now o.contents o.keys n × (n ≤ limit)) }
 {
     let mut steps = Steps::<L>::open(blank);
-    transfer(
-        alloc,
-        order.store,
-        order.password.as_str(),
-        order.new_password.as_bytes(),
-        order.rounds,
-        draw,
-        order.limit,
-        &mut steps,
-    )
+    open_store(alloc, store, password.as_str(), limit, &mut steps)
 }
 
-/// Opens a store, and seals its keys under the new password, over the system's random octets.
-pub fn transfer_store<R: Files + AllocGlobal>(
+/// Opens a store under its password, within the limit.
+pub fn opened_store(
+    alloc: Global,
+    store: &[u8],
+    password: &Password,
+    limit: u64,
+) -> Result<Opened, Failure>
+    ensures { IfOk result (λ o. (n : ℕ)
+        × StoreOpens store.now password.now o.contents o.keys n × (n ≤ limit)) }
+{
+    match open_from::<Brand>(alloc, store, password, limit, Blank::new(1)) {
+        Ok(opened) => Ok(opened),
+        Err(refusal) => Err(refused(refusal)),
+    }
+}
+
+/// Seals the keys of an opened store under the new password, in so many rounds, over the system's
+/// random octets. Where `is_shown` is set, the standard error says which key it has come to.
+pub fn sealed_store<R: Files + Eprint + AllocGlobal + Drop>(
     rt: &R,
-    order: &Order<'_>,
+    opened: &Opened,
+    new_password: &NewPassword,
+    rounds: u32,
+    is_shown: bool,
 ) -> Result<Transferred, Failure>
-    requires rounds { (1 ≤ order.now.rounds) × (order.now.rounds ≤ 100000000) }
+    requires { (1 ≤ rounds) × (rounds ≤ 100000000) }
+    ensures { IfOk result (λ t. SealsOpened rounds new_password.now None None opened.now.contents
+        opened.now.keys t.certificates t.documents) }
 {
     let random = match fs::open(rt, RANDOM) {
         Ok(random) => random,
@@ -93,65 +109,35 @@ pub fn transfer_store<R: Files + AllocGlobal>(
             ));
         }
     };
-    let mut draw = ReadDraw::new(random);
-    match transfer_from::<_, Brand>(rt.alloc(), order, &mut draw, Blank::new(1)) {
+    let mut draw = Progress::new(rt, ReadDraw::new(random), opened.keys.len(), is_shown);
+    let new_password = new_password.as_str().as_bytes();
+    let sealed = seal_opened(rt.alloc(), opened, new_password, rounds, &mut draw);
+    end_progress(rt, is_shown);
+    match sealed {
         Ok(transferred) => Ok(transferred),
-        Err(TransferError::Memory) => Err(Failure::new(
-            Ending::Memory,
-            "there was not enough memory",
-        )),
-        Err(refusal) => Err(Failure::new(Ending::Refused(refusal), meaning_of(refusal))),
+        Err(refusal) => Err(refused(refusal)),
     }
 }
 
-/// Opens a store and keeps nothing of it.
-pub fn check_store<R: Files + AllocGlobal>(
-    rt: &R,
-    store: &[u8],
-    password: &Password,
-    limit: u64,
-) -> Result<Counts, Failure> {
-    let order = Order {
-        store,
-        password,
-        new_password: "",
-        rounds: 1,
-        limit,
-    };
-    let transferred = transfer_store(rt, &order)?;
-    Ok(Counts {
-        certificates: transferred.certificates.len(),
-        keys: transferred.documents.len(),
-    })
-}
-
-/// Opens a store for which there is no new password: it may have no private keys.
-pub fn export_certificates<R: Files + AllocGlobal>(
-    rt: &R,
-    store: &[u8],
-    password: &Password,
-    limit: u64,
-) -> Result<Transferred, Failure>
-    ensures { IfOk result (λ t. t.documents ≡ []) }
+/// What an opened store gives where there is no new password: it may have no private keys.
+pub fn certificates_alone(alloc: Global, opened: &Opened) -> Result<Transferred, Failure>
+    ensures keyless { IfOk result (λ t. opened.now.keys ≡ []) }
+    ensures certificates { IfOk result
+        (λ t. t.certificates ≡ all_certificates opened.now.contents) }
+    ensures documents { IfOk result (λ t. t.documents ≡ []) }
 {
-    let order = Order {
-        store,
-        password,
-        new_password: "",
-        rounds: 1,
-        limit,
-    };
-    let transferred = transfer_store(rt, &order)?;
-    if !transferred.documents.is_empty() {
+    if !opened.keys.is_empty() {
         return Err(Failure::new(
             Ending::NewPasswordMissing,
             "the store has private keys, and there is no new password to seal them under",
         ));
     }
-    Ok(Transferred {
-        certificates: transferred.certificates,
-        documents: Items::new(rt.alloc()),
-    })
+    // Without a key nothing is sealed, and nothing drawn.
+    let mut draw = DrawnBytes::new(Octets::new(alloc));
+    match seal_opened(alloc, opened, b"", 1, &mut draw) {
+        Ok(transferred) => Ok(transferred),
+        Err(refusal) => Err(refused(refusal)),
+    }
 }
 
 /// What a refusal means.

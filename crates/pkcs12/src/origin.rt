@@ -3,6 +3,7 @@ ghost use Rattle.std.specs.Prelude.{◌≡◌, ◌<◌, ◌==◌, IfSome, length
 ghost use Rattle.pkcs12.specs.Origin.{line_of, without_return};
 
 use crate::ending::{Ending, Failure};
+use crate::input::STANDARD_INPUT;
 use crate::password::{LONGEST, Password, too_long};
 use std::alloc::{AllocError, Global};
 use std::env::VarError;
@@ -10,7 +11,8 @@ use std::io::{BufRead, BufReader, Read};
 use std::rt::{Env, Files};
 use std::{env, fs, io};
 
-/// The most octets that are read of a line: the longest password, CR LF, and one more, which tells that the line is longer.
+/// The most octets that are read of a line: the longest password, CR LF, and one more, which tells
+/// that the line is longer.
 const LINE_OCTETS: u64 = 1027;
 
 /// Where a password comes from.
@@ -22,6 +24,17 @@ pub enum Origin<'a> {
     Variable(&'a str),
     /// The first line of the standard input.
     Standard,
+}
+
+impl<'a> Origin<'a> {
+    /// The path of the file or stream that is read; for a variable, its name.
+    pub fn path(self) -> &'a str {
+        match self {
+            Origin::File(path) => path,
+            Origin::Variable(name) => name,
+            Origin::Standard => STANDARD_INPUT,
+        }
+    }
 }
 
 /// The place of the first line feed.
@@ -96,6 +109,18 @@ fn not_read(alloc: Global, purpose: &'static str, path: &str, error: io::Error) 
     }
 }
 
+/// The failure where no variable has the name. The name is not printed, since it may be a password.
+fn no_variable(alloc: Global, purpose: &'static str) -> Failure {
+    let text = format!(in alloc;
+        "the {purpose}: there is no environment variable of the name that was given (it is not \
+         shown here)"
+    );
+    Failure::told(Ending::ReadFault, text).advised(
+        "The option takes the NAME of a variable that is exported, and not the password:\n    \
+         export NAME",
+    )
+}
+
 fn variable<R: Env + AllocGlobal>(
     rt: &R,
     purpose: &'static str,
@@ -105,10 +130,7 @@ fn variable<R: Env + AllocGlobal>(
         Ok(text) => Password::new(text),
         Err(VarError::NotUnicode) => Err(not_utf8(rt.alloc(), purpose)),
         Err(VarError::OutOfMemory) => Err(Failure::from(AllocError)),
-        Err(VarError::NotPresent) => Err(Failure::told(
-            Ending::ReadFault,
-            format!(in rt.alloc(); "the {purpose}: there is no environment variable {name}"),
-        )),
+        Err(VarError::NotPresent) => Err(no_variable(rt.alloc(), purpose)),
     }
 }
 
@@ -127,13 +149,7 @@ pub fn read_password<R: Files + Env + Input + AllocGlobal>(
         Origin::Variable(name) => variable(rt, purpose, name),
         Origin::Standard => match line_octets(alloc, rt.reader()) {
             Ok(octets) => password_of(alloc, octets.as_slice(), purpose),
-            Err(error) => Err(Failure::io(
-                alloc,
-                Ending::ReadFault,
-                "the",
-                "standard input",
-                error,
-            )),
+            Err(error) => Err(not_read(alloc, purpose, STANDARD_INPUT, error)),
         },
     }
 }

@@ -57,15 +57,47 @@ impl Password {
     }
 }
 
-/// The password that private keys are sealed under: not empty, unless that was asked for.
-pub fn as_new_password(password: Password, allow_empty: bool) -> Result<Password, Failure>
-    ensures ok { IfOk result (λ p. p ≡ password) }
-    ensures not_empty { IfOk result (λ p. length p ≡ 0 → IsTrue allow_empty) }
-    ensures allowed { IsTrue allow_empty → IsOk result }
-    ensures err { IfErr result (λ e. (e.ending ≡ Ending.PasswordUnusable) × (length password ≡ 0)) }
-{
-    if password.as_str().is_empty() && !allow_empty {
-        return Err(Failure::new(Ending::PasswordUnusable, "the new password is empty"));
+/// The password that private keys are sealed under: not empty, unless that was asked for. Only
+/// `NewPassword::new` makes one.
+#[derive(Drop)]
+pub struct NewPassword {
+    password: Password,
+    may_be_empty: bool,
+}
+
+impl Model for NewPassword {
+    ghost use Rattle.std.specs.Prelude.{ℕ, List, ◌≡◌, length, IsTrue};
+
+    ghost Value = { List ℕ };
+
+    ghost view = { λ p. p.password };
+
+    ghost invariant = { λ p. length p.password ≡ 0 → IsTrue p.may_be_empty };
+}
+
+impl NewPassword {
+    /// The password as a new one. `PasswordUnusable` exactly where it is empty and may not be.
+    pub fn new(password: Password, may_be_empty: bool) -> Result<NewPassword, Failure>
+        ensures ok { IfOk result (λ p. p ≡ password) }
+        ensures not_empty { IfOk result (λ p. length p ≡ 0 → IsTrue may_be_empty) }
+        ensures allowed { IsTrue may_be_empty → IsOk result }
+        ensures some { 0 < length password → IsOk result }
+        ensures err { IfErr result (λ e. e.ending ≡ Ending.PasswordUnusable) }
+    {
+        if password.as_str().is_empty() && !may_be_empty {
+            return Err(Failure::new(Ending::PasswordUnusable, "the new password is empty"));
+        }
+        Ok(NewPassword {
+            password,
+            may_be_empty,
+        })
     }
-    Ok(password)
+
+    /// The text of the password.
+    pub fn as_str(&self) -> &str
+        ensures value { result.now ≡ self.now }
+        ensures short { length result.now ≤ 1024 }
+    {
+        self.password.as_str()
+    }
 }

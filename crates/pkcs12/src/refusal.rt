@@ -2,56 +2,75 @@
 ghost use Rattle.std.specs.Prelude.{◌≡◌};
 
 use crate::algorithm_name::AlgorithmName;
+use crate::damaged::damaged;
 use crate::ending::{Ending, Failure, Message};
-use crate::inspection::{mac_digest, outer_text, unsupported};
-use crate::not_der::not_der;
+use crate::inspection::{mac_digest, unsupported, visible_work};
+use crate::long_work::Duration;
+use crate::malformed::{Detail, malformed};
+use crate::no_password::is_without_password;
 use crate::password::Password;
 use std::alloc::{AllocError, Global};
 use transfer::TransferError;
 
-/// How PEM text begins (RFC 7468).
-const PEM: [u8; 11] = *b"-----BEGIN ";
+const WITHOUT_PASSWORD: &str = "\
+the store was made with no password at all, which is not the empty password";
 
-/// How Java's older stores begin.
-const JKS: [u8; 4] = [0xfe, 0xed, 0xfe, 0xed];
-
-/// The tag of a SEQUENCE, with which a store begins.
-const SEQUENCE: u8 = 0x30;
-
-/// What a text says that is not in DER.
-fn malformed(alloc: Global, octets: &[u8]) -> Result<Option<String>, Failure> {
-    if octets.starts_with(&PEM) {
-        return Ok(Some(format!(in alloc; "the file is PEM text, and not a store")?));
-    }
-    if octets.starts_with(&JKS) {
-        return Ok(Some(format!(in alloc;
-            "the file is a JKS store of Java; keytool -importkeystore makes a PKCS#12 store of it"
-        )?));
-    }
-    if octets.first() != Some(&SEQUENCE) {
-        return Ok(None);
-    }
-    match not_der(octets) {
-        Some(sign) => {
-            let form = sign.form.name();
-            let at = sign.at;
-            Ok(Some(format!(in alloc;
-                "the store is in BER, and only DER is read: {form} begins at octet {at}"
-            )?))
-        }
-        None => Ok(None),
-    }
-}
+const OPENSSL: &str = "\
+OpenSSL opens it, if you press Enter at its question. Write it anew with a password:
+    openssl pkcs12 -in STORE.p12 -out all.pem
+    openssl pkcs12 -export -in all.pem -out NEW.p12 -certpbe AES-256-CBC -keypbe AES-256-CBC -macalg sha256
+    rm all.pem";
 
 /// What the MAC is made with that is not supported.
-fn mac_unsupported(alloc: Global, store: &[u8]) -> Result<Option<String>, AllocError> {
+fn mac_unsupported(alloc: Global, store: &[u8]) -> Result<Option<Detail>, AllocError> {
     let Some(digest) = mac_digest(store) else {
         return Ok(None);
     };
     let name = AlgorithmName(&digest);
-    Ok(Some(format!(in alloc;
+    Ok(Some(Detail::of(format!(in alloc;
         "the MAC of the store is made with {name}, and only SHA-1 and SHA-256 are supported"
-    )?))
+    )?)))
+}
+
+/// What a store was made with whose MAC does not agree under the empty password.
+fn mac_mismatch(
+    alloc: Global,
+    store: &[u8],
+    password: &Password,
+) -> Result<Option<Detail>, Failure> {
+    if !password.as_str().is_empty() || !is_without_password(alloc, store)? {
+        return Ok(None);
+    }
+    let text = String::from_str(alloc, WITHOUT_PASSWORD)?;
+    Ok(Some(Detail::advised(alloc, text, OPENSSL)?))
+}
+
+/// How much work a store takes that takes too much.
+fn work_limit(alloc: Global, store: &[u8]) -> Result<Option<Detail>, AllocError> {
+    let work = visible_work(store);
+    let duration = Duration(work);
+    let text = format!(in alloc;
+        "opening the store takes at least {work} steps, about {duration}, and --limit allows less"
+    )?;
+    let advice = format!(in alloc;
+        "If you trust the store, give a larger limit, at least\n    --limit {work}"
+    )?;
+    Ok(Some(Detail {
+        text,
+        advice: Some(advice),
+    }))
+}
+
+/// The same of what is unsupported.
+fn not_supported(
+    alloc: Global,
+    store: &[u8],
+    password: &Password,
+) -> Result<Option<Detail>, Failure> {
+    match unsupported(alloc, store, password)? {
+        Some(text) => Ok(Some(Detail::of(text))),
+        None => Ok(None),
+    }
 }
 
 /// What more there is to say of a refusal; None where its meaning says all.
@@ -60,14 +79,20 @@ fn detail(
     refusal: TransferError,
     store: &[u8],
     password: &Password,
-) -> Result<Option<String>, Failure> {
+) -> Result<Option<Detail>, Failure> {
     match refusal {
-        TransferError::Malformed => malformed(alloc, store),
-        TransferError::ContentMalformed => malformed(alloc, outer_text(store)),
-        TransferError::Unsupported => unsupported(alloc, store, password),
+        TransferError::Malformed => Ok(malformed(alloc, store)?),
+        TransferError::ContentMalformed => Ok(damaged(alloc, store, password)?),
+        TransferError::Unsupported => not_supported(alloc, store, password),
         TransferError::MacUnsupported => Ok(mac_unsupported(alloc, store)?),
+        TransferError::MacMismatch => mac_mismatch(alloc, store, password),
+        TransferError::WorkLimit => Ok(work_limit(alloc, store)?),
         _ => Ok(None),
     }
+}
+
+fn message_of(text: String) -> Message {
+    Message::Made(text)
 }
 
 /// The failure with what more there is to say of it. Its kind stays.
@@ -78,9 +103,10 @@ pub fn with_detail(alloc: Global, failure: Failure, store: &[u8], password: &Pas
         return failure;
     };
     match detail(alloc, refusal, store, password) {
-        Ok(Some(text)) => Failure {
+        Ok(Some(detail)) => Failure {
             ending: failure.ending,
-            message: Message::Made(text),
+            message: Message::Made(detail.text),
+            advice: detail.advice.map(message_of),
         },
         // Where even that cannot be told, the refusal itself still is.
         Ok(None) | Err(_) => failure,

@@ -1,4 +1,5 @@
-//! The subcommand `self-test`: a sample store is made and transferred, and what comes of it compared with what has to.
+//! The subcommand `self-test`: a sample store is made and transferred, and what comes of it
+//! compared with what has to.
 ghost use Rattle.std.specs.Prelude.{◌≡◌, ◌<◌};
 
 use crate::ending::{Ending, Failure};
@@ -13,7 +14,8 @@ use transfer::{MemorySink, MemorySource, Status, run};
 /// How many keys the sample has.
 const KEYS: &str = "10";
 
-/// What it gives on every machine, as `tests/vectors/sample.py` computes it, which shares no code with this program.
+/// What it gives on every machine, as `tests/vectors/sample.py` computes it, which shares no code
+/// with this program.
 const DUE: &str = "\
 keys 10
 certs 10

@@ -1,23 +1,16 @@
 //! What the command says that it found.
 use crate::listing::{Label, Listing};
-use crate::passed_over::PassedOver;
+use crate::other_bag::OtherBag;
 use std::alloc::{AllocError, Global};
 use std::fmt::Write;
 
-/// How many certificates and private keys a store has.
-#[derive(Clone, Copy)]
-pub struct Counts {
-    pub certificates: usize,
-    pub keys: usize,
-}
-
 /// The kinds that are counted.
-const COUNTED: [PassedOver; 5] = [
-    PassedOver::PlainKey,
-    PassedOver::Crl,
-    PassedOver::Secret,
-    PassedOver::Nested,
-    PassedOver::SdsiCertificate,
+const COUNTED: [OtherBag; 5] = [
+    OtherBag::PlainKey,
+    OtherBag::Crl,
+    OtherBag::Secret,
+    OtherBag::Nested,
+    OtherBag::SdsiCertificate,
 ];
 
 /// Adds a line for each certificate that has a name or a key id.
@@ -30,44 +23,87 @@ fn add_certificates(text: &mut String, certificates: &[Label]) -> Result<(), All
     Ok(())
 }
 
-/// Adds a line for each private key that has a name or a key id, with the certificate that it belongs to.
-fn add_keys(text: &mut String, found: &Listing) -> Result<(), AllocError> {
+/// Adds the line of a private key that has a name or a key id, with the certificate that it belongs
+/// to.
+fn add_key(
+    text: &mut String,
+    place: usize,
+    label: &Label,
+    pair: Option<usize>,
+) -> Result<(), AllocError> {
+    match pair {
+        Some(certificate) => {
+            writeln!(text, "key-{place}: {label}, belongs to cert-{certificate}")
+        }
+        None if label.is_empty() => Ok(()),
+        None => writeln!(text, "key-{place}: {label}"),
+    }
+}
+
+/// Adds these lines.
+fn add_keys(alloc: Global, text: &mut String, found: &Listing) -> Result<(), AllocError> {
+    let pairs = found.pairs(alloc)?;
     for (place, label) in found.keys.as_slice().iter().enumerate() {
-        match found.certificate_of(label) {
-            Some(certificate) => {
-                writeln!(text, "key-{place}: {label}, belongs to cert-{certificate}")?;
-            }
-            None if label.is_empty() => {}
-            None => writeln!(text, "key-{place}: {label}")?,
+        let pair = pairs.get(place).copied().unwrap_or(None);
+        add_key(text, place, label, pair)?;
+    }
+    Ok(())
+}
+
+/// Adds a line for what is exported as a certificate and is none.
+fn add_no_certificates(text: &mut String, certificates: &[Label]) -> Result<(), AllocError> {
+    for (place, label) in certificates.iter().enumerate() {
+        if label.is_no_certificate() {
+            writeln!(text, "warning: cert-{place} is no X.509 certificate")?;
         }
     }
     Ok(())
 }
 
-/// Adds a line for each kind of bag that is passed over, with the number of these.
-fn add_passed_over(text: &mut String, passed_over: &[PassedOver]) -> Result<(), AllocError> {
+/// Adds a line for each kind of bag that is not exported, with the number of these.
+fn add_others(text: &mut String, others: &[OtherBag]) -> Result<(), AllocError> {
     for kind in COUNTED {
-        let count = passed_over.iter().filter(|each| **each == kind).count();
+        let count = others.iter().filter(|each| **each == kind).count();
         if count > 0 {
-            writeln!(text, "passed over: {count}, {kind}")?;
+            writeln!(text, "not exported: {count}, {kind}")?;
         }
     }
-    for kind in passed_over {
-        if let PassedOver::Other(_) = kind {
-            writeln!(text, "passed over: 1, {kind}")?;
+    for kind in others {
+        if let OtherBag::Unnamed(_) = kind {
+            writeln!(text, "not exported: 1, {kind}")?;
         }
     }
     Ok(())
 }
 
-/// The numbers of certificates and private keys, a line for each that has a name or a key id, and one for each kind of bag that
-/// is passed over.
-pub fn summary(alloc: Global, counts: Counts, found: &Listing) -> Result<String, AllocError> {
-    let certificates = counts.certificates;
-    let keys = counts.keys;
-    let mut text = format!(in alloc; "certificates: {certificates}\nprivate keys: {keys}\n")?;
+/// The numbers of certificates and private keys.
+pub fn counts(alloc: Global, found: &Listing) -> Result<String, AllocError> {
+    let certificates = found.certificates.len();
+    let keys = found.keys.len();
+    format!(in alloc; "certificates: {certificates}\nprivate keys: {keys}\n")
+}
+
+/// The numbers of certificates and private keys, a line for each that has a name or a key id, one
+/// for each certificate that is none, and one for each kind of bag that is not exported.
+pub fn summary(alloc: Global, found: &Listing) -> Result<String, AllocError> {
+    let mut text = counts(alloc, found)?;
     add_certificates(&mut text, found.certificates.as_slice())?;
-    add_keys(&mut text, found)?;
-    add_passed_over(&mut text, found.passed_over.as_slice())?;
+    add_keys(alloc, &mut text, found)?;
+    add_no_certificates(&mut text, found.certificates.as_slice())?;
+    add_others(&mut text, found.others.as_slice())?;
     Ok(text)
+}
+
+/// What is told of an export in any case: certificates that are none, and bags that were skipped.
+pub fn warnings(alloc: Global, found: &Listing) -> Result<String, AllocError> {
+    let mut text = String::new(alloc);
+    add_no_certificates(&mut text, found.certificates.as_slice())?;
+    Ok(text)
+}
+
+/// Why a store with these bags is not exported.
+pub fn others(alloc: Global, others: &[OtherBag]) -> Result<String, AllocError> {
+    let mut text = String::from_str(alloc, "nothing was written, since the store has more:\n")?;
+    add_others(&mut text, others)?;
+    String::from_str(alloc, text.as_str().trim_end())
 }

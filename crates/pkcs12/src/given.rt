@@ -1,0 +1,121 @@
+//! The store and its password, as they are read.
+ghost use Rattle.std.specs.Prelude.{◌≤◌, ℕ, IfOk};
+ghost use Rattle.transfer.specs.Verdicts.{StoreOpens};
+
+use crate::ending::{Ending, Failure};
+use crate::input::is_read_once;
+use crate::inspection::mac_rounds;
+use crate::opening::{opened_store, read_store};
+use crate::origin::{Origin, read_password};
+use crate::password::Password;
+use crate::refusal::with_detail;
+use std::alloc::Global;
+use std::env;
+use std::rt::{Env, Files};
+use transfer::{Opened, TransferError};
+
+/// Where this variable is set, the script that started the program asks for a password that is
+/// missing and runs it again, so the program itself keeps silent. Its value may be the path by
+/// which the script gives the store's password in each run.
+pub const ASKING: &str = "PKCS12_ASKING";
+
+/// A store and its password.
+#[derive(Drop)]
+pub struct Given {
+    pub store: Vec<u8>,
+    pub password: Password,
+}
+
+fn password_missing() -> Failure {
+    Failure::new(
+        Ending::PasswordMissing,
+        "the store's password was not given, and there is no terminal at which ./pkcs12 asks for \
+         it",
+    )
+}
+
+/// The failure where the new password is needed from the beginning.
+pub fn new_password_missing() -> Failure {
+    Failure::new(
+        Ending::NewPasswordMissing,
+        "the store or its password is read once alone, so the new password is needed from the \
+         beginning",
+    )
+}
+
+/// Whether the password can be read once alone; the one that the script gives comes from
+/// `given_again`.
+fn is_password_read_once<R: Files>(rt: &R, origin: Origin<'_>, given_again: &str) -> bool {
+    match origin {
+        Origin::File(path) => path != given_again && is_read_once(rt, path),
+        Origin::Variable(_) => false,
+        Origin::Standard => true,
+    }
+}
+
+/// Whether the store or its password cannot be read again by a second run, where the script asks.
+pub fn is_not_given_again<R: Files + Env + AllocGlobal>(
+    rt: &R,
+    store: &str,
+    password: Option<Origin<'_>>,
+) -> bool {
+    let Ok(given_again) = env::var(rt, ASKING) else {
+        return false;
+    };
+    match password {
+        Some(origin) => {
+            is_read_once(rt, store) || is_password_read_once(rt, origin, given_again.as_str())
+        }
+        None => false,
+    }
+}
+
+/// What refuses a store that has no password yet: what is seen with no work at all, else that the
+/// password is missing.
+fn refused_unasked(alloc: Global, store: &[u8], limit: u64) -> Failure {
+    let empty = match Password::new(String::new(alloc)) {
+        Ok(empty) => empty,
+        Err(failure) => return failure,
+    };
+    // Under this limit nothing is derived.
+    match opened_store(alloc, store, &empty, 0) {
+        Err(failure) => match failure.ending {
+            Ending::Refused(TransferError::WorkLimit) if mac_rounds(store) <= limit => {
+                password_missing()
+            }
+            Ending::Refused(TransferError::MacMismatch) => password_missing(),
+            _ => with_detail(alloc, failure, store, &empty),
+        },
+        Ok(_) => password_missing(),
+    }
+}
+
+/// Reads a store and its password.
+pub fn read_given<R: Files + Env + Input + AllocGlobal>(
+    rt: &R,
+    path: &str,
+    origin: Option<Origin<'_>>,
+    limit: u64,
+) -> Result<Given, Failure> {
+    if origin.is_none() && is_read_once(rt, path) {
+        return Err(password_missing());
+    }
+    let store = read_store(rt, path)?;
+    let Some(origin) = origin else {
+        return Err(refused_unasked(rt.alloc(), store.as_slice(), limit));
+    };
+    let password = read_password(rt, "password", origin)?;
+    Ok(Given { store, password })
+}
+
+/// Opens a store, with what more there is to say where it is refused.
+pub fn opened(alloc: Global, given: &Given, limit: u64) -> Result<Opened, Failure>
+    ensures { IfOk result (λ o. (n : ℕ)
+        × StoreOpens given.now.store.items given.now.password o.contents o.keys n × (n ≤ limit)) }
+{
+    let store = given.store.as_slice();
+    match opened_store(alloc, store, &given.password, limit) {
+        Ok(opened) => Ok(opened),
+        Err(failure) => Err(with_detail(alloc, failure, store, &given.password)),
+    }
+}

@@ -1,0 +1,106 @@
+//! What the command says that it found, in JSON (RFC 8259).
+use crate::listing::{Label, Listing};
+use crate::other_bag::OtherBag;
+use crate::printable::is_printable;
+use std::alloc::{AllocError, Global};
+use std::fmt;
+use std::fmt::Write;
+
+/// A string of JSON. Characters that are not printable are escaped by the units of their UTF-16.
+#[derive(Clone, Copy)]
+pub struct JsonText<'a>(pub &'a str);
+
+impl fmt::Display for JsonText<'_> {
+    fn fmt<W: fmt::Write>(&self, f: &mut fmt::Formatter<W>) -> fmt::Result {
+        f.write_str("\"")?;
+        for c in self.0.chars() {
+            if is_printable(c) && c != '"' && c != '\\' {
+                f.write_char(c)?;
+            } else {
+                let mut pair = [0u16; 2];
+                let units: &[u16] = c.encode_utf16(&mut pair);
+                for unit in units {
+                    write!(f, "\\u{unit:04x}")?;
+                }
+            }
+        }
+        f.write_str("\"")
+    }
+}
+
+/// Octets as a string of hexadecimal digits.
+#[derive(Clone, Copy)]
+pub struct JsonOctets<'a>(pub &'a [u8]);
+
+impl fmt::Display for JsonOctets<'_> {
+    fn fmt<W: fmt::Write>(&self, f: &mut fmt::Formatter<W>) -> fmt::Result {
+        f.write_str("\"")?;
+        for octet in self.0 {
+            write!(f, "{octet:02x}")?;
+        }
+        f.write_str("\"")
+    }
+}
+
+/// The members that a certificate and a private key have in common.
+fn add_label(text: &mut String, kind: &str, place: usize, label: &Label) -> Result<(), AllocError> {
+    write!(text, "{{\"name\": \"{kind}-{place}\", \"friendly_name\": ")?;
+    match label.friendly_name() {
+        Some(name) => write!(text, "{}", JsonText(name))?,
+        None => text.push_str("null")?,
+    }
+    text.push_str(", \"local_key_id\": ")?;
+    match label.local_key_id() {
+        Some(id) => write!(text, "{}", JsonOctets(id)),
+        None => text.push_str("null"),
+    }
+}
+
+/// Begins the next member of a list.
+pub fn add_comma(text: &mut String, place: usize) -> Result<(), AllocError> {
+    text.push_str(if place == 0 { "\n    " } else { ",\n    " })
+}
+
+fn add_certificates(text: &mut String, certificates: &[Label]) -> Result<(), AllocError> {
+    for (place, label) in certificates.iter().enumerate() {
+        add_comma(text, place)?;
+        add_label(text, "cert", place, label)?;
+        let is_certificate = !label.is_no_certificate();
+        write!(text, ", \"is_certificate\": {is_certificate}}}")?;
+    }
+    Ok(())
+}
+
+fn add_keys(alloc: Global, text: &mut String, found: &Listing) -> Result<(), AllocError> {
+    let pairs = found.pairs(alloc)?;
+    for (place, label) in found.keys.as_slice().iter().enumerate() {
+        add_comma(text, place)?;
+        add_label(text, "key", place, label)?;
+        match pairs.get(place).copied().unwrap_or(None) {
+            Some(certificate) => write!(text, ", \"certificate\": \"cert-{certificate}\"}}")?,
+            None => text.push_str(", \"certificate\": null}")?,
+        }
+    }
+    Ok(())
+}
+
+fn add_others(text: &mut String, others: &[OtherBag]) -> Result<(), AllocError> {
+    for (place, kind) in others.iter().enumerate() {
+        add_comma(text, place)?;
+        write!(text, "\"{kind}\"")?;
+    }
+    Ok(())
+}
+
+/// The certificates, the private keys and what is not exported of a store, as one object. Names are
+/// whole.
+pub fn json(alloc: Global, found: &Listing) -> Result<String, AllocError> {
+    let mut text = String::from_str(alloc, "{\n  \"certificates\": [")?;
+    add_certificates(&mut text, found.certificates.as_slice())?;
+    text.push_str("],\n  \"private_keys\": [")?;
+    add_keys(alloc, &mut text, found)?;
+    text.push_str("],\n  \"not_exported\": [")?;
+    add_others(&mut text, found.others.as_slice())?;
+    text.push_str("]\n}\n")?;
+    Ok(text)
+}

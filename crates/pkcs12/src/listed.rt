@@ -1,0 +1,132 @@
+//! The certificates of an opened store, as `list` shows them.
+use asn1_core::{Items, Text};
+use inventory_core::{CertificateView, Parent, parent_of};
+use p12::{CertBag, SafeBag, SafeBagKind};
+use sha2::{Digest, Sha256};
+use std::alloc::{AllocError, Global};
+use x509_names::{Parts, name_text, time_text};
+
+/// The certificates of a store, in its order.
+#[derive(Drop)]
+pub struct Certificates<'a> {
+    octets: Vec<&'a [u8]>,
+    views: Vec<Option<CertificateView<'a>>>,
+}
+
+/// What is shown of a certificate beside its label.
+#[derive(Drop)]
+pub struct Certificate<'a> {
+    pub view: CertificateView<'a>,
+    pub parent: Parent,
+    pub subject: Text,
+    pub issuer: Text,
+    /// The value octets of the serial number.
+    pub serial_number: &'a [u8],
+    /// From when to when it is valid.
+    pub validity: Option<Validity>,
+    /// The SHA-256 digests of its public key and of itself.
+    pub key_digest: Option<[u8; 32]>,
+    pub digest: [u8; 32],
+}
+
+/// From when to when a certificate is valid.
+#[derive(Drop)]
+pub struct Validity {
+    pub not_before: Text,
+    pub not_after: Text,
+}
+
+/// Whether a certificate is valid at a time.
+#[derive(Clone, Copy, PartialEq)]
+pub enum When {
+    Early,
+    Valid,
+    Past,
+}
+
+impl Validity {
+    /// Whether the certificate is valid at this time, which is written as the two are.
+    pub fn at(&self, now: &str) -> When {
+        if now < self.not_before.as_str() {
+            When::Early
+        } else if self.not_after.as_str() < now {
+            When::Past
+        } else {
+            When::Valid
+        }
+    }
+}
+
+/// Adds the certificates among these bags.
+fn add_bags<'a>(
+    certificates: &mut Certificates<'a>,
+    bags: &'a [SafeBag],
+) -> Result<(), AllocError> {
+    for bag in bags {
+        if let SafeBagKind::CertBag(CertBag::X509(octets)) = &bag.bag {
+            let octets = octets.as_slice();
+            certificates.octets.push(octets)?;
+            certificates
+                .views
+                .push(CertificateView::parse(octets).ok())?;
+        }
+    }
+    Ok(())
+}
+
+/// The X.509 certificates among the bags of an opened store.
+pub fn certificates_of<'a>(
+    alloc: Global,
+    contents: &'a [Items<SafeBag>],
+) -> Result<Certificates<'a>, AllocError> {
+    let mut certificates = Certificates {
+        octets: Vec::new(alloc),
+        views: Vec::new(alloc),
+    };
+    for bags in contents {
+        add_bags(&mut certificates, bags.as_slice())?;
+    }
+    Ok(certificates)
+}
+
+/// The two times of a certificate.
+fn validity_of(
+    alloc: Global,
+    times: Option<(&[u8], &[u8])>,
+) -> Result<Option<Validity>, AllocError> {
+    match times {
+        Some((not_before, not_after)) => Ok(Some(Validity {
+            not_before: time_text(alloc, not_before)?,
+            not_after: time_text(alloc, not_after)?,
+        })),
+        None => Ok(None),
+    }
+}
+
+impl<'a> Certificates<'a> {
+    /// What could be read of each.
+    pub fn views(&self) -> &[Option<CertificateView<'a>>] {
+        self.views.as_slice()
+    }
+
+    /// What is shown of the certificate at this place; none where its octets are no certificate.
+    pub fn get(&self, alloc: Global, place: usize) -> Result<Option<Certificate<'a>>, AllocError> {
+        let (Some(octets), Some(Some(view))) = (self.octets.get(place), self.views.get(place))
+        else {
+            return Ok(None);
+        };
+        let Ok(parts) = Parts::read(octets) else {
+            return Ok(None);
+        };
+        Ok(Some(Certificate {
+            view: *view,
+            parent: parent_of(self.views.as_slice(), place, view),
+            subject: name_text(alloc, view.subject)?,
+            issuer: name_text(alloc, view.issuer)?,
+            serial_number: parts.serial_number,
+            validity: validity_of(alloc, parts.validity)?,
+            key_digest: view.spki.fingerprint_bytes().ok(),
+            digest: Sha256::digest(octets),
+        }))
+    }
+}

@@ -1,0 +1,22 @@
+//! The standard output.
+use crate::ending::{Ending, Failure};
+use std::alloc::{AllocError, Global};
+use std::io;
+
+/// The failure of a write to the standard output, where it failed.
+pub fn printed(alloc: Global, outcome: io::Result<()>) -> Result<(), Failure> {
+    match outcome {
+        Ok(()) => Ok(()),
+        Err(error) => Err(not_printed(alloc, error)),
+    }
+}
+
+fn not_printed(alloc: Global, error: io::Error) -> Failure {
+    let advice = match error.kind() {
+        io::ErrorKind::OutOfMemory => return Failure::from(AllocError),
+        io::ErrorKind::BrokenPipe => "What reads the output ended before it had all of it.",
+        _ => "Look whether the file or device that takes the output is full.",
+    };
+    let text = format!(in alloc; "the standard output: {error}");
+    Failure::told(Ending::WriteFault, text).advised(advice)
+}

@@ -1,0 +1,153 @@
+//! What is at the place of the output folder.
+use crate::attributes::Attributes;
+use crate::ending::{Ending, Failure};
+use crate::file_name::{Kind, is_exported_name, kind_of};
+use crate::mounts::is_mount_point;
+use crate::printable::{Printable, ShellWord, fits_in_command};
+use std::alloc::{AllocError, Global};
+use std::fs::{DirEntry, Metadata};
+use std::rt::Files;
+use std::{fs, io};
+
+/// What is kept of a folder that is replaced.
+#[derive(Clone, Copy)]
+pub struct Kept {
+    pub folder: Attributes,
+    pub certificates: Option<Attributes>,
+    pub keys: Option<Attributes>,
+}
+
+/// What a folder holds.
+#[derive(Drop)]
+struct Contents {
+    kept: Kept,
+    is_empty: bool,
+    /// A name that `export` does not write, where there is one.
+    foreign: Option<String>,
+}
+
+/// The failure of something at this path that is in the way.
+fn in_the_way(alloc: Global, path: &str, what: &str) -> Failure {
+    let shown = Printable(path);
+    Failure::told(Ending::OutputExists, format!(in alloc; "{shown} {what}"))
+}
+
+/// What to do instead of replacing a mount point.
+fn below(alloc: Global, path: &str) -> Result<String, AllocError> {
+    let below = format!(in alloc; "{path}/pem")?;
+    let word = ShellWord(below.as_str());
+    format!(in alloc; "Give a folder below it:\n    --out {word}")
+}
+
+fn is_a_mount_point(alloc: Global, path: &str) -> Failure {
+    let failure = in_the_way(alloc, path, "is a mount point, which cannot be replaced");
+    if !fits_in_command(path) {
+        return failure.advised("Give a folder below it.");
+    }
+    failure.advised_by(below(alloc, path))
+}
+
+fn has_foreign(alloc: Global, path: &str, foreign: &str) -> Failure {
+    let folder = Printable(path);
+    let name = Printable(foreign);
+    let text = format!(in alloc; "{folder} is there already, and holds {name}");
+    Failure::told(Ending::OutputExists, text).advised(
+        "Give another name. --force replaces only a folder that holds nothing but what export \
+         writes.",
+    )
+}
+
+/// Of the files of a kind that were found, with one more.
+fn joined(found: Option<Attributes>, more: Attributes) -> Option<Attributes> {
+    match found {
+        Some(found) => Some(found.narrowed(more)),
+        None => Some(more),
+    }
+}
+
+impl Contents {
+    /// Takes note of a file that `export` may have written.
+    fn add_file(&mut self, name: &str, there: &Metadata) {
+        let more = Attributes::of_file(there);
+        match kind_of(name) {
+            Some(Kind::Certificate) => {
+                self.kept.certificates = joined(self.kept.certificates, more);
+            }
+            Some(Kind::Key) | None => self.kept.keys = joined(self.kept.keys, more),
+        }
+    }
+
+    /// Takes note of an entry.
+    fn add<R: Files + AllocGlobal>(&mut self, rt: &R, entry: &DirEntry<R>) -> io::Result<()> {
+        let name = entry.file_name();
+        let there = entry.metadata()?;
+        self.is_empty = false;
+        if is_exported_name(name) && there.is_file() {
+            self.add_file(name, &there);
+        } else if self.foreign.is_none() {
+            self.foreign = Some(String::from_str(rt.alloc(), name)?);
+        }
+        Ok(())
+    }
+
+    /// What is kept, and whether there is something to replace, where that may be.
+    fn replaceable(self, alloc: Global, path: &str, force: bool) -> Result<(Kept, bool), Failure> {
+        if let Some(foreign) = &self.foreign {
+            return Err(has_foreign(alloc, path, foreign.as_str()));
+        }
+        if !self.is_empty && !force {
+            let failure = in_the_way(alloc, path, "is there already, and is not empty");
+            return Err(failure.advised("Give another name, or --force to replace what is there."));
+        }
+        Ok((self.kept, !self.is_empty))
+    }
+}
+
+/// What the folder at the path holds.
+fn contents_of<R: Files + AllocGlobal + Clone + Drop>(
+    rt: &R,
+    path: &str,
+    there: &Metadata,
+) -> io::Result<Contents> {
+    let mut contents = Contents {
+        kept: Kept {
+            folder: Attributes::of_folder(there),
+            certificates: None,
+            keys: None,
+        },
+        is_empty: true,
+        foreign: None,
+    };
+    for entry in fs::read_dir(rt, path)? {
+        contents.add(rt, &entry?)?;
+    }
+    Ok(contents)
+}
+
+/// What a folder that is there keeps, and whether it holds something: one that is empty, or holds
+/// nothing but what `export` writes and may be replaced. `OutputExists` for anything else.
+pub fn replaceable<R: Files + AllocGlobal + Clone + Drop>(
+    rt: &R,
+    path: &str,
+    there: &Metadata,
+    force: bool,
+) -> Result<(Kept, bool), Failure> {
+    let alloc = rt.alloc();
+    if there.is_symlink() {
+        return Err(in_the_way(alloc, path, "is a link, and not a folder").advised(REMOVE));
+    }
+    if !there.is_dir() {
+        let failure = in_the_way(alloc, path, "is there already, and is not a folder");
+        return Err(failure.advised(REMOVE));
+    }
+    if is_mount_point(rt, path, there) {
+        return Err(is_a_mount_point(alloc, path));
+    }
+    match contents_of(rt, path, there) {
+        Ok(contents) => contents.replaceable(alloc, path, force),
+        Err(error) => Err(Failure::io(alloc, Ending::WriteFault, "the output folder", path, error)),
+    }
+}
+
+/// What to do with something that is no folder.
+const REMOVE: &str = "Remove it, or give another name.";

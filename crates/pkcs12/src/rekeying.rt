@@ -1,0 +1,210 @@
+//! The subcommand `rekey`: changes the password of a store.
+ghost use Rattle.std.specs.Prelude.{◌≡◌, ◌<◌, ℕ, IfOk, None};
+ghost use Rattle.rekey_core.specs.Rekeyed.{Rekeys};
+
+use crate::ending::{Ending, Failure};
+use crate::given::{Given, is_not_given_again, new_password_missing, opened, read_given};
+use crate::input::inputs_differ;
+use crate::inspection::listing;
+use crate::listing::Listing;
+use crate::long_work::tell_long_work;
+use crate::opening::{RANDOM, opened_store, refused};
+use crate::origin::read_password;
+use crate::password::{NewPassword, Password};
+use crate::refusal::with_detail;
+use crate::rekey::Rekey;
+use crate::run::Surroundings;
+use crate::store_file::StoreFile;
+use crate::summary::counts;
+use asn1_core::Octets;
+use octet_core::{Draw, FileDraw};
+use p12::{CertBag, SafeBag, SafeBagKind};
+use rekey_core::rekey;
+use std::alloc::Global;
+use std::marker::Brand;
+use std::rt::{Env, Files, Runtime};
+use std::sync::ledger::{Blank, Ledger};
+use steps::Steps;
+use transfer::{Opened, TransferError};
+
+/// A change of the password of a store.
+#[derive(Clone, Copy)]
+struct Change<'a> {
+    given: &'a Given,
+    new_password: &'a NewPassword,
+    limit: u64,
+}
+
+/// The changed store, with a step counter of its own.
+fn changed_from<D: Draw, L: Ledger>(
+    alloc: Global,
+    change: &Change<'_>,
+    draw: &mut D,
+    blank: Blank,
+) -> Result<Octets, TransferError>
+    requires name { blank.name ≡ L.name }
+    requires parts { blank.parts ≡ L.parts }
+    requires some { 0 < blank.parts }
+    ensures { IfOk result (λ text. (before after : ℕ) × Rekeys change.now.given.now.store.items
+        change.now.given.now.password change.now.new_password.now change.now.limit
+        (D.left draw.old) (D.left draw.new) before after text) }
+{
+    let mut steps = Steps::<L>::open(blank);
+    let given = change.given;
+    rekey(
+        alloc,
+        given.store.as_slice(),
+        given.password.as_str(),
+        change.new_password.as_str(),
+        draw,
+        change.limit,
+        &mut steps,
+    )
+}
+
+/// The changed store, over the system's random octets.
+fn changed<R: Files + AllocGlobal>(rt: &R, change: &Change<'_>) -> Result<Octets, Failure>
+    ensures { IfOk result (λ text. (before after : ℕ) × Rekeys change.now.given.now.store.items
+        change.now.given.now.password change.now.new_password.now change.now.limit
+        None None before after text) }
+{
+    let mut draw = FileDraw::new(rt, RANDOM);
+    match changed_from::<_, Brand>(rt.alloc(), change, &mut draw, Blank::new(1)) {
+        Ok(text) => Ok(text),
+        Err(refusal) => {
+            let given = change.given;
+            Err(with_detail(
+                rt.alloc(),
+                refused(refusal),
+                given.store.as_slice(),
+                &given.password,
+            ))
+        }
+    }
+}
+
+/// Whether two bags are of one kind, and the same certificate where they are certificates.
+fn are_alike(one: &SafeBag, other: &SafeBag) -> bool {
+    match (&one.bag, &other.bag) {
+        (SafeBagKind::CertBag(CertBag::X509(one)), SafeBagKind::CertBag(CertBag::X509(other))) =>
+            one == other,
+        (one, other) => one.oid() == other.oid(),
+    }
+}
+
+/// Whether two opened stores have alike bags and the same private keys.
+fn have_the_same(one: &Opened, other: &Opened) -> bool {
+    if one.keys.as_slice() != other.keys.as_slice() || one.contents.len() != other.contents.len() {
+        return false;
+    }
+    for (bags, others) in one
+        .contents
+        .as_slice()
+        .iter()
+        .zip(other.contents.as_slice())
+    {
+        if bags.len() != others.len() {
+            return false;
+        }
+        for (bag, other) in bags.as_slice().iter().zip(others.as_slice()) {
+            if !are_alike(bag, other) {
+                return false;
+            }
+        }
+    }
+    true
+}
+
+/// Opens what was read back of the changed store under the new password, and compares it with the store that was changed.
+fn compare(
+    alloc: Global,
+    found: &[u8],
+    change: &Change<'_>,
+    before: &Opened,
+) -> Result<(), Failure> {
+    let new_password = Password::new(String::from_str(alloc, change.new_password.as_str())?)?;
+    match opened_store(alloc, found, &new_password, change.limit) {
+        Ok(after) if have_the_same(before, &after) => Ok(()),
+        Err(failure) if matches!(failure.ending, Ending::Memory) => Err(failure),
+        _ => Err(Failure::new(
+            Ending::WriteFault,
+            "the changed store was not read back as it was written; the store is as it was",
+        )),
+    }
+}
+
+/// Writes the changed store, and puts it in its place once it was read back and compared.
+fn write_changed<R: Files + AllocGlobal>(
+    rt: &R,
+    file: &StoreFile<'_>,
+    change: &Change<'_>,
+    before: &Opened,
+) -> Result<(), Failure> {
+    let text = changed(rt, change)?;
+    let found = file.written(rt, text.as_slice())?;
+    match compare(rt.alloc(), found.as_slice(), change, before) {
+        Ok(()) => file.place(rt),
+        Err(failure) => {
+            file.abandon(rt)?;
+            Err(failure)
+        }
+    }
+}
+
+/// The new password, which `rekey` always needs.
+fn new_password<R: Files + Env + Input + AllocGlobal>(
+    rt: &R,
+    asked: &Rekey<'_>,
+) -> Result<NewPassword, Failure> {
+    match asked.new_password {
+        Some(origin) => {
+            let password = read_password(rt, "new password", origin)?;
+            NewPassword::new(password, asked.allow_empty)
+        }
+        None => Err(Failure::new(Ending::NewPasswordMissing, "the new password was not given")),
+    }
+}
+
+/// Says what was changed and what was kept, where somebody looks or asked for it.
+fn tell<R: Eprint + AllocGlobal>(
+    rt: &R,
+    around: Surroundings,
+    asked: &Rekey<'_>,
+    found: &Listing,
+) -> Result<(), Failure> {
+    if !around.at_terminal && !asked.verbose {
+        return Ok(());
+    }
+    let text = counts(rt.alloc(), found)?;
+    // The file is there: that nobody hears of it is no failure.
+    match eprintln!(rt;
+        "{text}kept: every certificate, private key, name, key id and other attribute, and every count\nchanged: the password and every salt; what is under PBES2 is now under AES-256-CBC and HMAC-SHA-256"
+    ) {
+        Ok(()) | Err(_) => Ok(()),
+    }
+}
+
+/// Changes the password of a store.
+pub fn run_rekey<R: Runtime + AllocGlobal>(
+    rt: &R,
+    around: Surroundings,
+    asked: &Rekey<'_>,
+) -> Result<(), Failure> {
+    inputs_differ(rt, asked.store, asked.password, asked.new_password)?;
+    let file = StoreFile::find(rt, asked.out, asked.may_replace, around.process)?;
+    if asked.new_password.is_none() && is_not_given_again(rt, asked.store, asked.password) {
+        return Err(new_password_missing());
+    }
+    let given = read_given(rt, asked.store, asked.password, asked.limit)?;
+    let new_password = new_password(rt, asked)?;
+    tell_long_work(rt, around, given.store.as_slice(), None);
+    let before = opened(rt.alloc(), &given, asked.limit)?;
+    let found = listing(rt.alloc(), before.contents.as_slice())?;
+    let change = Change {
+        given: &given,
+        new_password: &new_password,
+        limit: asked.limit,
+    };
+    write_changed(rt, &file, &change, &before)?;
+    tell(rt, around, asked, &found)
+}

@@ -1,0 +1,182 @@
+//! The files of the output folder.
+use crate::attributes::Attributes;
+use crate::chains::{chain_text, chains};
+use crate::export::{Format, Layout, Part};
+use crate::file_name::{ALL, Kind, file_name};
+use crate::folder::{Folder, sync_folder};
+use crate::listing::{Label, Listing};
+use asn1_core::Octets;
+use pem_text::pem_of;
+use std::alloc::Global;
+use std::fs::{OpenFile, OpenOptions};
+use std::io;
+use std::io::Write;
+use std::os::unix::fs::OpenOptionsExt;
+use std::rt::Files;
+use transfer::Transferred;
+
+/// Where files of a kind are written: into the folder at `part`, which becomes this one.
+#[derive(Clone, Copy)]
+struct Place<'a> {
+    folder: &'a Folder<'a>,
+    part: &'a str,
+    kind: Kind,
+}
+
+/// The attributes of files of a kind, where they are not those of any new file.
+fn attributes_of(folder: &Folder<'_>, kind: Kind) -> Option<Attributes> {
+    let kept = folder.kept?;
+    match kind {
+        Kind::Certificate => kept.certificates,
+        Kind::Key => kept.keys,
+    }
+}
+
+/// Gives a new file what is kept.
+fn keep<R: Files>(rt: &R, place: Place<'_>, path: &str, file: &R::File) -> io::Result<()> {
+    if let Some(kept) = attributes_of(place.folder, place.kind) {
+        return kept.give_to_file(rt, path, file);
+    }
+    match place.folder.kept {
+        Some(kept) if kept.folder.passes_group_on() => {
+            let made = Attributes::of_file(&file.metadata()?);
+            made.with_group_of(kept.folder).give_to_file(rt, path, file)
+        }
+        _ => Ok(()),
+    }
+}
+
+/// Writes a file that was not there, which only its owner may read unless more is kept, and brings
+/// it to the disk.
+fn write_new<R: Files + AllocGlobal>(
+    rt: &R,
+    place: Place<'_>,
+    name: &str,
+    octets: &[u8],
+) -> io::Result<()> {
+    let part = place.part;
+    let path = format!(in rt.alloc(); "{part}/{name}")?;
+    let mut file = OpenOptions::new()
+        .write(true)
+        .create_new(true)
+        .mode(0o600)
+        .open(rt, path.as_str())?;
+    file.write_all(octets)?;
+    keep(rt, place, path.as_str(), &file)?;
+    file.sync_all()
+}
+
+/// The PEM text of one of these.
+fn pem(alloc: Global, kind: Kind, octets: &[u8]) -> io::Result<Octets> {
+    match pem_of(alloc, kind.label(), octets) {
+        Ok(text) => Ok(text),
+        Err(_) => Err(io::Error::from(io::ErrorKind::OutOfMemory)),
+    }
+}
+
+/// Writes one of them under its number.
+fn write_one<R: Files + AllocGlobal>(
+    rt: &R,
+    place: Place<'_>,
+    number: usize,
+    label: Option<&Label>,
+    octets: &[u8],
+) -> io::Result<()> {
+    let target = &place.folder.target;
+    let name = file_name(rt.alloc(), place.kind, number, label, target)?;
+    match target.format {
+        Format::Der => write_new(rt, place, name.as_str(), octets),
+        Format::Pem => {
+            let text = pem(rt.alloc(), place.kind, octets)?;
+            write_new(rt, place, name.as_str(), text.as_slice())
+        }
+    }
+}
+
+/// Writes each of these.
+fn write_each<R: Files + AllocGlobal>(
+    rt: &R,
+    place: Place<'_>,
+    each: &[Octets],
+    labels: &[Label],
+) -> io::Result<()> {
+    for (i, octets) in each.iter().enumerate() {
+        write_one(rt, place, i, labels.get(i), octets.as_slice())?;
+    }
+    Ok(())
+}
+
+/// Adds the PEM text of each of these.
+fn add_each(alloc: Global, text: &mut Octets, kind: Kind, each: &[Octets]) -> io::Result<()> {
+    for octets in each {
+        text.extend(pem(alloc, kind, octets.as_slice())?.as_slice())?;
+    }
+    Ok(())
+}
+
+/// Writes all of these into one file: the private keys, and then the certificates.
+fn write_all<R: Files + AllocGlobal>(
+    rt: &R,
+    place: Place<'_>,
+    certificates: &[Octets],
+    documents: &[Octets],
+) -> io::Result<()> {
+    let mut text = Octets::new(rt.alloc());
+    add_each(rt.alloc(), &mut text, Kind::Key, documents)?;
+    add_each(rt.alloc(), &mut text, Kind::Certificate, certificates)?;
+    write_new(rt, place, ALL, text.as_slice())
+}
+
+/// The certificates that are written.
+fn certificates_of<'t>(folder: &Folder<'_>, transferred: &'t Transferred) -> &'t [Octets] {
+    match folder.target.part {
+        Part::Keys => &[],
+        Part::Whole | Part::Certificates => transferred.certificates.as_slice(),
+    }
+}
+
+/// Writes the chain of each private key that has one.
+fn write_chains<R: Files + AllocGlobal>(
+    rt: &R,
+    place: Place<'_>,
+    certificates: &[Octets],
+    found: &Listing,
+) -> io::Result<()> {
+    let chains = chains(rt.alloc(), certificates, found)?;
+    for (number, chain) in chains.as_slice().iter().enumerate() {
+        if let Some(chain) = chain {
+            let text = chain_text(rt.alloc(), chain, certificates)?;
+            let name = format!(in rt.alloc(); "chain-{number}.pem")?;
+            write_new(rt, place, name.as_str(), text.as_slice())?;
+        }
+    }
+    Ok(())
+}
+
+/// Writes everything into the folder at `part`, gives that folder what is kept, and brings it to
+/// the disk.
+pub fn fill<R: Files + AllocGlobal>(
+    rt: &R,
+    folder: &Folder<'_>,
+    part: &str,
+    transferred: &Transferred,
+    found: &Listing,
+) -> io::Result<()> {
+    let of_kind = |kind| Place { folder, part, kind };
+    let certificates = certificates_of(folder, transferred);
+    let documents = transferred.documents.as_slice();
+    if matches!(folder.target.layout, Layout::OneFile) {
+        write_all(rt, of_kind(Kind::Key), certificates, documents)?;
+    } else {
+        let labels = found.certificates.as_slice();
+        write_each(rt, of_kind(Kind::Certificate), certificates, labels)?;
+        write_each(rt, of_kind(Kind::Key), documents, found.keys.as_slice())?;
+    }
+    if folder.target.chain {
+        write_chains(rt, of_kind(Kind::Certificate), certificates, found)?;
+    }
+    if let Some(kept) = &folder.kept {
+        kept.folder.give_to_folder(rt, part)?;
+    }
+    sync_folder(rt, part)
+}

@@ -1,0 +1,179 @@
+# shellcheck shell=sh disable=SC2154 # names that the scripts set that source this
+# Installs the command below a prefix, and removes it again. Sourced by ./pkcs12, whose $pkcs12_home and $pkcs12_program it uses,
+# and for `uninstall` alone by the installed command.
+
+# The folders that `install` made, one a line, so that `uninstall` removes no other.
+pkcs12_made=lib/pkcs12/made
+# Everything that is installed, below the prefix.
+pkcs12_files='bin/pkcs12
+lib/pkcs12/pkcs12
+lib/pkcs12/ask.sh
+lib/pkcs12/install.sh
+share/man/man1/pkcs12.1
+share/bash-completion/completions/pkcs12'
+# What is installed besides, where there is a compiler of C.
+pkcs12_library='include/pkcs12.h
+lib/libpkcs12.a
+lib/libpkcs12.so.1
+lib/libpkcs12.so
+lib/pkgconfig/pkcs12.pc'
+
+not_installed() {
+    printf 'pkcs12: BuildFailed (1): not installed: %s\n' "$1" >&2
+    exit 1
+}
+wrong_use() {
+    printf 'pkcs12: Usage (2): %s\n' "$1" >&2
+    exit 2
+}
+
+# Leaves in $pkcs12_top the folder below which files go for the arguments [PREFIX].
+find_prefix() {
+    [ $# -le 1 ] || wrong_use "one folder at most, the prefix: ./pkcs12 install [PREFIX]"
+    if [ $# -eq 1 ]; then
+        pkcs12_prefix=$1
+    else
+        [ -n "${HOME-}" ] || wrong_use "HOME is not set: name the prefix"
+        pkcs12_prefix=$HOME/.local
+    fi
+    case $pkcs12_prefix in
+        /*) ;;
+        -* | '') wrong_use "the prefix is a folder, as in ./pkcs12 install /usr/local" ;;
+        *) pkcs12_prefix=$PWD/$pkcs12_prefix ;;
+    esac
+    pkcs12_top=${DESTDIR-}$pkcs12_prefix
+    while [ "${pkcs12_top%/}" != "$pkcs12_top" ]; do pkcs12_top=${pkcs12_top%/}; done
+}
+
+# Refuses to write over what is not of an earlier installation.
+refuse_others() {
+    for pkcs12_each in $pkcs12_files $pkcs12_library; do
+        pkcs12_there=$pkcs12_top/$pkcs12_each
+        [ -e "$pkcs12_there" ] || [ -L "$pkcs12_there" ] || continue
+        [ -f "$pkcs12_top/$pkcs12_made" ] || not_installed "$pkcs12_there is there, and is not of this command"
+        [ ! -d "$pkcs12_there" ] || not_installed "$pkcs12_there is a folder"
+    done
+}
+
+# Makes the folder $1 below the prefix, and notes each that was not there.
+make_folder() {
+    [ ! -d "$pkcs12_top${1:+/$1}" ] || return 0
+    case $1 in
+        */*) make_folder "${1%/*}" ;;
+        ?*) make_folder "" ;;
+        '') mkdir -p -- "$(dirname -- "$pkcs12_top")" || not_installed "the folder of $pkcs12_top could not be made" ;;
+    esac
+    # first, since a signal may come when it was made
+    pkcs12_new_folders="${1:-.}
+$pkcs12_new_folders"
+    mkdir -- "$pkcs12_top${1:+/$1}" || not_installed "the folder $pkcs12_top${1:+/$1} could not be made"
+}
+
+# Writes what the further words print beside its place $2 below the prefix, with the mode $1.
+stage() {
+    pkcs12_mode=$1
+    pkcs12_target=$2
+    shift 2
+    make_folder "${pkcs12_target%/*}"
+    pkcs12_staged="$pkcs12_staged $pkcs12_target"
+    pkcs12_new=$pkcs12_top/$pkcs12_target.new-$$
+    if ! "$@" >"$pkcs12_new" || ! chmod "$pkcs12_mode" "$pkcs12_new"; then
+        not_installed "$pkcs12_top/$pkcs12_target could not be written"
+    fi
+}
+# Removes what was staged, and the folders that were made for it.
+unstage() {
+    [ -z "$pkcs12_made_library" ] || rm -rf -- "$pkcs12_made_library"
+    for pkcs12_each in $pkcs12_staged; do rm -f -- "$pkcs12_top/$pkcs12_each.new-$$"; done
+    remove_folders "$pkcs12_new_folders"
+}
+remove_folders() {
+    echo "$1" | while IFS= read -r pkcs12_each; do
+        case $pkcs12_each in
+            '') ;;
+            .) rmdir -- "$pkcs12_top" 2>/dev/null || : ;;
+            *) rmdir -- "$pkcs12_top/$pkcs12_each" 2>/dev/null || : ;;
+        esac
+    done
+}
+
+# Leaves the library for C in $pkcs12_made_library, where it can be made here, and else says why it is not installed.
+make_library() {
+    pkcs12_made_library=
+    pkcs12_c=$pkcs12_home/crates/pkcs12_c
+    if ! command -v "${CC:-cc}" >/dev/null; then
+        echo "without the library for C: there is no ${CC:-cc}" >&2
+        return 0
+    fi
+    if [ ! -f "$pkcs12_c/out/libpkcs12_c.a" ]; then
+        if ! command -v rt >/dev/null; then
+            echo "without the library for C: it is not built, and rt of the Rattle kit is not there" >&2
+            return 0
+        fi
+        build_library
+    fi
+    pkcs12_made_library=$(mktemp -d)
+    "$pkcs12_c/link/make_library.sh" "$pkcs12_made_library" || not_installed "the library for C could not be linked"
+}
+stage_library() {
+    [ -n "$pkcs12_made_library" ] || return 0
+    stage 644 include/pkcs12.h cat "$pkcs12_c/include/pkcs12.h"
+    stage 644 lib/libpkcs12.a cat "$pkcs12_made_library/libpkcs12.a"
+    stage 644 lib/libpkcs12.so.1 cat "$pkcs12_made_library/libpkcs12.so.1"
+    make_folder lib/pkgconfig
+    stage 644 lib/pkgconfig/pkcs12.pc cat "$pkcs12_c/link/pkcs12.pc"
+    pkcs12_staged="$pkcs12_staged lib/libpkcs12.so"
+    ln -s libpkcs12.so.1 "$pkcs12_top/lib/libpkcs12.so.new-$$" || not_installed "$pkcs12_top/lib/libpkcs12.so could not be made"
+}
+
+# Each file of the installation, from its source.
+stage_all() {
+    stage 755 bin/pkcs12 cat "$pkcs12_home/wrapper/installed.sh"
+    stage 755 lib/pkcs12/pkcs12 cat "$pkcs12_program"
+    stage 644 lib/pkcs12/ask.sh cat "$pkcs12_home/wrapper/ask.sh"
+    stage 644 lib/pkcs12/install.sh cat "$pkcs12_home/wrapper/install.sh"
+    stage 644 share/man/man1/pkcs12.1 sed -e 's|\\&\./pkcs12|pkcs12|g' -e 's|\./pkcs12|pkcs12|g' "$pkcs12_home/docs/pkcs12.1"
+    stage 644 share/bash-completion/completions/pkcs12 cat "$pkcs12_home/docs/pkcs12.bash"
+    stage_library
+    pkcs12_old_folders=
+    [ ! -f "$pkcs12_top/$pkcs12_made" ] || pkcs12_old_folders=$(cat -- "$pkcs12_top/$pkcs12_made")
+    stage 644 "$pkcs12_made" printf '%s' "$pkcs12_new_folders$pkcs12_old_folders
+"
+}
+
+install() {
+    find_prefix "$@"
+    refuse_others
+    [ -x "$pkcs12_program" ] || build
+    umask 022
+    pkcs12_staged=
+    pkcs12_new_folders=
+    pkcs12_made_library=
+    trap unstage EXIT
+    trap 'exit 129' HUP
+    trap 'exit 130' INT
+    trap 'exit 143' TERM
+    make_library
+    stage_all
+    # From here on it is soon whole, and no signal stops it.
+    trap '' HUP INT TERM
+    for pkcs12_each in "$pkcs12_made" $pkcs12_staged; do
+        [ ! -e "$pkcs12_top/$pkcs12_each.new-$$" ] || mv -fT -- "$pkcs12_top/$pkcs12_each.new-$$" "$pkcs12_top/$pkcs12_each"
+    done
+    [ -z "$pkcs12_made_library" ] || rm -rf -- "$pkcs12_made_library"
+    trap - EXIT HUP INT TERM
+    echo "pkcs12 is installed below $pkcs12_top; ./pkcs12 uninstall removes it"
+    case :$PATH: in
+        *":$pkcs12_prefix/bin:"*) ;;
+        *) echo "$pkcs12_prefix/bin is not among the folders of PATH" ;;
+    esac
+}
+
+uninstall() {
+    find_prefix "$@"
+    [ -f "$pkcs12_top/$pkcs12_made" ] || wrong_use "pkcs12 is not installed below $pkcs12_top"
+    pkcs12_new_folders=$(cat -- "$pkcs12_top/$pkcs12_made")
+    for pkcs12_each in $pkcs12_files $pkcs12_library "$pkcs12_made"; do rm -f -- "$pkcs12_top/$pkcs12_each"; done
+    remove_folders "$pkcs12_new_folders"
+    echo "pkcs12 is no more below $pkcs12_top"
+}

@@ -1,0 +1,18 @@
+#!/bin/sh
+# The installed command pkcs12: runs the program beside it, and asks for passwords at a terminal. `pkcs12 uninstall` removes it.
+set -eu
+# A shell needs more descriptors than the program does.
+[ "$(ulimit -n)" -ge 20 ] || ulimit -S -n 20 || :
+# Every variable here has this prefix, since any other may be one that --password-env names.
+unset PKCS12_ASKING pkcs12_password pkcs12_new_password pkcs12_answered
+
+pkcs12_self=$(readlink -f -- "$0")
+pkcs12_prefix=${pkcs12_self%/bin/*}
+pkcs12_program=$pkcs12_prefix/lib/pkcs12/pkcs12
+if [ "${1-}" = uninstall ]; then
+    . "$pkcs12_prefix/lib/pkcs12/install.sh"
+    [ $# -eq 1 ] || wrong_use "$0 uninstall removes itself, and takes no arguments"
+    uninstall "$pkcs12_prefix"
+    exit 0
+fi
+. "$pkcs12_prefix/lib/pkcs12/ask.sh"
