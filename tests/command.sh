@@ -158,7 +158,7 @@ certificates_from_a_pipe() {
 }
 holds certificates_from_a_pipe certificates_from_a_pipe
 holds two_passwords fails 2 Usage "cannot be used" check "$plain" --password-stdin --password-file "$plain_password"
-holds no_such_variable fails 3 ReadFault NO_SUCH check "$plain" --password-env NO_SUCH
+holds no_such_variable fails 3 ReadFault "no environment variable" check "$plain" --password-env NO_SUCH
 holds no_such_password_file fails 3 ReadFault "the password file $work/no-such: " check "$plain" --password-file "$work/no-such"
 holds no_such_new_password_file fails 3 ReadFault "the new password file $work/no-such: " export "$keyed" --out "$work/none" \
     --password-file "$keyed_password" --new-password-file "$work/no-such"
@@ -181,26 +181,26 @@ replaced_whole() {
 }
 holds force_replaces_the_folder_whole replaced_whole
 wrong_password_with_force() {
-    fails 16 MacMismatch password export "$keyed" --out "$work/full" --force --password-file "$work/new" --new-password-file "$work/new" &&
+    fails 16 MacMismatch password export "$keyed" --out "$work/full" --force --password-file "$work/p" --new-password-file "$work/new" &&
         [ -s "$work/full/key-0.pem" ]
 }
 holds a_refusal_replaces_nothing wrong_password_with_force
-# A store or a password in the folder that is replaced, by another path too.
+# A store or a password in the folder that is replaced, by another path too; they have names that export writes.
 mkdir "$work/inside"
 ln -s inside "$work/to-inside"
-cp "$keyed" "$work/inside/store.p12"
-cp "$keyed_password" "$work/inside/password"
-holds store_in_the_replaced_folder fails 2 Usage "lies in" export "$work/inside/store.p12" --out "$work/inside" --force
-holds store_there_through_a_link fails 2 Usage "lies in" export "$work/to-inside/store.p12" --out "$work/inside//" --force
+cp "$keyed" "$work/inside/cert-7.der"
+cp "$keyed_password" "$work/inside/key-7.pem"
+holds store_in_the_replaced_folder fails 2 Usage "lies in" export "$work/inside/cert-7.der" --out "$work/inside" --force
+holds store_there_through_a_link fails 2 Usage "lies in" export "$work/to-inside/cert-7.der" --out "$work/inside//" --force
 store_on_input() {
-    fails 2 Usage "lies in" export - --out "$work/inside" --force <"$work/inside/store.p12"
+    fails 2 Usage "lies in" export - --out "$work/inside" --force <"$work/inside/cert-7.der"
 }
 holds standard_input_in_the_replaced_folder store_on_input
 holds password_in_the_replaced_folder fails 2 Usage "lies in" export "$keyed" --out "$work/inside" --force \
-    --password-file "$work/full/../inside/password"
+    --password-file "$work/full/../inside/key-7.pem"
 holds new_password_in_the_replaced_folder fails 2 Usage "lies in" export "$keyed" --out "$work/inside" --force \
-    --password-file "$keyed_password" --new-password-file "$work/inside/password"
-holds what_is_read_stays cmp "$keyed" "$work/inside/store.p12"
+    --password-file "$keyed_password" --new-password-file "$work/inside/key-7.pem"
+holds what_is_read_stays cmp "$keyed" "$work/inside/cert-7.der"
 mkdir "$work/inside-not"
 cp "$keyed" "$work/inside-not/store.p12"
 name_alike() {
@@ -208,20 +208,20 @@ name_alike() {
         --new-password-file "$work/new" --rounds 1000 && [ "$(ls "$work/inside")" = "$(printf 'cert-0.pem\nkey-0.pem')" ]
 }
 holds a_name_that_begins_alike_is_no_such name_alike
-# The folder that was replaced has a mount in it, so it cannot be removed; the new one is there.
-mounted_folder() {
-    mkdir -p "$work/mounted/sub"
-    if ! mount -t tmpfs -o size=8k tmpfs "$work/mounted/sub" 2>/dev/null; then
-        echo "skipped mounted_folder: no tmpfs can be mounted"
+# A file of the folder that was replaced is mounted, so it cannot be removed; the new folder is there.
+mounted_file() {
+    mkdir -p "$work/mounted" && : >"$work/mounted/key-3.pem" || return 1
+    if ! mount --bind "$work/new" "$work/mounted/key-3.pem" 2>/dev/null; then
+        echo "skipped mounted_file: nothing can be mounted"
         return 0
     fi
     outcome=0
     export_keyed "$work/mounted" --force && [ "$(ls "$work/mounted")" = "$(printf 'cert-0.pem\nkey-0.pem')" ] &&
         grep -q '^pkcs12: .*/mounted\.old-[0-9]*, the folder that was replaced, could not be removed: ' "$work/told" || outcome=1
-    umount "$work"/mounted.old-*/sub 2>/dev/null || umount "$work/mounted/sub"
+    umount "$work"/mounted.old-*/key-3.pem 2>/dev/null || umount "$work/mounted/key-3.pem"
     return "$outcome"
 }
-holds old_folder_that_cannot_be_removed mounted_folder
+holds old_folder_that_cannot_be_removed mounted_file
 # A run that was killed left this folder, and a process of its number comes again.
 left_part() {
     code=0
@@ -229,7 +229,7 @@ left_part() {
     sh -c 'mkdir "$1.part-$$" && exec "$2" export "$3" --out "$1" --password-file "$4"' sh "$work/left" "$home/crates/pkcs12/out/pkcs12" \
         "$plain" "$plain_password" 2>"$work/told" || code=$?
     [ "$code" -eq 4 ] && [ ! -e "$work/left" ] &&
-        grep -q '^pkcs12: WriteFault (4): .*/left\.part-\([0-9]*\) is left of a run that was killed; remove it: rm -r .*/left\.part-\1$' "$work/told"
+        grep -q '^pkcs12: WriteFault (4): .*/left\.part-[0-9]* is left of a run that was killed$' "$work/told"
 }
 holds folder_left_of_a_killed_run left_part
 holds no_folder_above fails 4 WriteFault "no-such" export "$keyed" --out "$work/no-such/out" --password-file "$keyed_password" \
@@ -341,7 +341,7 @@ recipe_of_java() {
             -storepass password -keypass password >"$work/told" 2>&1 || return 1
     done
     fails 11 Unsupported "pbeWithSHAAnd40BitRC2-CBC" check "$work/java.p12" --password-file "$work/java-password" || return 1
-    sed -n '/^    keytool /p' "$home/README.md" | sed -e "s|STORE.p12|$work/java.p12 -srcstorepass password|" \
+    sed -n '/^    keytool /p' "$home/docs/STORES.md" | sed -e "s|STORE.p12|$work/java.p12 -srcstorepass password|" \
         -e "s|NEW.p12|$work/java-anew.p12 -deststorepass password|" >"$work/recipe.sh"
     sh -e "$work/recipe.sh" >"$work/told" 2>&1 && ends 0 check "$work/java-anew.p12" --password-file "$work/java-password" &&
         [ "$(head -n 2 "$work/said")" = "$(printf 'certificates: 2\nprivate keys: 2')" ]
@@ -351,20 +351,21 @@ holds the_recipe_of_java recipe_of_java
 # --- stores made by hand ---
 
 
-passed_over() {
+not_exported() {
     ends 0 check "$work/passed.p12" --password-file "$work/p" || return 1
     cat >"$work/due" <<'END'
 certificates: 0
 private keys: 0
-passed over: 1, a private key that is not encrypted (keyBag)
-passed over: 2, a certificate revocation list (crlBag)
-passed over: 1, a secret (secretBag)
-passed over: 1, bags inside a bag (safeContentsBag)
+not exported: 1, a private key that is not encrypted (keyBag)
+not exported: 2, a certificate revocation list (crlBag)
+not exported: 1, a secret (secretBag)
+not exported: 1, bags inside a bag (safeContentsBag)
 END
     cmp "$work/due" "$work/said" || return 1
-    ends 0 export "$work/passed.p12" --out "$work/passed" --password-file "$work/p" && grep -q 'passed over: 1, a private key' "$work/told"
+    fails 25 NotExported "nothing was written" export "$work/passed.p12" --out "$work/none" --password-file "$work/p" &&
+        nothing_at "$work/none" && tail -n +3 "$work/due" | while IFS= read -r line; do grep -qxF "$line" "$work/told" || return 1; done
 }
-holds what_is_passed_over_is_named passed_over
+holds what_is_not_exported_is_named not_exported
 holds ber_is_named fails 10 Malformed "in BER, and only DER is read: an element of indefinite length begins at octet 0" \
     check "$work/ber.p12" --password-file "$work/p"
 holds a_long_length_is_named fails 10 Malformed "a length in more octets than it takes begins at octet 0" \

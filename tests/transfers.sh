@@ -59,4 +59,34 @@ printf 0 >>"$work/input"
 echo "error: InputTooLong" >"$work/due"
 try "67,108,865 octets of input" "transfer p q 1 9" InputTooLong
 
+
+# Without a second line the octets come from the system: two runs write two documents, whose initialization vectors differ.
+grep '^three counts of 2,048|' "$work/cases" | cut -d '|' -f 3 | sed 's/\\n.*//' >"$work/input"
+sealed=0
+for number in 1 2; do
+    code=0
+    run "transfer changeit hunter42 2048 14336" <"$work/input" >"$work/drawn-$number" || code=$?
+    if [ "$code" = "$(code_of Done)" ] && grep -q '^key [0-9a-f]*$' "$work/drawn-$number"; then
+        sealed=$((sealed + 1))
+    fi
+done
+vector() { grep '^key' "$1" | sed 's/.*0410\([0-9a-f]\{32\}\).*/\1/'; }
+if [ "$sealed" = 2 ] && [ "$(vector "$work/drawn-1")" != "$(vector "$work/drawn-2")" ]; then
+    echo "ok the system's random octets"
+else
+    echo "not ok the system's random octets: two runs draw the same, or end with $code"
+    failed=1
+fi
+
+# The file of random octets must not be read in the place of a standard input that is closed.
+echo "error: ReadFault" >"$work/due"
+code=0
+run "transfer p q 1 9" <&- >"$work/found" || code=$?
+if [ "$code" = "$(code_of ReadFault)" ] && cmp -s "$work/due" "$work/found"; then
+    echo "ok a closed standard input"
+else
+    echo "not ok a closed standard input: found is $code, $(head -c 60 "$work/found")"
+    failed=1
+fi
+
 exit "$failed"

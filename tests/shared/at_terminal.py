@@ -58,7 +58,7 @@ def main():
             asked = shown.count(b": ")
             hidden = hidden and not has_echo(terminal)
             if answers:
-                os.write(shell, answers.pop(0).encode() + b"\n")
+                os.write(shell, os.fsencode(answers.pop(0)) + b"\n")
             elif sent:
                 time.sleep(0.1)  # until the command reads: dash takes note of a signal before that only at the next one
                 os.killpg(child, sent)

@@ -197,6 +197,13 @@ def rows():
     bare = store(contents, mac_under("sha1", SHA1, contents, "p", SALTS[2], 1, False))
     yield "a MAC with no count", "p q 1 1", bare, b"", "Done", lines(CERTIFICATES[:1], [])
 
+    other = bare.replace(number(3), number(0), 1)
+    yield "a store of version 0", "p q 1 1", other, b"", "Done", lines(CERTIFICATES[:1], [])
+    yield "4,097 rounds", "changeit hunter42 4097 14336", whole, drawn, "Done", lines(CERTIFICATES, [document(KEY, "hunter42", 4097, drawn)])
+    old, new = "p" * 1000, "q" * 1024
+    long = store_of([sealed_key(KEY, old, SALTS[0], 1)], old)
+    yield "passwords of 1,000 and 1,024 octets", f"{old} {new} 1 4", long, drawn, "Done", lines([], [document(KEY, new, 1, drawn)])
+
     made, certificate, key = openssl(())
     yield "a store of OpenSSL 3 by default", "changeit q 5 6144", made, drawn, "Done", lines([certificate], [document(key, "q", 5, drawn)])
     made, certificate, key = openssl()

@@ -1,0 +1,77 @@
+/* fails STORE PASSWORD-FILE: each request for memory is refused in turn. The call then returns PKCS12_MEMORY, writes nothing, and gives
+ * back all that it was given. Linked without heap.c, whose calls stand here. */
+#include "inputs.h"
+
+static long requests, refused, live;
+struct block {
+    uint64_t given;
+    void *at;
+};
+static char nothing[16];
+
+struct block rattle_alloc(size_t size, size_t align);
+struct block rattle_realloc(void *at, size_t old, size_t size, size_t align);
+void rattle_dealloc(void *at);
+
+struct block rattle_alloc(size_t size, size_t align)
+{
+    void *at = ++requests == refused ? NULL : malloc(size ? size : align);
+    live += at != NULL;
+    struct block block = {at != NULL, at ? at : nothing};
+    return block;
+}
+struct block rattle_realloc(void *old_at, size_t old, size_t size, size_t align)
+{
+    (void)old;
+    void *at = ++requests == refused ? NULL : realloc(old_at, size ? size : align);
+    struct block block = {at != NULL, at ? at : nothing};
+    return block;
+}
+void rattle_dealloc(void *at)
+{
+    live--;
+    free(at);
+}
+
+static uint8_t output[1 << 18];
+
+/* One of the four calls. */
+static uint32_t call(int which, size_t *needed)
+{
+    if (which == 0)
+        return transferred(output, sizeof output, needed);
+    if (which == 1)
+        return pkcs12_open_pem(store, store_len, password, password_len, LIMIT, output, sizeof output, needed);
+    if (which == 2)
+        return listed(output, sizeof output, needed);
+    return pkcs12_rekey(store, store_len, password, password_len, NEW_PASSWORD, LIMIT, drawn, sizeof drawn, output,
+        sizeof output, needed);
+}
+
+int main(int argc, char **argv)
+{
+    read_inputs(argc, argv);
+    for (int which = 0; which < 4; which++) {
+        size_t needed;
+        refused = requests = live = 0;
+        if (call(which, &needed) != PKCS12_DONE || live)
+            return wrong("the store is refused, or memory is kept");
+        long all = requests;
+        if (all < 5)
+            return wrong("too few requests to be all of them");
+        for (long number = 1; number <= all; number++) {
+            refused = number;
+            requests = 0;
+            memset(output, 7, sizeof output);
+            if (call(which, &needed) != PKCS12_MEMORY || needed)
+                return wrong("not out of memory");
+            if (live)
+                return wrong("memory is kept");
+            for (size_t i = 0; i < sizeof output; i++)
+                if (output[i] != 7)
+                    return wrong("written");
+        }
+        printf("%ld requests\n", all);
+    }
+    return 0;
+}

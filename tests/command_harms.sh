@@ -1,0 +1,514 @@
+#!/bin/sh
+# shellcheck disable=SC2154,SC2317 # the checks are called by name, and tests/shared/checks.sh sets names
+# What a careless or hostile person cannot do with pkcs12: what is left out, replaced, printed, or worked on for hours.
+# Prints `ok NAME` or `not ok NAME` for each, `skipped NAME` with the reason for what this machine has no means for, and ends with 1
+# where one is not ok.
+set -eu
+
+home=$(cd "$(dirname "$0")/.." && pwd)
+work=$(mktemp -d)
+trap 'rm -rf "$work"' EXIT
+# shellcheck source=tests/shared/checks.sh
+. "$home/tests/shared/checks.sh"
+
+# The words $2 .. are within what the command said last in the file $1.
+says() {
+    said_in=$1
+    shift
+    grep -qF -- "$*" "$work/$said_in" || {
+        echo "not said: $*" >&2
+        return 1
+    }
+}
+# Only root can mount, and run as another user.
+is_root() {
+    [ "$(id -u)" -eq 0 ] || {
+        echo "skipped $1: not run as root"
+        return 1
+    }
+}
+# The library $1.so in front of the C library's, of the text in $1.c.
+in_front() {
+    command -v cc >/dev/null || {
+        echo "skipped $1: there is no C compiler"
+        return 1
+    }
+    cc -shared -fPIC -o "$work/$1.so" "$work/$1.c" -ldl || exit 1
+}
+program=$home/crates/pkcs12/out/pkcs12
+mode_of() {
+    stat -c '%a %U %G' "$@"
+}
+
+# --- what is left out ---
+
+unencrypted_key() {
+    fails 25 NotExported "nothing was written" export "$work/mixed.p12" --out "$work/left-out" --password-file "$work/p" &&
+        says told "not exported: 1, a private key that is not encrypted (keyBag)" && says told "--skip-others" && nothing_at "$work/left-out"
+}
+holds unencrypted_key_is_a_refusal unencrypted_key
+skipped() {
+    ends 0 export "$work/mixed.p12" --out "$work/left-out" --password-file "$work/p" --skip-others &&
+        says told "certificates: 1" && says told "not exported: 1, a private key that is not encrypted (keyBag)" &&
+        [ "$(ls "$work/left-out")" = cert-0.pem ]
+}
+holds others_are_skipped_if_asked skipped
+# What openssl writes with a key in the clear.
+openssl_plain_key() {
+    have_openssl openssl_plain_key || return 0
+    openssl pkey -inform DER -in "$home/examples/openssl-key/key-0.der" -out "$work/key.pem" &&
+        openssl x509 -inform DER -in "$home/examples/openssl-key/cert-0.der" -out "$work/cert.pem" &&
+        openssl pkcs12 -export -inkey "$work/key.pem" -in "$work/cert.pem" -keypbe NONE -passout pass:p -out "$work/plain-key.p12" || return 1
+    fails 25 NotExported "nothing was written" export "$work/plain-key.p12" --out "$work/none" --password-file "$work/p" &&
+        ends 0 check "$work/plain-key.p12" --password-file "$work/p" && says said "not exported: 1, a private key"
+}
+holds key_of_openssl_in_the_clear openssl_plain_key
+certificates_alone_are_no_way_round() {
+    fails 25 NotExported "nothing was written" export "$work/mixed.p12" --out "$work/none" --password-file "$work/p" --certificates-only
+}
+holds certificates_only_refuses_others_too certificates_alone_are_no_way_round
+no_certificate() {
+    ends 0 check "$work/not-a-certificate.p12" --password-file "$work/p" && says said "warning: cert-0 is no X.509 certificate" &&
+        ! grep -q "cert-1 is no" "$work/said" || return 1
+    ends 0 export "$work/not-a-certificate.p12" --out "$work/no-certificate" --password-file "$work/p" &&
+        says told "warning: cert-0 is no X.509 certificate"
+}
+holds a_certificate_that_is_none_is_told no_certificate
+silent() {
+    export_keyed "$work/silent" && [ ! -s "$work/told" ] && [ ! -s "$work/said" ] || return 1
+    export_keyed "$work/verbose" --verbose && says told "private keys: 1"
+}
+holds success_is_silent silent
+
+# --- which part is written, and how ---
+
+parts() {
+    export_keyed "$work/keys" --keys-only && [ "$(ls "$work/keys")" = key-0.pem ] || return 1
+    ends 0 export "$keyed" --out "$work/certificates" --password-file "$keyed_password" --certificates-only &&
+        [ "$(ls "$work/certificates")" = cert-0.pem ]
+}
+holds one_part_alone parts
+one_file() {
+    export_keyed "$work/one" --one-file && [ "$(ls "$work/one")" = all.pem ] &&
+        [ "$(grep -c BEGIN "$work/one/all.pem")" -eq 2 ] || return 1
+    head -n 1 "$work/one/all.pem" | grep -q "ENCRYPTED PRIVATE KEY" || return 1
+    have_openssl one_file || return 0
+    opens_to_the_key "$work/one/all.pem" "file:$work/new" &&
+        openssl x509 -in "$work/one/all.pem" -outform DER | cmp - "$home/examples/openssl-key/cert-0.der" || return 1
+    fails 2 Usage "--one-file" export "$keyed" --out "$work/none" --one-file --format der
+}
+holds one_file_for_all one_file
+by_name() {
+    ends 0 export "$work/names.p12" --out "$work/named" --password-file "$work/p" --names || return 1
+    [ "$(find "$work/named" -type f | wc -l)" -eq 6 ] && [ -s "$work/named/cert-3-server.pem" ] && [ -s "$work/named/cert-4-server.pem" ] &&
+        [ -s "$work/named/cert-5.pem" ] && [ -s "$work/named/cert-1-.._.._etc_passwd___id___.pem" ] || return 1
+    # No name has anything but letters, digits, dots, dashes and underscores, and all can be replaced.
+    ! find "$work/named" -type f | sed 's|.*/||' | grep -q '[^A-Za-z0-9._-]' &&
+        ends 0 export "$work/names.p12" --out "$work/named" --password-file "$work/p" --names --force
+}
+holds files_by_friendly_name by_name
+json() {
+    ends 0 check "$work/names.p12" --password-file "$work/p" --json || return 1
+    LC_ALL=C grep -q '[^ -~]' "$work/said" && return 1
+    "${PYTHON:-python3}" - "$work/said" <<'END_OF_PYTHON' || return 1
+import json
+import sys
+
+with open(sys.argv[1], encoding="utf-8") as file:
+    found = json.load(file)
+assert list(found) == ["certificates", "private_keys", "not_exported"], found
+first = found["certificates"][0]
+assert first == {"name": "cert-0", "friendly_name": "a\u202eb\u200bc\u2066d\ufeffe\u2028f\u0085g", "local_key_id": None, "is_certificate": True}
+assert found["certificates"][2]["friendly_name"] == "long" * 2000
+assert found["certificates"][2]["local_key_id"] == "ab" * 5000
+assert found["certificates"][5]["friendly_name"] is None
+END_OF_PYTHON
+    ends 0 check "$keyed" --password-file "$keyed_password" --json || return 1
+    "${PYTHON:-python3}" - "$work/said" <<'END_OF_PYTHON'
+import json
+import sys
+
+with open(sys.argv[1], encoding="utf-8") as file:
+    found = json.load(file)
+assert found["private_keys"][0]["certificate"] == "cert-0", found
+assert found["private_keys"][0]["local_key_id"] == found["certificates"][0]["local_key_id"]
+END_OF_PYTHON
+}
+holds what_is_there_in_json json
+
+# --- what is replaced ---
+
+foreign() {
+    mkdir "$work/home" && echo mine >"$work/home/letter.txt" && echo old >"$work/home/key-0.pem" || return 1
+    fails 23 OutputExists "holds letter.txt" export "$keyed" --out "$work/home" --force && [ "$(cat "$work/home/letter.txt")" = mine ] || return 1
+    mkdir -p "$work/within/cert-0.pem" && fails 23 OutputExists "holds cert-0.pem" export "$keyed" --out "$work/within" --force || return 1
+    mkdir "$work/linked" && ln -s /etc/passwd "$work/linked/cert-0.pem" &&
+        fails 23 OutputExists "holds cert-0.pem" export "$keyed" --out "$work/linked" --force
+}
+holds force_replaces_only_what_export_wrote foreign
+attributes_stay() {
+    is_root attributes_stay || return 0
+    mkdir -m 750 "$work/prepared" && chgrp daemon "$work/prepared" && export_keyed "$work/prepared" || return 1
+    [ "$(mode_of "$work/prepared")" = "750 root daemon" ] && [ "$(mode_of "$work/prepared/key-0.pem")" = "600 root root" ] || return 1
+    chgrp daemon "$work"/prepared/* && chmod 640 "$work/prepared/key-0.pem" && chmod 644 "$work/prepared/cert-0.pem" || return 1
+    export_keyed "$work/prepared" --force && [ "$(mode_of "$work/prepared")" = "750 root daemon" ] &&
+        [ "$(mode_of "$work/prepared/key-0.pem" "$work/prepared/cert-0.pem" | sort -u)" = "640 root daemon" ] || return 1
+    chmod 666 "$work/prepared/key-0.pem" && export_keyed "$work/prepared" --force &&
+        [ "$(mode_of "$work/prepared/key-0.pem")" = "640 root daemon" ] || return 1
+    mkdir -m 2750 "$work/setgid" && chgrp daemon "$work/setgid" && chmod 2750 "$work/setgid" && export_keyed "$work/setgid" &&
+        [ "$(mode_of "$work/setgid" "$work/setgid/key-0.pem" | tr '\n' ' ')" = "2750 root daemon 600 root daemon " ]
+}
+holds mode_owner_and_group_stay attributes_stay
+mount_points() {
+    is_root mount_points || return 0
+    mkdir "$work/point" "$work/bound" "$work/bind it" || return 1
+    mount -t tmpfs -o size=1m tmpfs "$work/point" 2>/dev/null || {
+        echo "skipped mount_points: no tmpfs can be mounted"
+        return 0
+    }
+    outcome=0
+    fails 23 OutputExists "is a mount point" export "$keyed" --out "$work/point" && says told "--out '$work/point/pem'" &&
+        export_keyed "$work/point/pem" || outcome=1
+    umount "$work/point"
+    mount --bind "$work/bound" "$work/bind it" && fails 23 OutputExists "is a mount point" export "$keyed" --out "$work/bind it" || outcome=1
+    umount "$work/bind it"
+    return "$outcome"
+}
+holds a_mount_point_is_refused_before_any_password mount_points
+# As nobody: a folder whose parent cannot be written, and folders of others among those of everybody.
+as_nobody() {
+    code=0
+    setsid -w setpriv --reuid nobody --clear-groups --regid nogroup "$program" "$@" >"$work/said" 2>"$work/told" || code=$?
+}
+others_folders() {
+    is_root others_folders || return 0
+    command -v setpriv >/dev/null || {
+        echo "skipped others_folders: there is no setpriv"
+        return 0
+    }
+    # The program has to be readable for nobody, wherever this tree is.
+    cp "$program" "$work/program" && chmod 755 "$work/program" "$work" && program=$work/program || return 1
+    mkdir -m 755 "$work/roots" && mkdir -m 777 "$work/roots/own" && chown nobody "$work/roots/own" && cp "$plain" "$work/readable.p12" &&
+        chmod 644 "$work/readable.p12" || return 1
+    as_nobody export "$work/readable.p12" --out "$work/roots/own"
+    [ "$code" -eq 4 ] && says told "Permission denied" && says told "ls -ld '$work/roots'" || return 1
+    mkdir -m 1777 "$work/sticky" && mkdir "$work/sticky/roots" && mkdir -m 777 "$work/sticky/nobodys" && chown nobody "$work/sticky/nobodys" || return 1
+    as_nobody export "$work/readable.p12" --out "$work/sticky/roots"
+    [ "$code" -eq 23 ] && says told "another user" || return 1
+    code=0
+    "$program" export "$keyed" --out "$work/sticky/nobodys" 2>"$work/told" || code=$?
+    [ "$code" -eq 23 ] && says told "another user"
+}
+holds folders_of_other_users others_folders
+program=$home/crates/pkcs12/out/pkcs12
+# Each refusal of the place comes before a question: no password is given here.
+early() {
+    fails 4 WriteFault "no-such" export "$keyed" --out "$work/no-such/out" && says told "mkdir -p '$work/no-such'" || return 1
+    long=$(printf 'n%.0s' $(seq 1 300))
+    fails 4 WriteFault "File name too long" export "$keyed" --out "$work/$long" && says told "shorter name" || return 1
+    ln -s "$work" "$work/a-link" && fails 23 OutputExists "is a link" export "$keyed" --out "$work/a-link" --force &&
+        says told "Remove it, or give another name" || return 1
+    fails 23 OutputExists "is not a folder" export "$keyed" --out "$work/p" --force && says told "Remove it, or give another name"
+}
+holds what_cannot_be_made_is_told_first early
+
+# --- faults that come late ---
+
+late_faults() {
+    cat >"$work/late.c" <<'END'
+#define _GNU_SOURCE
+#include <dlfcn.h>
+#include <errno.h>
+#include <stdlib.h>
+#include <string.h>
+#include <sys/stat.h>
+int fsync(int fd) {
+    struct stat there;
+    const char *kind = getenv("LATE");
+    fstat(fd, &there);
+    if (kind && !strcmp(kind, "file") && S_ISREG(there.st_mode)) return errno = EDQUOT, -1;
+    if (kind && !strcmp(kind, "folder") && S_ISDIR(there.st_mode)) return errno = EIO, -1;
+    return 0;
+}
+int rename(const char *from, const char *to) {
+    int (*next)(const char *, const char *) = (int (*)(const char *, const char *))dlsym(RTLD_NEXT, "rename");
+    int done = next(from, to);
+    const char *kind = getenv("LATE");
+    if (kind && !strcmp(kind, "rename") && done == 0) return errno = ENOENT, -1;
+    return done;
+}
+END
+    in_front late || return 0
+    for kind in file folder; do
+        code=0
+        LATE=$kind LD_PRELOAD=$work/late.so "$program" export "$keyed" --out "$work/late" --password-file "$keyed_password" \
+            --same-password --rounds 1 2>"$work/told" || code=$?
+        [ "$code" -eq 4 ] && [ ! -e "$work/late" ] && [ ! -e "$work/late.part-"* ] || return 1
+    done
+    # A rename that was done and is called failed, as over NFS: the folder is there, and that is told.
+    code=0
+    LATE=rename LD_PRELOAD=$work/late.so "$program" export "$keyed" --out "$work/late" --password-file "$keyed_password" \
+        --same-password --rounds 1 2>"$work/told" || code=$?
+    [ "$code" -eq 0 ] && [ -s "$work/late/key-0.pem" ] || return 1
+    echo old >"$work/late/key-1.pem"
+    LATE=rename LD_PRELOAD=$work/late.so "$program" export "$keyed" --out "$work/late" --force --password-file "$keyed_password" \
+        --same-password --rounds 1 2>"$work/told" || return 1
+    [ "$(ls -d "$work"/late*)" = "$(printf '%s\n' "$work/late" "$work/late.c" "$work/late.so")" ] && [ ! -e "$work/late/key-1.pem" ]
+}
+holds faults_that_come_late late_faults
+# What is replaced stays where the new files cannot be brought to the disk.
+old_files_stay() {
+    [ -f "$work/late.so" ] || return 0
+    mkdir "$work/stays" && echo old >"$work/stays/key-0.pem" || return 1
+    code=0
+    LATE=file LD_PRELOAD=$work/late.so "$program" export "$keyed" --out "$work/stays" --force --password-file "$keyed_password" \
+        --same-password --rounds 1 2>"$work/told" || code=$?
+    [ "$code" -eq 4 ] && [ "$(cat "$work/stays/key-0.pem")" = old ] && says told "df -h '$work'"
+}
+holds old_files_stay_until_new_ones_are_synced old_files_stay
+
+# --- passwords ---
+
+one_input() {
+    fails 2 Usage "both passwords come from one input" export "$keyed" --out "$work/none" --password-file "$work/two-in-one.txt" \
+        --new-password-file "$work/two-in-one.txt" || return 1
+    ln "$work/two-in-one.txt" "$work/hard-link" && ln -s two-in-one.txt "$work/soft-link" || return 1
+    for other in hard-link soft-link ../"$(basename "$work")"/two-in-one.txt; do
+        fails 2 Usage "both passwords come from one input" export "$keyed" --out "$work/none" --password-file "$work/two-in-one.txt" \
+            --new-password-file "$work/$other" || return 1
+    done
+    for other in /dev/stdin /dev/fd/0 /proc/self/fd/0; do
+        printf 'one\ntwo\n' | fails 2 Usage "both passwords come from one input" export "$keyed" --out "$work/none" --password-stdin \
+            --new-password-file "$other" --allow-empty-password || return 1
+        fails 2 Usage "both passwords come from one input" export "$keyed" --out "$work/none" --password-stdin \
+            --new-password-file "$other" <"$work/two-in-one.txt" || return 1
+    done
+    mkfifo "$work/fifo" && fails 2 Usage "both passwords come from one input" export "$keyed" --out "$work/none" --password-file "$work/fifo" \
+        --new-password-file "$work/fifo" || return 1
+    ONE=1 && export ONE && fails 2 Usage "both passwords come from one input" export "$keyed" --out "$work/none" --password-env ONE \
+        --new-password-env ONE || return 1
+    printf 'x\n' | fails 2 Usage "only one of" check - --password-file /dev/stdin
+}
+holds two_passwords_from_one_input one_input
+same_password() {
+    ends 0 export "$keyed" --out "$work/same" --password-file "$keyed_password" --same-password --rounds 1 || return 1
+    have_openssl same_password || return 0
+    opens_to_the_key "$work/same/key-0.pem" "file:$keyed_password" || return 1
+    cat "$keyed_password" | ends 0 export "$keyed" --out "$work/same-pipe" --password-stdin --same-password --rounds 1 &&
+        opens_to_the_key "$work/same-pipe/key-0.pem" "file:$keyed_password"
+}
+holds the_password_is_kept_if_asked same_password
+# A word that may be a password is never printed.
+never_printed() {
+    for words in "check $keyed --password hunter2" "check $keyed --password=hunter2" "check $keyed hunter2" "check $keyed -phunter2" \
+        "export $keyed --out $work/none --new-password hunter2" "check $keyed --password-env hunter2" "check $keyed --pass hunter2" \
+        "export $keyed --out $work/none --password-file $keyed_password --new-password-env hunter2" "check --password hunter2 $keyed" \
+        "check $keyed --password-stdin=hunter2"; do
+        code=0
+        # shellcheck disable=SC2086
+        setsid -w "$home/pkcs12" $words >"$work/said" 2>"$work/told" || code=$?
+        { [ "$code" -eq 2 ] || [ "$code" -eq 3 ]; } && ! grep -q hunter2 "$work/told" "$work/said" || {
+            echo "printed, or ended with $code: $words" >&2
+            return 1
+        }
+    done
+    fails 2 Usage "--forse" export "$keyed" --out "$work/none" --forse
+}
+holds a_word_that_may_be_a_password never_printed
+null_password() {
+    fails 16 MacMismatch "no password at all" check "$work/null-password.p12" --password-file "$work/empty" && says told "press Enter" || return 1
+    fails 16 MacMismatch "password is wrong" check "$work/null-password.p12" --password-file "$work/p" || return 1
+    have_openssl null_password || return 0
+    openssl pkcs12 -in "$work/null-password.p12" -passin pass: -noout 2>"$work/told" || return 1
+    # Where there is certtool, its own store.
+    command -v certtool >/dev/null || return 0
+    certtool --to-p12 --outder --null-password --empty-password --p12-name x --load-certificate "$work/cert.pem" --outfile "$work/certtool.p12" \
+        2>"$work/told" && fails 16 MacMismatch "no password at all" check "$work/certtool.p12" --password-file "$work/empty"
+}
+holds no_password_is_not_the_empty_one null_password
+
+# --- work ---
+
+at_once() {
+    timeout 5 setsid -w "$home/pkcs12" check "$work/hours.p12" >"$work/said" 2>"$work/told" && return 1
+    [ $? -eq 8 ] || return 1
+    timeout 5 setsid -w "$home/pkcs12" check "$work/more-hours.p12" >"$work/said" 2>"$work/told" && return 1
+    says told "pkcs12: WorkLimit (15): " && says told "--limit 4000000000" && says told "33 minutes"
+}
+holds nothing_is_derived_without_a_password at_once
+many_keys() {
+    [ -f "$work/many-keys.p12" ] || {
+        echo "skipped many_keys: python3 has no cryptography"
+        return 0
+    }
+    for each in 1 1000000000; do
+        code=0
+        timeout 10 setsid -w "$home/pkcs12" export "$work/many-keys.p12" --out "$work/none" --password-file "$work/p" --same-password \
+            --rounds 100000000 --seal-limit "$each" >"$work/said" 2>"$work/told" || code=$?
+        [ "$code" -eq 26 ] && says told "200 private keys of 100000000 rounds each take 20000000000 rounds, about 2 hours" || return 1
+    done
+    # The limit is exact: 200 keys of 5 rounds.
+    fails 26 SealLimit "allows 999" export "$work/many-keys.p12" --out "$work/none" --password-file "$work/p" --same-password --rounds 5 \
+        --seal-limit 999 && nothing_at "$work/none" || return 1
+    ends 0 export "$work/many-keys.p12" --out "$work/many-keys" --password-file "$work/p" --same-password --rounds 5 --seal-limit 1000 &&
+        [ "$(find "$work/many-keys" -type f | wc -l)" -eq 200 ]
+}
+holds sealing_is_bounded many_keys
+many_files() {
+    fails 27 TooManyFiles "3000 certificates" export "$work/many.p12" --out "$work/none" --password-file "$work/p" --most-files 2999 &&
+        nothing_at "$work/none" && ends 0 export "$work/many.p12" --out "$work/many" --password-file "$work/p" --most-files 3000
+}
+holds the_number_of_files_is_bounded many_files
+progress() {
+    [ -f "$work/many-keys.p12" ] || return 0
+    "$home/tests/shared/at_terminal.py" -- "$home/pkcs12" export "$work/many-keys.p12" --out "$work/progress" --password-file "$work/p" \
+        --same-password --rounds 20000 >"$work/told" || return 1
+    says told "sealing private key 1 of 200 .." && says told "sealing private key 200 of 200 .."
+}
+holds a_terminal_shows_how_far_it_is progress
+# In processor time, the least of three.
+pairs() {
+    [ -f "$work/pairs.p12" ] || return 0
+    "${PYTHON:-python3}" - "$home/pkcs12" check "$work/pairs.p12" --password-file "$work/p" >"$work/told" <<'END' || return 1
+import resource
+import subprocess
+import sys
+
+least = 60
+for _ in range(3):
+    before = resource.getrusage(resource.RUSAGE_CHILDREN).ru_utime
+    told = subprocess.run(sys.argv[1:], check=True, stdout=subprocess.PIPE, encoding="utf-8").stdout.splitlines()
+    least = min(least, resource.getrusage(resource.RUSAGE_CHILDREN).ru_utime - before)
+assert told[:2] == ["certificates: 30000", "private keys: 30000"]
+assert "key-0: local key id 00752f, belongs to cert-29999" in told
+assert "key-29999: local key id 000000, belongs to cert-0" in told
+print(f"30,000 pairs: {least:.3f} seconds of a processor")
+sys.exit(0 if least < 3 else 1)
+END
+    cat "$work/told"
+}
+holds thirty_thousand_pairs_in_seconds pairs
+
+# --- what is sealed ---
+
+# The rounds, the salt and the initialization vector in a document, as openssl reads them.
+parameters() {
+    openssl pkey -in "$1" -passin "file:$keyed_password" -noout || return 1
+    sed '/-----/d' "$1" | openssl base64 -d | openssl asn1parse -inform DER | awk '/INTEGER/ { print $NF } /OCTET STRING/ && ++n < 3 { print $NF }'
+}
+rounds_and_salts() {
+    have_openssl rounds_and_salts || return 0
+    for each in one two; do
+        ends 0 export "$keyed" --out "$work/salts-$each" --password-file "$keyed_password" --same-password --rounds 54321 || return 1
+        parameters "$work/salts-$each/key-0.pem" >"$work/salts-$each.txt" || return 1
+        # 54,321 is d431 in hexadecimal
+        grep -q ':D431$' "$work/salts-$each.txt" || return 1
+    done
+    # of three lines the one with the rounds is the only common one
+    [ "$(wc -l <"$work/salts-one.txt")" -eq 3 ] || return 1
+    [ "$(sort "$work/salts-one.txt" "$work/salts-two.txt" | uniq -d)" = "$(grep ':D431$' "$work/salts-one.txt")" ] || return 1
+    ends 0 export "$keyed" --out "$work/by-default" --password-file "$keyed_password" --same-password &&
+        parameters "$work/by-default/key-0.pem" | grep -q ':0*927C0$'
+}
+holds rounds_are_those_asked_for_and_salts_differ rounds_and_salts
+# What draws nothing needs no random octets.
+without_random_octets() {
+    cat >"$work/random.c" <<'END'
+#define _GNU_SOURCE
+#include <dlfcn.h>
+#include <errno.h>
+#include <fcntl.h>
+#include <stdarg.h>
+#include <string.h>
+#define OPEN(name) \
+int name(const char *path, int flags, ...) { \
+    va_list more; va_start(more, flags); int mode = va_arg(more, int); va_end(more); \
+    if (strstr(path, "random")) return errno = ENOENT, -1; \
+    int (*next)(const char *, int, ...) = (int (*)(const char *, int, ...))dlsym(RTLD_NEXT, #name); \
+    return next(path, flags, mode); }
+OPEN(open)
+OPEN(open64)
+END
+    in_front random || return 0
+    LD_PRELOAD=$work/random.so "$program" check "$keyed" --password-file "$keyed_password" >"$work/said" 2>"$work/told" || return 1
+    LD_PRELOAD=$work/random.so "$program" export "$plain" --password-file "$plain_password" --out "$work/undrawn" 2>"$work/told" || return 1
+    code=0
+    LD_PRELOAD=$work/random.so "$program" export "$keyed" --password-file "$keyed_password" --same-password --out "$work/drawn" \
+        2>"$work/told" || code=$?
+    [ "$code" -eq 3 ] && says told "random octets /dev/urandom: No such file" && nothing_at "$work/drawn"
+}
+holds only_sealing_needs_random_octets without_random_octets
+
+# --- what is printed ---
+
+no_bidi() {
+    ends 0 check "$work/names.p12" --password-file "$work/p" || return 1
+    LC_ALL=C grep -q '[^ -~]' "$work/said" && return 1
+    says said 'cert-0: friendly name "a\u{202e}b\u{200b}c\u{2066}d\u{feff}e\u{2028}f\u{85}g"' &&
+        says said '.. (8000 characters), local key id abab' && says said '.. (5000 octets)' && [ "$(wc -c <"$work/said")" -lt 2000 ]
+}
+holds nothing_invisible_reaches_the_terminal no_bidi
+odd_paths() {
+    odd=$(printf 'no\033[31mred\nx\342\200\256')
+    fails 3 ReadFault 'no\u{1b}[31mred\u{a}x\u{202e}' check "$work/$odd" --password-file "$work/p" || return 1
+    LC_ALL=C grep -q '[^ -~]' "$work/told" && return 1
+    fails 4 WriteFault 'no\u{1b}[31mred' export "$keyed" --out "$work/none/$odd/x" && ! grep -q mkdir "$work/told" || return 1
+    LC_ALL=C grep -q '[^ -~]' "$work/told" && return 1
+    fails 2 Usage '' check "$plain" "--$odd" && ! LC_ALL=C grep -q '[^ -~]' "$work/told" || return 1
+    fails 4 WriteFault "it's" export "$keyed" --out "$work/none/it's/x" && says told "mkdir -p '$work/none/it'\\''s'"
+}
+holds odd_paths_in_messages odd_paths
+# The command that removes what was left is quoted.
+quoted() {
+    code=0
+    # shellcheck disable=SC2016
+    sh -c 'mkdir "$1.part-$$" && exec "$2" export "$3" --out "$1" --password-file "$4"' sh "$work/my keys" "$program" "$plain" "$plain_password" \
+        2>"$work/told" || code=$?
+    [ "$code" -eq 4 ] && grep -q "^    rm -r '$work/my keys\.part-[0-9]*'$" "$work/told" || return 1
+    mkdir "$work/my" && sh -c "$(grep '^    rm -r ' "$work/told")" && [ -d "$work/my" ] && nothing_at "$work/my keys"
+}
+holds a_command_to_paste_is_quoted quoted
+
+# --- what is wrong with a file ---
+
+malformed() {
+    : >"$work/nothing.p12"
+    fails 10 Malformed "the file is empty" check "$work/nothing.p12" --password-file "$work/p" || return 1
+    fails 10 Malformed "PEM text of the kind CERTIFICATE" check "$work/pem.p12" --password-file "$work/p" || return 1
+    { cat "$plain" && echo; } >"$work/longer.p12"
+    size=$(wc -c <"$plain")
+    fails 10 Malformed "the store has $size octets, and the file 1 more after it" check "$work/longer.p12" --password-file "$plain_password" &&
+        says told "head -c $size FILE >STORE.p12" || return 1
+    head -c 1000 "$plain" >"$work/cut.p12"
+    fails 10 Malformed "the store has $size octets and the file 1000: it is cut short" check "$work/cut.p12" --password-file "$plain_password"
+}
+holds what_is_wrong_with_a_file malformed
+# The command that is printed makes a store that is opened.
+pem_store() {
+    have_openssl pem_store || return 0
+    { echo "-----BEGIN PKCS12-----" && openssl base64 -in "$plain" && echo "-----END PKCS12-----"; } >"$work/FILE"
+    fails 10 Malformed "PEM text of the kind PKCS12" check "$work/FILE" --password-file "$plain_password" || return 1
+    (cd "$work" && sh -c "$(grep '^    sed ' "$work/told")") && cmp "$work/STORE.p12" "$plain"
+}
+holds a_store_in_pem_is_decoded_as_it_says pem_store
+contents() {
+    for each in content-pem:"what is at octet # is no list of contents" content-ber:"an element of indefinite length begins at octet #" \
+        second-content:"content 2, at octet #, is no list of bags"; do
+        store=$work/${each%%:*}.p12
+        # where the octets are that Python wrote
+        at=$("${PYTHON:-python3}" -c 'import sys; octets = open(sys.argv[1], "rb").read()
+print(max(octets.find(each) for each in (b"-----BEGIN", b"\x30\x80\0\0", b"\x04\x07no bags")))' "$store")
+        fails 17 ContentMalformed "$(echo "${each#*:}" | sed "s/#/$at/")" check "$store" --password-file "$work/p" || return 1
+    done
+}
+holds a_damaged_content_has_a_place contents
+no_mac() {
+    have_openssl no_mac || return 0
+    openssl x509 -inform DER -in "$home/examples/openssl-key/cert-0.der" |
+        openssl pkcs12 -export -nokeys -nomac -certpbe NONE -passout pass:p -out "$work/no-mac.p12" || return 1
+    fails 12 MacMissing "no MAC" check "$work/no-mac.p12" --password-file "$work/p" && says told "Only if you know from elsewhere" &&
+        ! grep -q 'openssl pkcs12' "$work/told"
+}
+holds a_store_without_a_mac_is_not_laundered no_mac
+
+exit "$failed"

@@ -1,0 +1,252 @@
+#!/bin/sh
+# shellcheck disable=SC2154,SC2317 # the checks are called by name, and tests/shared/checks.sh sets names
+# What ./pkcs12 install puts in place and what it refuses, that the installed command works without this tree, and that nothing is
+# left of it after uninstall. It takes the built program, and proves nothing.
+# Prints `ok NAME` or `not ok NAME` for each, `skipped NAME` with the reason for what this machine has no means for, and ends with 1
+# where one is not ok.
+set -eu
+
+home=$(cd "$(dirname "$0")/.." && pwd)
+work=$(mktemp -d)
+trap 'rm -rf "$work"' EXIT
+# shellcheck source=tests/shared/checks.sh
+. "$home/tests/shared/checks.sh"
+unset DESTDIR
+
+# Runs a command, and compares its exit number with $1.
+status() {
+    due=$1
+    shift
+    code=0
+    "$@" >"$work/said" 2>"$work/told" || code=$?
+    [ "$code" -eq "$due" ] || {
+        echo "$*: due is $due, found is $code" >&2
+        return 1
+    }
+}
+refused() {
+    status "$@" && grep -q "^pkcs12: [A-Za-z]* ($1): " "$work/told"
+}
+
+# What a person expects of an installed command, below a prefix, and of the library for C where there is a compiler.
+expected='bin/pkcs12 755
+lib/pkcs12/ask.sh 644
+lib/pkcs12/install.sh 644
+lib/pkcs12/made 644
+lib/pkcs12/pkcs12 755
+share/bash-completion/completions/pkcs12 644
+share/man/man1/pkcs12.1 644'
+if [ -f "$home/crates/pkcs12_c/out/libpkcs12_c.a" ] && command -v "${CC:-cc}" >/dev/null; then
+    expected=$(printf '%s\n' "$expected" 'include/pkcs12.h 644' 'lib/libpkcs12.a 644' 'lib/libpkcs12.so 777' 'lib/libpkcs12.so.1 644' \
+        'lib/pkgconfig/pkcs12.pc 644' | sort)
+else
+    # no proof and no build for this test
+    CC=/nowhere/cc
+    export CC
+    echo "skipped the library for C: it is not built, or there is no compiler"
+fi
+files_and_modes() {
+    (cd "$1" && find . '(' -type f -o -type l ')' -exec stat -c '%n %a' {} + | sed 's|^\./||' | sort)
+}
+
+# --- what is installed ---
+
+in_place() {
+    (umask 077 && status 0 "$home/pkcs12" install "$work/prefix") && [ "$(files_and_modes "$work/prefix")" = "$expected" ] &&
+        [ -z "$(find "$work/prefix" -type d ! -perm 755)" ]
+}
+holds install_puts_its_files_in_place in_place
+checks_a_store() {
+    status 0 "$@" check "$plain" --password-file "$plain_password" && grep -qx 'certificates: 2' "$work/said" && [ ! -s "$work/told" ]
+}
+works_from_anywhere() {
+    ln -s "$work/prefix/bin/pkcs12" "$work/link"
+    (cd / && checks_a_store "$work/prefix/bin/pkcs12") && checks_a_store env "PATH=$work/prefix/bin:/usr/bin:/bin" pkcs12 &&
+        checks_a_store "$work/link" && (cd "$work/prefix/bin" && checks_a_store sh pkcs12) &&
+        mkdir -p "$work/moved" && cp -r "$work/prefix" "$work/moved/a prefix" && checks_a_store "$work/moved/a prefix/bin/pkcs12"
+}
+holds the_installed_command_works_from_anywhere works_from_anywhere
+installed_asks() {
+    "$home/tests/shared/at_terminal.py" --answer "$(cat "$plain_password")" -- "$work/prefix/bin/pkcs12" check "$plain" >"$work/told" &&
+        grep -q '^certificates: 2' "$work/told" && grep -q 'echo off while asking, on afterwards$' "$work/told"
+}
+holds the_installed_command_asks installed_asks
+# No path of this tree and no call of rt: what is installed stands alone.
+stands_alone() {
+    ! grep -rlF "$home" "$work/prefix" && ! grep -wE 'rt (all|run|check)' "$work/prefix/bin/pkcs12" "$work/prefix/lib/pkcs12/ask.sh"
+}
+holds the_installed_command_knows_no_tree stands_alone
+installed_pages() {
+    ! grep -q '\./pkcs12' "$work/prefix/share/man/man1/pkcs12.1" || return 1
+    command -v man >/dev/null || {
+        echo "skipped $name: there is no man"
+        return 0
+    }
+    MANPATH=$work/prefix/share/man man pkcs12 2>/dev/null | grep -q 'pkcs12 export STORE'
+}
+holds the_man_page_names_the_installed_command installed_pages
+installed_completion() {
+    command -v bash >/dev/null || {
+        echo "skipped $name: there is no bash"
+        return 0
+    }
+    bash -c '. "$1"; COMP_WORDS=(pkcs12 che); COMP_CWORD=1; _pkcs12; [ "${COMPREPLY[*]}" = check ]' bash \
+        "$work/prefix/share/bash-completion/completions/pkcs12"
+}
+holds the_completion_is_installed installed_completion
+# The least of many runs, since the machine may be busy: the wrapper, and the program by itself.
+adds_ten_milliseconds() {
+    "${PYTHON:-python3}" - "$work/prefix" <<'END'
+import subprocess
+import sys
+import time
+
+prefix = sys.argv[1]
+
+
+def least(command):
+    times = []
+    for _ in range(60):
+        start = time.perf_counter()
+        subprocess.run([command, "--version"], stdin=subprocess.DEVNULL, stdout=subprocess.DEVNULL, check=True)
+        times.append(time.perf_counter() - start)
+    return min(times)
+
+
+wrapper, program = least(f"{prefix}/bin/pkcs12"), least(f"{prefix}/lib/pkcs12/pkcs12")
+print(f"wrapper {1000 * wrapper:.1f} ms, program {1000 * program:.1f} ms")
+sys.exit(0 if wrapper - program < 0.010 else 1)
+END
+}
+holds the_wrapper_adds_less_than_10_milliseconds adds_ten_milliseconds
+
+# By the flags that pkg-config gives, a caller of the tree is compiled and run.
+installed_library() {
+    [ -f "$work/prefix/lib/libpkcs12.a" ] && command -v pkg-config >/dev/null || {
+        echo "skipped $name: no library was installed, or there is no pkg-config"
+        return 0
+    }
+    flags=$(PKG_CONFIG_PATH=$work/prefix/lib/pkgconfig pkg-config --cflags --libs pkcs12)
+    # shellcheck disable=SC2086
+    "${CC:-cc}" -Wall "$home/crates/pkcs12_c/examples/c/transfer.c" -o "$work/transfer" $flags &&
+        LD_LIBRARY_PATH=$work/prefix/lib "$work/transfer" "$plain" "$plain_password" "$work/new" >"$work/said" &&
+        [ "$(grep -c '^-----BEGIN CERTIFICATE-----$' "$work/said")" -eq 2 ]
+}
+holds the_library_is_found_by_pkg_config installed_library
+
+# --- again, and elsewhere ---
+
+again() {
+    "$work/prefix/bin/pkcs12" self-test >"$work/running" &
+    running=$!
+    status 0 "$home/pkcs12" install "$work/prefix" && wait "$running" && [ "$(files_and_modes "$work/prefix")" = "$expected" ]
+}
+holds install_again_over_a_running_command again
+for_packagers() {
+    status 0 env "DESTDIR=$work/stage" "$home/pkcs12" install /usr && [ "$(files_and_modes "$work/stage/usr")" = "$expected" ] &&
+        checks_a_store "$work/stage/usr/bin/pkcs12" && ! grep -rlF "$work" "$work/stage" &&
+        status 0 env "DESTDIR=$work/stage" "$home/pkcs12" uninstall /usr && nothing_at "$work/stage/usr"
+}
+holds DESTDIR_for_packagers for_packagers
+without_a_prefix() {
+    status 0 env "HOME=$work/a home" "$home/pkcs12" install && [ "$(files_and_modes "$work/a home/.local")" = "$expected" ] &&
+        status 0 env "HOME=$work/a home" "$home/pkcs12" uninstall && nothing_at "$work/a home/.local" &&
+        refused 2 env -u HOME "$home/pkcs12" install
+}
+holds the_prefix_is_local_of_the_home without_a_prefix
+odd_prefixes() {
+    mkdir -p "$work/odd"
+    # shellcheck disable=SC2016
+    for prefix in 'with spaces' "$(printf 'two\nlines')" './-dash/' 'a*b' '$HOME'; do
+        (cd "$work/odd" && status 0 "$home/pkcs12" install "$prefix") && checks_a_store "$work/odd/$prefix/bin/pkcs12" &&
+            (cd "$work/odd" && status 0 "$home/pkcs12" uninstall "$prefix") && [ -z "$(ls -A "$work/odd")" ] || return 1
+    done
+}
+holds odd_prefixes odd_prefixes
+wrong_use_is_told() {
+    for words in 'install one two' 'install --help' 'install -x' 'uninstall --prefix=/usr' 'build more'; do
+        # shellcheck disable=SC2086
+        (cd "$work/odd" && refused 2 "$home/pkcs12" $words) || return 1
+    done
+    refused 2 "$home/pkcs12" install '' && refused 2 "$home/pkcs12" uninstall "$work/nowhere" && [ -z "$(ls -A "$work/odd")" ]
+}
+holds wrong_use_is_told wrong_use_is_told
+
+# --- what is refused, and leaves nothing ---
+
+others_file() {
+    mkdir -p "$work/others/bin" && echo 'another command' >"$work/others/bin/pkcs12"
+    refused 1 "$home/pkcs12" install "$work/others" && [ "$(find "$work/others" -type f)" = "$work/others/bin/pkcs12" ] &&
+        grep -qx 'another command' "$work/others/bin/pkcs12" && [ "$(ls "$work/others")" = bin ] &&
+        refused 2 "$home/pkcs12" uninstall "$work/others" && [ -e "$work/others/bin/pkcs12" ]
+}
+holds a_file_of_others_is_kept others_file
+folder_in_the_way() {
+    mkdir -p "$work/way/lib/pkcs12/pkcs12"
+    refused 1 "$home/pkcs12" install "$work/way" && [ "$(ls "$work/way")" = lib ]
+}
+holds a_folder_in_the_way_is_told folder_in_the_way
+not_writable() {
+    mkdir -p "$work/closed" && echo >"$work/file"
+    refused 1 "$home/pkcs12" install "$work/file/prefix" || return 1
+    [ "$(id -u)" -eq 0 ] && command -v setpriv >/dev/null || {
+        echo "skipped $name: only root can run as another user"
+        return 0
+    }
+    # a copy, since the tree may be in a folder that others cannot enter
+    mkdir -p "$work/copy/crates/pkcs12/out" && cp -r "$home/pkcs12" "$home/wrapper" "$home/docs" "$home/crates.txt" "$work/copy" &&
+        cp "$home/crates/pkcs12/out/pkcs12" "$work/copy/crates/pkcs12/out" && chmod 755 "$work"
+    refused 1 setpriv --reuid=65534 --regid=65534 --clear-groups "$work/copy/pkcs12" install "$work/closed" &&
+        [ -z "$(ls -A "$work/closed")" ]
+}
+holds a_prefix_that_is_not_writable not_writable
+full_disk() {
+    mkdir -p "$work/full" && mount -t tmpfs -o size=200k none "$work/full" 2>/dev/null || {
+        echo "skipped $name: no file system can be mounted here"
+        return 0
+    }
+    mkdir "$work/full/prefix"
+    full=0
+    refused 1 "$home/pkcs12" install "$work/full/prefix" && [ -z "$(ls -A "$work/full/prefix")" ] || full=1
+    umount "$work/full"
+    return "$full"
+}
+holds a_full_disk_leaves_nothing full_disk
+# At several times after its start.
+signal_while_installing() {
+    for delay in 0.01 0.03 0.05 0.07 0.09 0.11 0.15; do
+        code=0
+        timeout -s TERM "$delay" "$home/pkcs12" install "$work/cut" >"$work/said" 2>"$work/told" || code=$?
+        if [ "$code" -eq 0 ]; then
+            status 0 "$home/pkcs12" uninstall "$work/cut" || return 1
+        fi
+        sleep 0.05
+        [ -z "$(find "$work/cut" -name '*.new-*' 2>/dev/null)" ] || return 1
+        status 0 "$home/pkcs12" install "$work/cut" && checks_a_store "$work/cut/bin/pkcs12" &&
+            status 0 "$home/pkcs12" uninstall "$work/cut" && nothing_at "$work/cut" || return 1
+    done
+}
+holds a_signal_leaves_nothing_half_done signal_while_installing
+
+# --- uninstall ---
+
+nothing_is_left() {
+    echo mine >"$work/prefix/share/mine"
+    status 0 "$home/pkcs12" uninstall "$work/prefix" && [ "$(find "$work/prefix" -type f)" = "$work/prefix/share/mine" ] &&
+        [ "$(ls "$work/prefix")" = share ]
+}
+holds uninstall_leaves_what_is_of_others nothing_is_left
+made_before() {
+    mkdir -p "$work/before/bin"
+    status 0 "$home/pkcs12" install "$work/before" && status 0 "$home/pkcs12" install "$work/before" &&
+        status 0 "$home/pkcs12" uninstall "$work/before" &&
+        [ "$(find "$work/before" | sort)" = "$(printf '%s\n%s' "$work/before" "$work/before/bin")" ]
+}
+holds uninstall_keeps_folders_that_were_there made_before
+uninstalls_itself() {
+    status 0 "$home/pkcs12" install "$work/itself" && refused 2 "$work/itself/bin/pkcs12" uninstall more &&
+        status 0 env -u HOME "$work/itself/bin/pkcs12" uninstall && nothing_at "$work/itself"
+}
+holds the_installed_command_uninstalls_itself uninstalls_itself
+
+exit "$failed"

@@ -1,0 +1,191 @@
+#!/bin/sh
+# shellcheck disable=SC2154,SC2317 # the checks are called by name, and tests/shared/checks.sh sets names
+# What ./pkcs12 list says of certificates and keys, compared with what OpenSSL says of them, and what export --chain writes. Prints
+# `ok NAME` or `not ok NAME` for each, `skipped NAME` with the reason for what this machine has no means for, and ends with 1 where one
+# is not ok.
+set -eu
+
+home=$(cd "$(dirname "$0")/.." && pwd)
+work=$(mktemp -d)
+trap 'rm -rf "$work"' EXIT
+# shellcheck source=tests/shared/checks.sh
+. "$home/tests/shared/checks.sh"
+
+if ! command -v openssl >/dev/null; then
+    echo "skipped list: there is no openssl"
+    exit "$failed"
+fi
+
+# A field of certificate $2 of the file $1, which has what list said.
+field() {
+    sed -n "/^cert-$2\$/,/^[ck]e/s/^  $3: //p" "$1" | head -n 1
+}
+
+# What list says of certificate $2, in $1, is what OpenSSL says of the file $3.
+says_the_same() {
+    subject=$(openssl x509 -inform DER -in "$3" -noout -subject -nameopt RFC2253 | sed 's/^subject=//')
+    issuer=$(openssl x509 -inform DER -in "$3" -noout -issuer -nameopt RFC2253 | sed 's/^issuer=//')
+    serial=$(openssl x509 -inform DER -in "$3" -noout -serial | sed 's/^serial=//')
+    dates=$(openssl x509 -inform DER -in "$3" -noout -dates -dateopt iso_8601 |
+        sed 's/^not[A-Za-z]*=//; s/Z$/ UTC/' | paste -sd ' ' | sed 's/ UTC / UTC to /')
+    digest=$(openssl dgst -sha256 -r "$3" | cut -d ' ' -f 1)
+    key=$(openssl x509 -inform DER -in "$3" -noout -pubkey | openssl pkey -pubin -outform DER | openssl dgst -sha256 -r | cut -d ' ' -f 1)
+    bits=$(openssl x509 -inform DER -in "$3" -noout -text | sed -n 's/^ *Public-Key: (\([0-9]*\) bit)/\1/p')
+    [ "$(field "$1" "$2" subject)" = "$subject" ] && [ "$(field "$1" "$2" issuer)" = "$issuer" ] &&
+        [ "$(field "$1" "$2" 'serial number')" = "$serial" ] && [ "$(field "$1" "$2" SHA-256)" = "$digest" ] &&
+        [ "$(field "$1" "$2" 'SHA-256 of the public key')" = "$key" ] &&
+        field "$1" "$2" valid | grep -qF -- "$dates" &&
+        { [ -z "$bits" ] || field "$1" "$2" 'public key' | grep -qF -- "$bits bits"; } || {
+        echo "certificate $2 of $3 differs" >"$work/told"
+        sed -n "/^cert-$2\$/,/^[ck]e/p" "$1" >>"$work/told"
+        return 1
+    }
+}
+
+# Every certificate of an example is listed as OpenSSL has it.
+lists() {
+    ends 0 list "$1/store.p12" --password-file "$1/password" || return 1
+    cp "$work/said" "$work/listed"
+    number=0
+    while [ -f "$1/cert-$number.der" ]; do
+        says_the_same "$work/listed" "$number" "$1/cert-$number.der" || return 1
+        number=$((number + 1))
+    done
+    [ "$number" -gt 0 ] && [ "$(grep -c '^cert-' "$work/listed")" -eq "$number" ]
+}
+for example in "$home"/examples/*/store.p12; do
+    holds "certificates_of_$(basename "$(dirname "$example")")" lists "$(dirname "$example")"
+done
+
+# --- names, times and chains that the examples have not ---
+
+# A certificate of the subject $2 by OpenSSL into $work/$1.pem, self-signed or by the further words.
+certificate() {
+    to=$1 subject=$2
+    shift 2
+    openssl req -x509 -newkey ed25519 -nodes -utf8 -keyout "$work/$to.key" -out "$work/$to.pem" -subj "$subject" "$@" 2>"$work/told" &&
+        openssl x509 -in "$work/$to.pem" -outform DER -out "$work/$to.der"
+}
+# A store of the key and the certificates $@ after the name $1.
+store() {
+    to=$1 key=$2
+    shift 2
+    cat "$@" >"$work/all.pem"
+    openssl pkcs12 -export -inkey "$work/$key.key" -in "$work/all.pem" -out "$work/$to.p12" -passout "file:$work/p" 2>"$work/told"
+}
+
+odd_names() {
+    certificate odd '/C=DE/O=Müller \+ Söhne, "GmbH"\\/OU=<a;b>/CN= #ünï \/CN=x+emailAddress=a@b.example/1.2.3.4=zz' &&
+        store odd odd "$work/odd.pem" && ends 0 list "$work/odd.p12" --password-file "$work/p" || return 1
+    cp "$work/said" "$work/listed"
+    says_the_same "$work/listed" 0 "$work/odd.der" && ! LC_ALL=C grep -q '[^ -~]' "$work/listed"
+}
+holds odd_names_as_openssl_prints_them odd_names
+
+past_and_early() {
+    certificate past /CN=past -not_before 20200101000000Z -not_after 20210101000000Z 2>/dev/null || {
+        echo "skipped past_and_early: this openssl takes no dates"
+        return 0
+    }
+    store past past "$work/past.pem" && ends 0 list "$work/past.p12" --password-file "$work/p" &&
+        grep -qF '(past, by this machine' "$work/said"
+}
+holds a_certificate_that_is_past past_and_early
+
+# A root, an intermediate certificate and a server's; the intermediate one cross-signed by another root.
+make_chain() {
+    certificate root /CN=root && certificate other /CN=other &&
+        certificate middle /CN=middle -CA "$work/root.pem" -CAkey "$work/root.key" &&
+        certificate server /CN=server -CA "$work/middle.pem" -CAkey "$work/middle.key" || return 1
+    openssl x509 -in "$work/middle.pem" -CA "$work/other.pem" -CAkey "$work/other.key" -out "$work/cross.pem" 2>"$work/told" ||
+        cp "$work/middle.pem" "$work/cross.pem"
+    store chain server "$work/server.pem" "$work/root.pem" "$work/cross.pem" "$work/middle.pem" "$work/other.pem"
+}
+chain_made=yes
+make_chain || chain_made=
+chain_is_listed() {
+    [ -n "$chain_made" ] && ends 0 list "$work/chain.p12" --password-file "$work/p" || return 1
+    # The first certificate with the issuer's name goes on, and the chain ends in a root.
+    chain=$(sed -n '/^key-0$/,$s/^  chain: //p' "$work/said")
+    case $chain in
+        'cert-0 cert-2 cert-4' | 'cert-0 cert-2 cert-1' | 'cert-0 cert-3 cert-1') ;;
+        *) echo "chain: $chain" >"$work/told"; return 1 ;;
+    esac
+}
+chain_is_written() {
+    [ -n "$chain_made" ] || return 1
+    ends 0 export "$work/chain.p12" --out "$out" --chain --password-file "$work/p" --new-password-file "$work/new" --rounds 1000 || return 1
+    [ ! -s "$work/told" ] && [ "$(grep -c BEGIN "$out/chain-0.pem")" -eq 3 ] &&
+        openssl x509 -in "$out/chain-0.pem" -outform DER | cmp - "$work/server.der" || return 1
+    # OpenSSL verifies the server's certificate by what the file has after it.
+    for trusted in "$work/root.pem" "$work/other.pem"; do
+        ! openssl verify -CAfile "$trusted" -untrusted "$out/chain-0.pem" "$work/server.pem" >"$work/told" 2>&1 || return 0
+    done
+    return 1
+}
+holds a_chain_is_listed chain_is_listed
+holds a_chain_is_written chain_is_written
+
+chain_without_root() {
+    store short server "$work/server.pem" "$work/middle.pem" &&
+        ends 0 export "$work/short.p12" --out "$work/short" --chain --password-file "$work/p" --same-password --rounds 1000 || return 1
+    grep -qF 'chain-0 ends before' "$work/told" && [ "$(grep -c BEGIN "$work/short/chain-0.pem")" -eq 2 ] &&
+        ends 0 list "$work/short.p12" --password-file "$work/p" && grep -qF 'is not in this store' "$work/said"
+}
+holds a_chain_without_its_root_is_told chain_without_root
+
+chain_and_others() {
+    fails 2 Usage --chain export "$work/chain.p12" --out "$work/none" --chain --one-file --password-file "$work/p" &&
+        fails 2 Usage --chain export "$work/chain.p12" --out "$work/none" --chain --format der --password-file "$work/p" &&
+        nothing_at "$work/none"
+}
+holds chain_goes_with_pem_files_alone chain_and_others
+
+# --- JSON ---
+
+json_is_json() {
+    for example in "$home"/examples/*/store.p12; do
+        folder=$(dirname "$example")
+        ends 0 list "$example" --password-file "$folder/password" --json || return 1
+        "${PYTHON:-python3}" - "$work/said" "$folder" <<'END' || return 1
+import hashlib, json, pathlib, sys
+found = json.load(open(sys.argv[1]))
+for number, each in enumerate(found["certificates"]):
+    octets = pathlib.Path(sys.argv[2], f"cert-{number}.der").read_bytes()
+    assert each["name"] == f"cert-{number}" and each["sha256"] == hashlib.sha256(octets).hexdigest(), each
+assert len(found["certificates"]) == len(list(pathlib.Path(sys.argv[2]).glob("cert-*.der")))
+END
+    done
+}
+holds json_has_each_certificate json_is_json
+
+# --- what is refused, and what is no certificate ---
+
+refusals() {
+    fails 16 MacMismatch password list "$keyed" --password-file "$work/new" &&
+        fails 10 Malformed '' list "$home/README.md" --password-file "$work/new" &&
+        fails 8 PasswordMissing password list "$keyed" && fails 3 ReadFault nowhere list "$work/nowhere" --password-file "$work/new"
+}
+holds refusals_are_those_of_check refusals
+
+no_certificate() {
+    PYTHONPATH=$home/tests "${PYTHON:-python3}" - "$work/odd-store.p12" <<'END' || return 1
+import sys
+from make_store import certificate_bag, data, sequence, store_with_mac
+bags = sequence(certificate_bag(b"hello \x1b[31m"), certificate_bag(b""))
+open(sys.argv[1], "wb").write(store_with_mac(sequence(data(bags)), "p", bytes(8), 1))
+END
+    ends 0 list "$work/odd-store.p12" --password-file "$work/p" && [ "$(grep -c 'no X.509 certificate' "$work/said")" -eq 2 ] &&
+        ! LC_ALL=C grep -q '[^ -~]' "$work/said" && ends 0 list "$work/odd-store.p12" --password-file "$work/p" --json &&
+        "${PYTHON:-python3}" -c 'import json, sys; json.load(open(sys.argv[1]))' "$work/said"
+}
+holds what_is_no_certificate_is_told no_certificate
+
+broken_pipe() {
+    code=0
+    "$home/pkcs12" list "$keyed" --password-file "$keyed_password" >/dev/full 2>"$work/told" || code=$?
+    [ "$code" -eq 4 ]
+}
+holds a_full_disk_is_told broken_pipe
+
+exit "$failed"

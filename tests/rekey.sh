@@ -1,0 +1,169 @@
+#!/bin/sh
+# shellcheck disable=SC2154,SC2317 # the checks are called by name, and tests/shared/checks.sh sets names
+# What ./pkcs12 rekey makes of stores of other programs, what it refuses, and that a store is never lost. Prints `ok NAME` or
+# `not ok NAME` for each, `skipped NAME` with the reason for what this machine has no means for, and ends with 1 where one is not ok.
+set -eu
+
+home=$(cd "$(dirname "$0")/.." && pwd)
+work=$(mktemp -d)
+trap 'rm -rf "$work"' EXIT
+# shellcheck source=tests/shared/checks.sh
+. "$home/tests/shared/checks.sh"
+
+# Changes the store $1 under the password of the file $2 to $work/new, as $3.
+rekey() {
+    ends 0 rekey "$1" --out "$3" --password-file "$2" --new-password-file "$work/new"
+}
+
+# What OpenSSL takes out of the store $1 under the password in the file $2: certificates, names and keys, its lines in order, since the
+# attributes of a bag are a set. One that is empty is left out of a changed store.
+taken_out() {
+    openssl pkcs12 -in "$1" -passin "file:$2" -nodes >"$work/taken" 2>"$work/told" &&
+        sed 's/<Empty Attributes>/<No Attributes>/' "$work/taken" | LC_ALL=C sort
+}
+
+changes() {
+    rm -f "$work/changed.p12"
+    rekey "$1/store.p12" "$1/password" "$work/changed.p12" && [ ! -s "$work/told" ] &&
+        [ "$(stat -c %a "$work/changed.p12")" = 600 ] && [ ! -e "$work/changed.p12".part-* ] || return 1
+    # This program opens the same certificates, names and pairs under the new password, and not under the old one.
+    ends 0 check "$1/store.p12" --password-file "$1/password" && cp "$work/said" "$work/before" &&
+        ends 0 check "$work/changed.p12" --password-file "$work/new" && cmp "$work/before" "$work/said" &&
+        fails 16 MacMismatch password check "$work/changed.p12" --password-file "$1/password" || return 1
+    have_openssl changes || return 0
+    if ! openssl pkcs12 -in "$1/store.p12" -passin "file:$1/password" -noout 2>/dev/null; then
+        return 0
+    fi
+    taken_out "$1/store.p12" "$1/password" >"$work/one" && taken_out "$work/changed.p12" "$work/new" >"$work/two" &&
+        cmp "$work/one" "$work/two" || return 1
+    ! openssl pkcs12 -in "$work/changed.p12" -passin "file:$1/password" -noout 2>/dev/null
+}
+for example in "$home"/examples/*/store.p12; do
+    holds "store_of_$(basename "$(dirname "$example")")" changes "$(dirname "$example")"
+done
+
+keytool_opens() {
+    command -v keytool >/dev/null || {
+        echo "skipped keytool: there is no keytool"
+        return 0
+    }
+    example=$home/examples/keytool-default
+    rm -f "$work/java.p12"
+    rekey "$example/store.p12" "$example/password" "$work/java.p12" || return 1
+    keytool -list -keystore "$work/java.p12" -storepass "$(cat "$work/new")" >"$work/one" 2>&1 &&
+        keytool -list -keystore "$example/store.p12" -storepass "$(cat "$example/password")" >"$work/two" 2>&1 || return 1
+    [ "$(grep -c fingerprint "$work/one")" -eq "$(grep -c fingerprint "$work/two")" ] &&
+        [ "$(grep fingerprint "$work/one")" = "$(grep fingerprint "$work/two")" ] &&
+        ! keytool -list -keystore "$work/java.p12" -storepass "$(cat "$example/password")" >/dev/null 2>&1
+}
+holds keytool_opens_the_changed_store keytool_opens
+
+certtool_opens() {
+    command -v certtool >/dev/null || {
+        echo "skipped certtool: there is no certtool"
+        return 0
+    }
+    example=$home/examples/gnutls-default
+    rm -f "$work/gnu.p12"
+    rekey "$example/store.p12" "$example/password" "$work/gnu.p12" &&
+        certtool --p12-info --inder --infile "$work/gnu.p12" --password "$(cat "$work/new")" >"$work/one" 2>"$work/told"
+}
+holds certtool_opens_the_changed_store certtool_opens
+
+differ() {
+    rm -f "$work/a.p12" "$work/b.p12"
+    rekey "$keyed" "$keyed_password" "$work/a.p12" && rekey "$keyed" "$keyed_password" "$work/b.p12" || return 1
+    ! cmp -s "$work/a.p12" "$work/b.p12" && [ "$(stat -c %s "$work/a.p12")" = "$(stat -c %s "$work/b.p12")" ]
+}
+holds two_changes_differ_in_their_salts differ
+
+# --- files ---
+
+is_there() {
+    echo precious >"$work/there"
+    fails 23 OutputExists 'is there already' rekey "$keyed" --out "$work/there" --password-file "$keyed_password" \
+        --new-password-file "$work/new" && [ "$(cat "$work/there")" = precious ] || return 1
+    fails 23 OutputExists 'is there already' rekey "$work/copy.p12" --out "$work/there" --password-file "$work/nowhere" || return 1
+    chmod 640 "$work/there"
+    ends 0 rekey "$keyed" --out "$work/there" --force --password-file "$keyed_password" --new-password-file "$work/new" &&
+        [ "$(stat -c %a "$work/there")" = 640 ] && ends 0 check "$work/there" --password-file "$work/new"
+}
+holds a_file_that_is_there_stays is_there
+
+in_place() {
+    cp "$keyed" "$work/copy.p12" && chmod 640 "$work/copy.p12" || return 1
+    fails 23 OutputExists 'is there already' rekey "$work/copy.p12" --out "$work/copy.p12" --password-file "$keyed_password" \
+        --new-password-file "$work/new" && cmp "$keyed" "$work/copy.p12" || return 1
+    ends 0 rekey "$work/copy.p12" --in-place --password-file "$keyed_password" --new-password-file "$work/new" &&
+        [ "$(stat -c %a "$work/copy.p12")" = 640 ] && ends 0 check "$work/copy.p12" --password-file "$work/new"
+}
+holds a_store_in_its_own_place in_place
+
+refused_in_place() {
+    cp "$keyed" "$work/kept.p12" || return 1
+    fails 16 MacMismatch password rekey "$work/kept.p12" --in-place --password-file "$work/new" --new-password-file "$keyed_password" &&
+        fails 22 PasswordUnusable empty rekey "$work/kept.p12" --in-place --password-file "$keyed_password" --new-password-file "$work/empty" &&
+        fails 9 NewPasswordMissing 'new password' rekey "$work/kept.p12" --in-place --password-file "$keyed_password" &&
+        fails 2 Usage '--in-place' rekey - --in-place --password-file "$keyed_password" --new-password-file "$work/new" &&
+        fails 2 Usage '--out' rekey "$work/kept.p12" --password-file "$keyed_password" --new-password-file "$work/new" &&
+        fails 2 Usage 'one input' rekey "$work/kept.p12" --in-place --password-file "$keyed_password" --new-password-file "$keyed_password" &&
+        cmp "$keyed" "$work/kept.p12"
+}
+holds a_refusal_leaves_the_store_as_it_is refused_in_place
+
+links() {
+    ln -sf "$keyed" "$work/link.p12"
+    fails 23 OutputExists 'no regular file' rekey "$work/link.p12" --in-place --password-file "$keyed_password" --new-password-file "$work/new" &&
+        mkdir -p "$work/folder" &&
+        fails 23 OutputExists 'no regular file' rekey "$keyed" --out "$work/folder" --password-file "$keyed_password" --new-password-file "$work/new" &&
+        fails 4 WriteFault nowhere rekey "$keyed" --out "$work/nowhere/x.p12" --password-file "$keyed_password" --new-password-file "$work/new"
+}
+holds links_and_folders_are_refused links
+
+full_disk() {
+    cp "$keyed" "$work/full.p12" && cp "$keyed_password" "$work/full-password" || return 1
+    # No file may grow: the changed store cannot be written.
+    code=0
+    (
+        ulimit -f 0
+        trap '' XFSZ
+        setsid -w "$home/pkcs12" rekey "$work/full.p12" --in-place --password-file "$work/full-password" \
+            --new-password-file "$work/new" >/dev/null 2>/dev/null
+    ) || code=$?
+    [ "$code" -eq 4 ] && cmp "$keyed" "$work/full.p12" && [ ! -e "$work/full.p12".part-* ]
+}
+holds a_full_disk_leaves_the_store full_disk
+
+odd_names() {
+    odd="$work/-a b'c
+d.p12"
+    (cd "$work" && ends 0 rekey "$keyed" --out "./-a b'c
+d.p12" --password-file "$keyed_password" --new-password-file "$work/new") && ends 0 check "$odd" --password-file "$work/new"
+}
+holds names_with_blanks_and_quotes odd_names
+
+standard_input() {
+    setsid -w "$home/pkcs12" rekey - --out "$work/from-input.p12" --password-file "$keyed_password" --new-password-file "$work/new" \
+        <"$keyed" >"$work/said" 2>"$work/told" && ends 0 check "$work/from-input.p12" --password-file "$work/new"
+}
+holds a_store_on_the_standard_input standard_input
+
+others_stay() {
+    have_openssl others_stay || return 0
+    openssl pkcs12 -export -inkey "$home/examples/openssl-key/key-0.der" -in "$home/examples/openssl-key/cert-0.der" -keypbe NONE \
+        -out "$work/open.p12" -passout "file:$work/p" 2>"$work/told" || {
+        echo "skipped others_stay: openssl makes no such store"
+        return 0
+    }
+    rekey "$work/open.p12" "$work/p" "$work/open-changed.p12" && taken_out "$work/open.p12" "$work/p" >"$work/one" &&
+        taken_out "$work/open-changed.p12" "$work/new" >"$work/two" && cmp "$work/one" "$work/two"
+}
+holds a_key_that_is_not_encrypted_stays_so others_stay
+
+told() {
+    ends 0 rekey "$keyed" --out "$work/told.p12" --verbose --password-file "$keyed_password" --new-password-file "$work/new" &&
+        grep -qF 'private keys: 1' "$work/told" && grep -qF 'kept: ' "$work/told" && grep -qF 'changed: ' "$work/told"
+}
+holds what_is_kept_and_changed_is_told told
+
+exit "$failed"
