@@ -4,7 +4,7 @@
 #     bench/gate_lines.sh
 #
 # Lines count comments, empty lines and what contracts take. Tests are what stands in src/tests.rt, in src/tests/ and in files
-# named ..tests.rt, and the crates named ..callers. Laws are the lines of definitions in files named ..Laws or ..Spellings. A standard input of known answers
+# named ..tests.rt, and the crates named .._tests. Laws are the lines of definitions in files named ..Laws or ..Spellings. A standard input of known answers
 # counts for nothing.
 set -eu
 cd "$(dirname "$0")/.."
@@ -27,9 +27,9 @@ grouped() {
 
 echo "| Crate | Code and contracts | Tests | Definitions (of them laws) | Proofs | Edits that must fail |"
 echo "|---|---|---|---|---|---|"
-sed -n 's/^\([a-z0-9_]*\):.*/\1/p' crates.txt | while read -r crate; do
+sed -n 's/^\([a-z0-9_]*\)\( staticlib\)*:.*/\1/p' crates.txt | while read -r crate; do
     at=crates/$crate
-    tests=$(lines "$at/src" -name '*.rt' '(' -name '*tests.rt' -o -path '*/tests/*' -o -path '*callers/src/*' ')')
+    tests=$(lines "$at/src" -name '*.rt' '(' -name '*tests.rt' -o -path '*/tests/*' -o -path '*_tests/src/*' ')')
     code=$(($(lines "$at/src" -name '*.rt') - tests))
     specs=$(lines "$at/specs" -name '*.antt')
     laws=$(lines "$at/specs" '(' -name '*Laws.antt' -o -name '*Spellings.antt' ')')

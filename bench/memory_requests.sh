@@ -1,10 +1,10 @@
 #!/bin/sh
 # How often opening a store asks for memory: as often for a store of four bags as for one of one bag and the same length,
-# since bags are walked where they lie. Two tests of crates/transfer_callers, four_bags_are_transferred and one_bag_is_transferred,
+# since bags are walked where they lie. Two tests of crates/transfer_tests, four_bags_are_transferred and one_bag_is_transferred,
 # open such stores. Each run refuses one request for memory, the first, the second and so on; the least number at which a
 # test passes is one more than its requests. The script ends with 1 where these numbers differ. It takes some minutes.
 set -eu
-cd "$(dirname "$0")/../crates/transfer_callers"
+cd "$(dirname "$0")/../crates/transfer_tests"
 most=${MOST:-60}
 four=
 one=

@@ -17,19 +17,23 @@ _pkcs12() {
             mapfile -t COMPREPLY < <(compgen -e -- "$word")
             return
             ;;
-        --rounds | --limit) return ;;
+        --rounds | --limit | --seal-limit | --most-files) return ;;
     esac
     if [ "$COMP_CWORD" -eq 1 ]; then
-        mapfile -t COMPREPLY < <(compgen -W "check export self-test --help --version" -- "$word")
+        mapfile -t COMPREPLY < <(compgen -W "check list export rekey self-test --help --version" -- "$word")
     elif [ "${COMP_WORDS[1]}" = self-test ]; then
         mapfile -t COMPREPLY < <(compgen -W "--help" -- "$word")
     elif [ "${word#-}" = "$word" ]; then
         mapfile -t COMPREPLY < <(compgen -f -- "$word")
     elif [ "${COMP_WORDS[1]}" = export ]; then
-        mapfile -t COMPREPLY < <(compgen -W "$common --out --force --format --new-password-file --new-password-env \
-            --new-password-stdin --allow-empty-password --rounds" -- "$word")
+        mapfile -t COMPREPLY < <(compgen -W "$common --out --format --keys-only --certificates-only --one-file --names --chain --force \
+            --skip-others --verbose --new-password-file --new-password-env --new-password-stdin --same-password \
+            --allow-empty-password --rounds --seal-limit --most-files" -- "$word")
+    elif [ "${COMP_WORDS[1]}" = rekey ]; then
+        mapfile -t COMPREPLY < <(compgen -W "$common --out --in-place --force --verbose --new-password-file --new-password-env \
+            --new-password-stdin --allow-empty-password" -- "$word")
     else
-        mapfile -t COMPREPLY < <(compgen -W "$common" -- "$word")
+        mapfile -t COMPREPLY < <(compgen -W "$common --json" -- "$word")
     fi
 }
 complete -o filenames -F _pkcs12 pkcs12 ./pkcs12
