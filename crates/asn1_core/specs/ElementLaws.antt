@@ -239,7 +239,7 @@ raw-exact =
       again = λ b v rest r short. e.again b v rest (r.1.0, r.1.1, r.1.2, refl, r.0 ∙ r.1.3, r.1.3) short;
     }
 
--- the element in front is what stands before the rest
+-- the element in front is what is before the rest
 pub raw_reads : (b : List ℕ) (h : Head) (behind w rest : List ℕ) → header_at b ≡ Ok (h, behind) → slice_at h.size behind ≡ Ok (w, rest) → raw_at b ≡ Ok (take (length b - length rest) b, rest)
 unfolding raw_at
 raw_reads b h behind w rest e f =

@@ -1,4 +1,4 @@
--- What a reader answers, against what reading a list gives.
+-- What a reader returns, against what reading a list gives.
 use Rattle.std.specs.Prelude.{◌≡◌, ◌⊎◌, ℕ, List, ◌++◌, Result, Ok, Err}
 use Rattle.asn1_core.specs.Reading.{Fault, Bad, UnknownOid, Front}
 use Rattle.asn1_core.specs.Der.{IsShort}

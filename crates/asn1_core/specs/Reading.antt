@@ -153,7 +153,7 @@ option_in p false y b = Err Bad
 option_in p true false b = Ok (None, b)
 option_in p true true b = p b >>= λ x. Ok (Some x.0, x.1)
 
--- a part, or none where the text is at its end or a tag octet stands next that is not accepted
+-- a part, or none where the text is at its end or a tag octet comes next that is not accepted
 abbrev pub option_at : {A : Type 0} → (ℕ → Bool) → Front A → Front (Option A)
 option_at can p [] = Ok (None, [])
 option_at can p (t ∷ l) = option_in p (is_tag t) (can t) (t ∷ l)

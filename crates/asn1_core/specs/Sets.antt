@@ -19,7 +19,7 @@ SameSet {A = A} S xs ys = (zs : List A) × IsPermutation xs zs × Each S zs ys
 abbrev pub SpellSet : {A : Type 0} → (List ℕ → A → Type 0) → List ℕ → List A → Type 0
 SpellSet Spell b vs = (ts : List (List ℕ)) × (us : List (List ℕ)) × Each Spell ts vs × IsPermutation ts us × (b ≡ joined us)
 
--- x among texts that ascend; a shorter text stands before a longer one that it begins
+-- x among texts that ascend; a shorter text comes before a longer one that it begins
 unfoldable pub put_in : List ℕ → List (List ℕ) → List (List ℕ)
 put_in x [] = x ∷ []
 put_in x (y ∷ ys) = if is_lt (slice_cmp nat_cmp y x) then y ∷ put_in x ys else x ∷ y ∷ ys

@@ -20,7 +20,7 @@ abbrev pub Chosen : {A : Type 0} → Bool → (List ℕ → A → Type 0) → (L
 Chosen true R S b v = R b v
 Chosen false R S b v = S b v
 
--- nothing stands, for the value x
+-- there is nothing, for the value x
 abbrev pub Ended : {A : Type 0} → A → List ℕ → A → Type 0
 Ended x b v = (b ≡ []) × (v ≡ x)
 

@@ -42,7 +42,7 @@ units_in [] = Ok []
 units_in (a ∷ []) = Err Bad
 units_in (a ∷ b ∷ bs) = units_in bs >>= λ us. Ok ((256 * a + b) ∷ us)
 
--- the text of these units, where no surrogate stands alone
+-- the text of these units, where no surrogate is alone
 abbrev pub units_text : All (List ℕ)
 units_text b = units_in b >>= λ us. where_ok (not (has_unpaired_surrogate us)) (encode_utf8_all (utf16_lossy_chars us))
 

@@ -1,4 +1,4 @@
--- What the calls of a writer answer.
+-- What the calls of a writer return.
 use Rattle.std.specs.Prelude.{◌≡◌, ℕ, ◌-◌, ◌<◌, ◌≤◌, ◌⊎◌, List, ◌++◌, length, Option, Some, None, Result, Ok, Err}
 use Rattle.octet_core.specs.Faults.{Rose}
 use Rattle.asn1_core.specs.declared.error.Error.{Error}

@@ -83,7 +83,7 @@ module _ {W : Type 0} (S : Sink W) (a b : List ℕ) (x y z : W) where
     }
 
 module _ {W : Type 0} (S : Sink W) (a b : List ℕ) (x y z : W) (bad over bad2 over2 : Type 0) (f : bad → bad2) (g : over → over2) where
-  -- one text was written, and then another call answers
+  -- one text was written, and then another call returns
   pub writes_then : Wrote S a x y → (r : Result (Unit {0}) Error) → Writes S bad over b y r z → Writes S bad2 over2 (a ++ b) x r z
   writes_then p (Ok u) q = wrote_then S a b x y z p q
   writes_then p (Err e) q = stopped_then S a b x y z bad over bad2 over2 e f g p q

@@ -15,7 +15,7 @@ use octet_core::Text;
 use std::alloc::Global;
 
 /// The value of one element of this tag, as a reader of its own, of which nothing is read yet. `Malformed` exactly where no
-/// such element stands next; a refusal does not move the reader.
+/// such element comes next; a refusal does not move the reader.
 pub fn read_inner<'a>(r: &mut SliceReader<'a>, tag: Tag) -> Result<SliceReader<'a>, Error>
     ensures stands { Reads (Inside tag.first)
         (λ x. x.rest.now) r.old.rest.now r.new.rest.now result }
@@ -28,7 +28,7 @@ pub fn read_inner<'a>(r: &mut SliceReader<'a>, tag: Tag) -> Result<SliceReader<'
     inner_in_front(r, tag)
 }
 
-/// An INTEGER that is not negative and at most `max`. `Malformed` exactly where none stands next; a refusal does not move
+/// An INTEGER that is not negative and at most `max`. `Malformed` exactly where none comes next; a refusal does not move
 /// the reader.
 pub fn read_uint(r: &mut SliceReader<'_>, max: u64) -> Result<u64, Error>
     ensures stands { Reads (Uint max) (λ n. n) r.old.rest.now r.new.rest.now result }
@@ -39,7 +39,7 @@ pub fn read_uint(r: &mut SliceReader<'_>, max: u64) -> Result<u64, Error>
     uint_in_front(r, max)
 }
 
-/// An OBJECT IDENTIFIER. `Malformed` exactly where none stands next; a refusal does not move the reader.
+/// An OBJECT IDENTIFIER. `Malformed` exactly where none comes next; a refusal does not move the reader.
 pub fn read_identifier(r: &mut SliceReader<'_>) -> Result<ObjectIdentifier, Error>
     ensures stands { Reads Oid (λ o. o) r.old.rest.now r.new.rest.now result }
     ensures exact { ReadsAs oid_at (λ o. o) r.old.rest.now r.new.rest.now result }
@@ -48,7 +48,7 @@ pub fn read_identifier(r: &mut SliceReader<'_>) -> Result<ObjectIdentifier, Erro
     identifier_in_front(r)
 }
 
-/// One whole element, uninterpreted. `Malformed` exactly where none stands next; a refusal does not move the reader.
+/// One whole element, uninterpreted. `Malformed` exactly where none comes next; a refusal does not move the reader.
 pub fn read_raw<'a>(r: &mut SliceReader<'a>) -> Result<&'a [u8], Error>
     ensures stands { Reads Raw (λ x. x.now) r.old.rest.now r.new.rest.now result }
     ensures exact { ReadsAs raw_at (λ x. x.now) r.old.rest.now r.new.rest.now result }
@@ -58,7 +58,7 @@ pub fn read_raw<'a>(r: &mut SliceReader<'a>) -> Result<&'a [u8], Error>
     raw_in_front(r)
 }
 
-/// An IA5String. `Malformed` exactly where none stands next, `Memory` when out of memory; a refusal does not move the
+/// An IA5String. `Malformed` exactly where none comes next, `Memory` when out of memory; a refusal does not move the
 /// reader.
 pub fn read_ia5(alloc: Global, r: &mut SliceReader<'_>) -> Result<Text, Error>
     ensures stands { Reads Ia5 (λ t. t) r.old.rest.now r.new.rest.now result }
@@ -68,8 +68,8 @@ pub fn read_ia5(alloc: Global, r: &mut SliceReader<'_>) -> Result<Text, Error>
     ia5_in_front(alloc, r)
 }
 
-/// A BMPString, whose pairs of surrogates are characters. `Malformed` exactly where none stands next, `Memory` for want of
-/// memory; a refusal does not move the reader.
+/// A BMPString, whose pairs of surrogates are characters. `Malformed` exactly where none comes next, `Memory` when out
+/// of memory; a refusal does not move the reader.
 pub fn read_bmp(alloc: Global, r: &mut SliceReader<'_>) -> Result<Text, Error>
     ensures stands { Reads Bmp (λ t. t) r.old.rest.now r.new.rest.now result }
     ensures exact { ReadsIn bmp_at (λ t. t) r.old.rest.now r.new.rest.now result }

@@ -23,11 +23,11 @@ pub trait Reader<S: AsSlice<u8>>: Copy {
     fn is_finished(&self) -> bool
         ensures { IsTrue result ↔ (left self.now ≡ []) };
 
-    /// The tag that stands next, which stays there. `Malformed` exactly where none does.
+    /// The tag that comes next, which stays there. `Malformed` exactly where none does.
     fn peek_tag(&self) -> Result<Tag, Error>
         ensures { Gives (λ t. t.first) result (peek_at (left self.now)) };
 
-    /// Takes the header that stands next. `Malformed` exactly where none does, or that of an element which is too long.
+    /// Takes the header that comes next. `Malformed` exactly where none does, or that of an element which is too long.
     fn header(&mut self) -> Result<Header, Error>
         ensures read { ReadsAs header_at (λ h. record { tag = h.tag.first; size = h.length.value })
             (left self.old) (left self.new) result }

@@ -2,7 +2,7 @@
 ghost use Rattle.std.specs.Prelude.{◌≡◌, ◌<◌, length, IsTrue};
 ghost use Rattle.asn1_core.specs.Identifier.{is_identifier, subidentifiers, next_state};
 
-/// What the current subidentifier has after one octet more: 0 after its last octet, none where the octet may not stand.
+/// What the current subidentifier has after one octet more: 0 after its last octet, none where the octet may not be.
 fn after(n: u32, octet: u8) -> Option<u32>
     ensures { result ≡ next_state n octet }
 {

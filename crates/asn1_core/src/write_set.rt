@@ -77,7 +77,7 @@ fn write_set<W: Writer>(w: &mut W, texts: &[&[u8]]) -> Result<(), Error>
 }
 
 /// Writes a SET OF (X.690 sections 8.12 and 11.6) of these elements, each a whole text, in ascending order of their octets; a text that
-/// another one begins with stands before it, and equal ones stay. `Overlength` where the set would have more than 2^32 - 1 octets,
+/// another one begins with comes before it, and equal ones stay. `Overlength` where the set would have more than 2^32 - 1 octets,
 /// and nothing is written then; `Memory` when out of memory; else the writer's refusals.
 pub fn write_set_of<W: Writer>(
     alloc: Global,

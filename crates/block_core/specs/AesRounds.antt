@@ -24,7 +24,7 @@ times_circulant k0 k1 k2 k3 column r =
     (bit_xor (product k0 (column r)) (product k1 (column ((r + 1) % 4))))
     (bit_xor (product k2 (column ((r + 2) % 4))) (product k3 (column ((r + 3) % 4))))
 
--- the column of s in which the octet i stands
+-- the column of s that has the octet i
 abbrev pub column_of : List ℕ → ℕ → ℕ → ℕ
 column_of s i r = slice_index s (4 * (i / 4) + r)
 

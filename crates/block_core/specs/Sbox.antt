@@ -7,7 +7,7 @@ unfoldable pub from_bits : ℕ → (ℕ → ℕ) → ℕ
 from_bits zero f = 0
 from_bits (suc n) f = from_bits n f + f n * 2 ^ n
 
--- 5.1.1: the bit i of the affine map's answer
+-- 5.1.1: the bit i of the affine map's result
 unfoldable pub affine_bit : ℕ → ℕ → ℕ
 affine_bit b i =
     (bit b i + bit b ((i + 4) % 8) + bit b ((i + 5) % 8) + bit b ((i + 6) % 8) + bit b ((i + 7) % 8) + bit 0x63 i) % 2
@@ -16,7 +16,7 @@ affine_bit b i =
 unfoldable pub sub_byte : ℕ → ℕ
 sub_byte a = from_bits 8 (affine_bit (inverse a))
 
--- 5.3.2: the bit i of the inverse affine map's answer
+-- 5.3.2: the bit i of the inverse affine map's result
 unfoldable pub inv_affine_bit : ℕ → ℕ → ℕ
 inv_affine_bit b i = (bit b ((i + 2) % 8) + bit b ((i + 5) % 8) + bit b ((i + 7) % 8) + bit 0x05 i) % 2
 

@@ -167,7 +167,7 @@ elements_cmp t u v w x y =
 pub elements_are_ordered : (a b x y : List ℕ) → IsElementText a → IsElementText b → octet_cmp (a ++ x) (b ++ y) ≡ ordering_then (octet_cmp a b) (octet_cmp x y)
 elements_are_ordered a b x y (t, v, e) (u, w, f) = rw (e, f) (elements_cmp t u v w x y)
 
--- nothing stands before an element
+-- nothing comes before an element
 pub nothing_first : (b : List ℕ) → IsElementText b → octet_cmp [] b ≡ Less
 unfolding el
 nothing_first b (u, w, f) = rw f refl

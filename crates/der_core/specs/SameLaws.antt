@@ -48,7 +48,7 @@ option_same {V} seen eq same (Some v) (Some w) = (
   λ h. ap (λ (x : V). Some x) ((same v w).1 h),
 )
 
--- the modes' test, by its four answers
+-- the modes' test, by its four results
 module _ (q : TagMode → TagMode → Bool) (ee : q modes.Explicit modes.Explicit ≡ true) (ei : q modes.Explicit modes.Implicit ≡ false) (ie : q modes.Implicit modes.Explicit ≡ false) (ii : q modes.Implicit modes.Implicit ≡ true) where
   mode_told : (k l : TagMode) → q k l ≡ true → k ≡ l
   mode_told modes.Explicit modes.Explicit e = refl

@@ -1,4 +1,4 @@
--- Types that are read by their tag and value, or whole, with one answer.
+-- Types that are read by their tag and value, or whole, with one result.
 use Rattle.std.specs.Prelude.{◌≡◌, ℕ, Bool, List}
 use Rattle.asn1_core.specs.Reading.{All, Front, made, by_tag}
 

@@ -1,5 +1,5 @@
 -- lemmas only: nothing to believe here
--- Types that are read by their tag and value, or whole, answer the same.
+-- Types that are read by their tag and value, or whole, return the same.
 use Rattle.std.proofs.Common.{◌≡◌, ℕ, Bool, true, false, List, [], ◌∷◌, ◌++◌, length, Result, Ok, Err, refl, sym, ap, subst, ◌∙◌, IsTrue, arith, nat_eq}
 use Rattle.std.proofs.lemmas.Bool.{eqb-true}
 use Rattle.std.proofs.lemmas.List.{append-nil}
@@ -54,7 +54,7 @@ any_headed (Err e) = refl
 pub tied_any : {A : Type 0} (seen : A → ℕ × List ℕ) → Tied seen any_at any_tag seen any_of
 tied_any seen = record { of = same; sees = λ a. refl; is = λ b. any_headed (header_at b) }
 
--- ---- what decode_as answers is what reading the whole element answers
+-- ---- what decode_as returns is what reading the whole element returns
 
 slice_all : (w : List ℕ) → slice_at (length w) w ≡ Ok (w, [])
 slice_all w = ap (slice_at (length w)) (sym (append-nil w)) ∙ slice_again (length w) w [] refl

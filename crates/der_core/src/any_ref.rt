@@ -69,7 +69,7 @@ impl<'a> AnyRef<'a> {
         self.tag == Tag::NULL && self.value.is_empty()
     }
 
-    /// What decoding the whole element answers.
+    /// What decoding the whole element returns.
     pub fn decode_as<T: WholeElement<&'a [u8]>>(&self) -> Result<T, Error>
         ensures { Gives T.Decode.seen result
             (whole T.at (el self.now.tag.first self.now.value.now)) }

@@ -22,7 +22,7 @@ pub trait DecodeValue<S: AsSlice<u8>>: Sized + Drop {
 
     ghost text: { ℕ → List ℕ → Seen → Type 0 };
 
-    /// Takes the value octets after this header. `Malformed` exactly where they stand for no value, `OidUnknown` where an
+    /// Takes the value octets after this header. `Malformed` exactly where they are those of no value, `OidUnknown` where an
     /// identifier is met first that its place does not know; a refusal does not move the reader.
     fn decode_value<R: Reader<S>>(r: &mut R, header: Header) -> Result<Self, Error>
         ensures read { ReadsAs (valued (value header.tag.first) header.length.value) seen
@@ -45,7 +45,7 @@ pub trait Decode<S: AsSlice<u8>>: Sized + Drop {
 
     ghost text: { List ℕ → Seen → Type 0 };
 
-    /// Takes the text that stands next. `Malformed` exactly where none does, `OidUnknown` where an identifier is met first that
+    /// Takes the text that comes next. `Malformed` exactly where none does, `OidUnknown` where an identifier is met first that
     /// its place does not know; a refusal does not move the reader.
     fn decode<R: Reader<S>>(r: &mut R) -> Result<Self, Error>
         ensures read { ReadsAs at seen (R.left r.old) (R.left r.new) result }

@@ -37,7 +37,7 @@ fn check_sequence(octets: &[u8]) -> Result<(), Error>
     }
 }
 
-/// What a failed call on a file answers.
+/// What a failed call on a file returns.
 fn file_error(e: io::Error) -> Error
     ensures { (result ≡ File) ⊎ (result ≡ Memory) }
 {

@@ -13,7 +13,7 @@ use crate::tagged::FixedTag;
 use asn1_core::{Error, Header, Reader};
 use std::convert::AsSlice;
 
-/// A type that is read by its tag and value, or whole, with one answer.
+/// A type that is read by its tag and value, or whole, with one result.
 pub trait WholeElement<S: AsSlice<u8>>: Choice<S> + DecodeValue<S> {
     ghost tied: { Tied Self.Decode.seen Self.at Self.can Self.DecodeValue.seen Self.value };
 }
@@ -43,7 +43,7 @@ impl<'a, T: DecodeValue<&'a [u8]> + FixedTag> WholeElement<&'a [u8]> for T {
     ghost tied = { tied_fixed T.seen T.TAG.first T.value };
 }
 
-/// What reading the whole element answers, of whose header these value octets are all that is left.
+/// What reading the whole element returns, of whose header these value octets are all that is left.
 pub fn read_as<S: AsSlice<u8>, R: Reader<S>, T: WholeElement<S>>(
     r: &mut R,
     header: Header,

@@ -101,7 +101,7 @@ impl<'a> From<&'a ObjectIdentifier> for AnyRef<'a> {
     }
 }
 
-/// What decoding the whole element answers: `Malformed` exactly where it is no identifier.
+/// What decoding the whole element returns: `Malformed` exactly where it is no identifier.
 impl<'a> TryFrom<AnyRef<'a>> for ObjectIdentifier {
     type Error = Error;
 

@@ -11,7 +11,7 @@ use crate::laws::Compared;
 use asn1_core::{Error, Length, Reader, SliceReader, Writer};
 
 /// The text of a value, or nothing for None. None is read, and nothing taken, exactly where the reader is finished or a tag
-/// stands next that no text of the value has.
+/// comes next that no text of the value has.
 impl<'a, T: Choice<&'a [u8]>> Decode<&'a [u8]> for Option<T> {
     ghost Seen = { Option T.Seen };
 

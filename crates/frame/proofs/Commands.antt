@@ -12,7 +12,7 @@ use Rattle.frame.specs.declared.status.Status.TheVariants.{WriteFault}
 abbrev pub jobs_of : {J C : Type 0} → Program C → (J → C) → Option J → Program J
 jobs_of p of asked = asks asked (λ j. p.Makes (of j)) (λ j. p.Refuses (of j)) (λ j. p.Exact (of j)) (λ j. p.limit (of j))
 
--- A job is asked for exactly where the words are those of a command, which is the job's.
+-- A job is asked for exactly where the arguments are those of a command, which is the job's.
 pub record AsksFor {J C : Type 0} (p : Program C) (of : J → C) (asked : Option J) : Type 0 where
   pub found : (j : J) → asked ≡ Some j → p.IsAsked (of j)
   pub none : ((j : J) → asked ≡ Some j → ⊥) → IsNoCommand p

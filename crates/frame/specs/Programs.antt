@@ -1,4 +1,4 @@
--- What a program answers: each answer comes only where its row of the table holds, and where that row holds it comes.
+-- What a program returns: each status comes only where its row of the table holds, and where that row holds it comes.
 use Rattle.std.specs.Prelude.{ℕ, ◌≡◌, ◌≢◌, ◌⊎◌, ◌<◌, ◌≤◌, List, length, Option, Some, IfSome, ⊤}
 use Rattle.std.specs.Io.KnownBytes.{Appends}
 use Rattle.octet_core.specs.Faults.{Rose}
@@ -12,7 +12,7 @@ use Rattle.frame.specs.declared.status.Status.TheVariants.{Done, Usage, ReadFaul
 
 -- What a program promises for each of its commands, which are of a type C.
 pub record Program (C : Type 0) : Type 1 where
-  -- The words are those of this command.
+  -- The arguments are those of this command.
   pub IsAsked : C → Type 0
   -- The work on an input ends so, with this text.
   pub Makes : C → Effects → List ℕ → List ℕ → Type 0
@@ -37,15 +37,15 @@ asks asked makes refuses exact limit = record {
 
 -- ---- The table
 
--- The words are those of some command, and P of it.
+-- The arguments are those of some command, and P of it.
 abbrev pub ForCommand : {C : Type 0} → Program C → (C → Type 0) → Type 0
 ForCommand {C} p P = (c : C) × p.IsAsked c × P c
 
--- The words are those of no command.
+-- The arguments are those of no command.
 abbrev pub IsNoCommand : {C : Type 0} → Program C → Type 0
 IsNoCommand {C} p = (c : C) → p.IsAsked c → ⊥
 
--- The rows of the answers other than Done, for a command.
+-- The rows of the statuses other than Done, for a command.
 abbrev pub CommandRow : {C : Type 0} → Program C → Call → Status → Kind → C → Type 0
 CommandRow p call s done c = ⊥
 CommandRow p call s usage c = ⊥
@@ -55,7 +55,7 @@ CommandRow p call s too_long c = IfSome call.input.told (λ x. input_limit < len
 CommandRow p call s memory c = ⊤
 CommandRow p call s own c = IsRead call.input (λ x. p.Refuses c call.work x s)
 
--- An answer other than Done comes only where this holds.
+-- A status other than Done comes only where this holds.
 abbrev pub CauseRow : {C : Type 0} → Program C → Call → Status → Kind → Type 0
 CauseRow p call s usage = IsNoCommand p
 CauseRow p call s k = ForCommand p (CommandRow p call s k)
@@ -68,13 +68,13 @@ abbrev pub DueRow : {C : Type 0} → Program C → Call → Status → List ℕ 
 DueRow p call s text done = MakesText p call text
 DueRow p call s text k = CauseRow p call s k × (text ≡ error_text s)
 
--- This status is allowed for the words and the call, and this text is due for it.
+-- This status is allowed for the arguments and the call, and this text is due for it.
 abbrev pub Due : {C : Type 0} → Program C → Call → Status → List ℕ → Type 0
 Due p call s text = DueRow p call s text (kind_of s)
 
--- ---- Where each answer has to come
+-- ---- Where each status has to come
 
--- The words are this command's, and the source told that it had these octets; its count of faults neither rose nor
+-- The arguments are this command's, and the source told that it had these octets; its count of faults neither rose nor
 -- is at its last value.
 pub record IsGiven {C : Type 0} (p : Program C) (call : Call) (c : C) (x : List ℕ) : Type 0 where
   pub command : p.IsAsked c
@@ -92,9 +92,9 @@ pub record IsExact (May : Status → Type 0) (x : List ℕ) (s : Status) : Type 
 
 -- ---- A run
 
--- What a run answers, over the call and the output.
+-- What a run returns, over the call and the output.
 pub record Answers {C : Type 0} (p : Program C) (call : Call) (output : Stream) (s : Status) : Type 0 where
-  -- Usage comes exactly where the words are no command's.
+  -- Usage comes exactly where the arguments are no command's.
   pub usage : IsNoCommand p → (s ≡ Usage) ⊎ (s ≡ WriteFault)
   pub usage_only : s ≡ Usage → IsNoCommand p
   -- ReadFault and WriteFault come only where the object's count of faults rose, or is at its last value.

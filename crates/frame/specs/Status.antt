@@ -51,7 +51,7 @@ status_code KeyMalformed = 19
 status_code Rng = 20
 status_code TooLong = 21
 
--- What kind of answer a status is: those of every program, and those that a program gives of its own.
+-- What kind of status it is: those of every program, and those that a program gives of its own.
 pub data Kind : Type 0 where
   done : Kind
   usage : Kind
@@ -79,7 +79,7 @@ RefusedRow R s k = ⊥
 abbrev pub Refused : (Status → Type 0) → Status → Type 0
 Refused R s = RefusedRow R s (kind_of s)
 
--- what a piece of work answers, as a status
+-- what a piece of work returns, as a status
 abbrev pub status_in : {A : Type 0} → Result A Status → Status
 status_in (Ok a) = Done
 status_in (Err s) = s

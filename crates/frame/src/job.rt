@@ -14,7 +14,7 @@ use std::alloc::Global;
 use std::sync::ledger::Ledger;
 use steps::Steps;
 
-/// The command that the words gave, as a value: its work on the whole input, behind which a text is written or a
+/// The command that the arguments gave, as a value: its work on the whole input, after which a text is written or a
 /// refusal named.
 pub trait Job {
     /// What is written where the work is done.

@@ -1,4 +1,4 @@
-//! What every program over stores, keys and certificates is made of: the words of its command line, its input read to
+//! What every program over stores, keys and certificates is made of: the arguments of its command line, its input read to
 //! the end, the text that is due, and the call `answer` that puts them around the work of a `Job`.
 //!
 //! `answer` promises for every program which status comes and when, also where a read or a write failed, what is written

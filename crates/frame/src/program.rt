@@ -82,7 +82,7 @@ fn decide<J: Job + Drop, I: Source, D: Draw, L: Ledger>(
 }
 
 /// Reads the input to its end, does the work of the job on it, and writes what is due: the text of what was made, or
-/// `error: ` and the name of the status. `asked` is the command that the words gave; where they gave none the result is
+/// `error: ` and the name of the status. `asked` is the command that the arguments gave; where they gave none the result is
 /// `Usage`, and nothing is read, drawn or counted.
 ///
 /// `Usage`, `ReadFault`, `InputTooLong` (more than 67,108,864 octets), `WriteFault` and `Memory` are outputs of every
@@ -95,7 +95,7 @@ pub fn answer<J: Job + Drop, I: Source, O: Sink, D: Draw, L: Ledger>(
     output: &mut O,
     steps: &mut Steps<L>,
 ) -> Status
-    // The causes of each answer, where each has to come, what is written and the steps.
+    // The causes of each status, where each has to come, what is written and the steps.
     ensures answers { let read = stream (I.left input.old) (I.left input.new) (I.faults input.old)
         (I.faults input.new) in
         let drawn = stream (D.left draw.old) (D.left draw.new) (D.faults draw.old)

@@ -1,16 +1,16 @@
-//! What a program answers.
+//! What a program returns.
 ghost use Rattle.std.specs.Prelude.{◌≡◌, ◌≤◌, Some, length};
 ghost use Rattle.frame.specs.Status.{status_code, status_name};
 
 use std::fmt;
 
-/// What a program answers. `Done`, `Usage`, `ReadFault`, `WriteFault`, `InputTooLong` and `Memory` are outputs of every
-/// program; the others are refusals of a program's own, and each says which of them it answers, and when.
+/// What a program returns. `Done`, `Usage`, `ReadFault`, `WriteFault`, `InputTooLong` and `Memory` are outputs of every
+/// program; the others are refusals of a program's own, and each says which of them it returns, and when.
 #[derive(Clone, Copy, Debug, PartialEq, Eq)]
 pub enum Status {
     /// The work is done, and its text was written.
     Done,
-    /// The words are those of no command.
+    /// The arguments are those of no command.
     Usage,
     /// A read failed.
     ReadFault,

@@ -1,4 +1,4 @@
-//! The words of a command line, one after the other.
+//! The arguments of a command line, one after the other.
 ghost use Rattle.std.specs.Prelude.{◌≡◌, ◌≤◌, ℕ, List, [], ◌∷◌, IfSome, IfNone, MatchOption, decimal, length, map};
 ghost use Rattle.std.specs.String.{string_bytes};
 
@@ -7,7 +7,7 @@ use octet_core::decimal_u64_of;
 /// The longest password, in octets.
 pub const PASSWORD_LIMIT: usize = 1024;
 
-/// The first word, and those after it; `None` exactly where there is none.
+/// The first argument, and those after it; `None` exactly where there is none.
 pub fn next_word(words: &[String]) -> Option<(&str, &[String])>
     ensures { MatchOption result (map string_bytes words.now ≡ [])
         (λ r. map string_bytes words.now ≡ r.0.now ∷ map string_bytes r.1.now) }
@@ -18,7 +18,7 @@ pub fn next_word(words: &[String]) -> Option<(&str, &[String])>
     }
 }
 
-/// The words after a first word that is this name; `None` exactly where the first word is another, or there is none.
+/// The arguments after a first argument that is this name; `None` exactly where the first argument is another, or there is none.
 pub fn behind_name<'a>(words: &'a [String], name: &str) -> Option<&'a [String]>
     ensures found { IfSome result
         (λ rest. map string_bytes words.now ≡ name.now ∷ map string_bytes rest.now) }
@@ -32,7 +32,7 @@ pub fn behind_name<'a>(words: &'a [String], name: &str) -> Option<&'a [String]>
     Some(rest)
 }
 
-/// A first word that may be a password, of at most 1,024 octets, and the words after it; `None` exactly where there is
+/// A first argument that may be a password, of at most 1,024 octets, and the arguments after it; `None` exactly where there is
 /// none.
 pub fn next_password(words: &[String]) -> Option<(&str, &[String])>
     ensures found { IfSome result (λ r. (map string_bytes words.now
@@ -47,8 +47,8 @@ pub fn next_password(words: &[String]) -> Option<(&str, &[String])>
     Some((word, rest))
 }
 
-/// The number from `least` to `most` that a first word writes in decimal digits, with no sign and no leading zero, and
-/// the words after it; `None` exactly where there is none.
+/// The number from `least` to `most` that a first argument writes in decimal digits, with no sign and no leading zero, and
+/// the arguments after it; `None` exactly where there is none.
 pub fn next_number(words: &[String], least: u64, most: u64) -> Option<(u64, &[String])>
     ensures found { IfSome result (λ r. (map string_bytes words.now
         ≡ decimal r.0 ∷ map string_bytes r.1.now) × (least ≤ r.0) × (r.0 ≤ most)) }

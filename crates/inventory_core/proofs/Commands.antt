@@ -1,4 +1,4 @@
--- What the program answers for the command of its words.
+-- What the program returns for the command of its words.
 use Rattle.std.proofs.Common.{◌≡◌, ℕ, List, sym, ap, ◌∙◌}
 use Rattle.std.specs.Prelude.{decimal}
 use Rattle.std.proofs.lemmas.Fmt.{decimal_injective}

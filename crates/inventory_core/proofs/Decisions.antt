@@ -1,4 +1,4 @@
--- Each answer comes where its cause holds.
+-- Each result comes where its cause holds.
 use Rattle.std.proofs.Common.{◌≡◌, ◌⊎◌, inl, inr, ℕ, List, refl, sym, ap, subst, ◌∙◌, true, false}
 use Rattle.std.specs.Prelude.{Some, None, Result, Ok, Err}
 use Rattle.frame.specs.Calls.{Effects}

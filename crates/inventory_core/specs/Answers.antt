@@ -1,4 +1,4 @@
--- What an inventory is, and what the program answers: the rows of its own in the table of `frame`.
+-- What an inventory is, and what the program returns: the rows of its own in the table of `frame`.
 use Rattle.std.specs.Prelude.{ℕ, ◌+◌, ◌≡◌, ◌≤◌, List, Some, None}
 use Rattle.frame.specs.Calls.{Call, Effects, TakesNoStep}
 use Rattle.frame.specs.Programs as programs
@@ -40,7 +40,7 @@ RefusesInventory c e x InputMalformed = IsNoLine x × TakesNoStep e
 RefusesInventory c e x s = (store : List ℕ) × IsLine x store
     × ((cause : TransferError) × (s ≡ status_of cause) × IsRefused store c.password c.limit e.steps e.steps_after cause)
 
--- Each answer comes where its row holds, out of memory apart.
+-- Each status comes where its row holds, out of memory apart.
 pub record ExactInventory (c : Command) (x : List ℕ) (s : Status) : Type 0 where
   -- an input that is no line
   pub malformed : IsNoLine x → s ≡ InputMalformed
@@ -49,7 +49,7 @@ pub record ExactInventory (c : Command) (x : List ℕ) (s : Status) : Type 0 whe
   -- a store that no cause refuses
   pub completes : (store : List ℕ) → IsLine x store → FirstCause store c.password c.limit None → s ≡ Done
 
--- What the program promises for these words.
+-- What the program promises for these arguments.
 abbrev pub on_lines : List (List ℕ) → Program Command
 on_lines words = record {
   IsAsked = IsCommand words;
@@ -63,6 +63,6 @@ on_lines words = record {
 abbrev pub no_draw : Stream
 no_draw = stream None None 0 0
 
--- What a run answers for these words, over the call and the output.
+-- What a run returns for these arguments, over the call and the output.
 abbrev pub Answers : List (List ℕ) → Call → Stream → Status → Type 0
 Answers words call output s = programs.Answers (on_lines words) call output s

@@ -45,7 +45,7 @@ BitsText = Within 0x03 BitsOf
 abbrev pub KeyText : List ℕ → AnyPublicKey → Type 0
 KeyText = PublicKeyText AnyText BitsText
 
--- what may stand after the key: issuerUniqueID [1], subjectUniqueID [2], extensions [3]
+-- what may come after the key: issuerUniqueID [1], subjectUniqueID [2], extensions [3]
 abbrev pub AfterKey : Certificate → List ℕ → Certificate → Type 0
 AfterKey c = On (Perhaps (Tagged 0x81)) (λ issuer_id. On (Perhaps (Tagged 0x82)) (λ subject_id. On (Perhaps (Tagged 0xa3)) (λ extensions. Ended c)))
 

@@ -12,7 +12,7 @@ use Rattle.inventory_core.specs.Certificate.{Certificate, begins, certificate, h
 abbrev pub tagged_at : ℕ → Front (List ℕ)
 tagged_at tag = passing (begins tag) raw_at
 
--- one such element, or none where another tag stands next
+-- one such element, or none where another tag comes next
 unfoldable pub maybe_at : ℕ → Front (Option (List ℕ))
 maybe_at tag = option_at (λ t. t == tag) (tagged_at tag)
 
@@ -28,7 +28,7 @@ bits_at = within 0x03 bits_of
 unfoldable pub key_at : Front AnyPublicKey
 key_at = public_key_at any_tag any_at (within 0x03 bits_of)
 
--- what may stand after the key
+-- what may come after the key
 unfoldable pub after_key : Certificate → All Certificate
 after_key c = on (maybe_at 0x81) (λ p. on (maybe_at 0x82) (λ q. on (maybe_at 0xa3) (λ e. ended c)))
 
@@ -38,7 +38,7 @@ signed_all = on (maybe_at 0xa0) (λ v. on serial_at (λ n. on any_algorithm_at (
 unfoldable pub signed_at : Front Certificate
 signed_at = within 0x30 signed_all
 
--- what stands after the part that is signed
+-- what comes after the part that is signed
 unfoldable pub after_signed : Certificate → All Certificate
 after_signed c = on any_algorithm_at (λ a. on bits_at (λ s. ended c))
 

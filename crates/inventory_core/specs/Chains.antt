@@ -21,7 +21,7 @@ Subject cs name k = has_subject (slice_get cs k) name ≡ true
 abbrev pub IsLeast : (ℕ → Type 0) → Option ℕ → Type 0
 IsLeast P o = MatchOption o ((k : ℕ) → P k → ⊥) (λ k. P k × ((i : ℕ) → i < k → P i → ⊥))
 
--- What stands above the j-th certificate: itself, where its issuer is its subject; else the least other one whose subject is its issuer;
+-- What is above the j-th certificate: itself, where its issuer is its subject; else the least other one whose subject is its issuer;
 -- else none that is known.
 abbrev pub IsParent : List (Option Certificate) → ℕ → Certificate → Parent → Type 0
 IsParent cs j c parent.Itself = c.issuer ≡ c.subject
@@ -56,7 +56,7 @@ IsChain cs start ks = (rest : List ℕ) × (ks ≡ start ∷ rest) × Continues 
 
 -- ---- What chains are
 
--- No number stands twice.
+-- No number is there twice.
 abbrev pub Once : List ℕ → Type 0
 Once [] = Unit {0}
 Once (k ∷ ks) = (has ks k ≡ false) × Once ks

@@ -25,7 +25,7 @@ abbrev pub IsStart : List (Option (List ℕ)) → Option (List ℕ) → Option �
 IsStart ids None start = start ≡ None
 IsStart ids (Some id) start = IsLeast (λ j. has_key_id (slice_get ids j) id ≡ true) start
 
--- cert J F P: its number, its fingerprint, and the number of what stands above it
+-- cert J F P: its number, its fingerprint, and the number of what is above it
 abbrev pub CertificateLine : List (Option Certificate) → ℕ → Option Certificate → List ℕ → Type 0
 CertificateLine cs j None line = line ≡ codes "cert " ++ decimal j ++ codes " - -\n"
 CertificateLine cs j (Some c) line = (above : Parent) × IsParent cs j c above

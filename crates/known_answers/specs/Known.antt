@@ -1,4 +1,4 @@
--- What each call answers, by the definitions of the crates; which lines are cases, and which cases hold.
+-- What each call returns, by the definitions of the crates; which lines are cases, and which cases hold.
 use Rattle.std.specs.Prelude.{◌≡◌, ℕ, ◌^◌, ◌-◌, List, [], ◌∷◌, ◌++◌, drop, length, get_or, codes, Ok}
 use Rattle.sha1.specs.Sha1.{sha1}
 use Rattle.sha2.specs.Sha256.{sha224, sha256}
@@ -126,7 +126,7 @@ pub record IsFingerprint (t o : List ℕ) : Type 0 where
   pub is : IsPublicKey t key
   pub digest : o ≡ sha256 (public_key_text key)
 
--- o is what the call answers at these words
+-- o is what the call returns at these words
 abbrev pub IsAnswer : Call → List (List ℕ) → List ℕ → Type 0
 IsAnswer Aes128Encrypt words o = o ≡ aes_128 (word words 0) (word words 1)
 IsAnswer Aes128Decrypt words o = o ≡ inv_aes_128 (word words 0) (word words 1)

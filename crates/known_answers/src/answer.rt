@@ -405,7 +405,7 @@ fn identifier(alloc: Global, words: &[Octets]) -> Result<Octets, Refused>
     Ok(Octets::from_slice(alloc, ObjectIdentifier::new(text)?.as_bytes())?)
 }
 
-/// What the call answers at these words.
+/// What the call returns at these words.
 pub fn answer(alloc: Global, call: Call, words: &[Octets]) -> Result<Octets, Refused>
     ensures { IfOk result (λ o. IsAnswer call words.now o) }
 {

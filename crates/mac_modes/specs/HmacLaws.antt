@@ -9,6 +9,6 @@ pub length-hmac : (h : List ℕ → List ℕ) (b u : ℕ) → ((m : List ℕ) �
 unfolding hmac
 length-hmac h b u len k m = len _
 
--- HMAC's answer has a size that a keyed function's may have
+-- HMAC's result has a size that a keyed function's may have
 pub hmac_sizes : (u b : ℕ) → HashSizes u b → PrfSizes u
 hmac_sizes u b sizes = record { some = sizes.some; answer_fits = sizes.answer_fits }

@@ -20,7 +20,7 @@ impl fmt::Display for InvalidLength {
 impl Error for InvalidLength {}
 
 /// A function of a key and of a message that comes in pieces, each of any length. Its result depends on these two
-/// alone: `holds` says which key and message a value has taken, and `prf` what it answers.
+/// alone: `holds` says which key and message a value has taken, and `prf` what it returns.
 pub trait Prf: Sized + Drop {
     /// The length of a result in octets, 1 to 64.
     const OUTPUT: usize;

@@ -100,7 +100,7 @@ impl Octets {
         self.octets.as_slice()
     }
 
-    /// The octets, to be changed where they stand. Their number stays.
+    /// The octets, to be changed where they are. Their number stays.
     pub fn as_mut_slice(&mut self) -> &mut [u8]
         ensures* writes_back { sem 𝓛 (LendsAll self.entry result) }
         ensures value { result.now ≡ self.old }

@@ -122,7 +122,7 @@ cert_bag_spelled = one_text CertBagText cert_bag_canon cert_bag_again cert_bag_t
 
 -- ---- attributes
 
--- what stands before the last of some texts
+-- what is before the last of some texts
 many_split : {A : Type 0} (R : List ℕ → A → Type 0) (b : List ℕ) (more : List A) (v : A) → Many R b (more ++ v ∷ []) → (y : List ℕ) × (t : List ℕ) × Many R y more × R t v × (b ≡ y ++ t)
 many_split R b [] v (p, q, r, m, e) = ([], p, refl, r, e ∙ ap (λ (l : List ℕ). p ++ l) m ∙ append-nil p)
 many_split R b (u ∷ more) v (p, q, r, m, e) =

@@ -101,7 +101,7 @@ module _ {A : Type 0} (canon : A → List ℕ) (can : A → Type 0) (rows : List
       part_refused (Unit {0}) (All can rows) (all ++ t) (joined (map canon rows)) (λ a. tt)
       (omega (arith, ap length more, ap length of, length-append (all ++ canon x) (joined (map canon (drop (i + 1) rows))), length-append all (canon x), length-append all t)) e c
 
--- a row in a list, where what stands before it is not told
+-- a row in a list, where what is before it is not told
 module _ {A : Type 0} (canon : A → List ℕ) (can : A → Type 0) (rows : List A) (i : ℕ) (x : A) (lt : i < length rows) (at : x ≡ get_or rows i x) where
   listed_size : length (canon x) ≤ length (joined (map canon rows))
   listed_size =
@@ -148,7 +148,7 @@ whole_element b s rest is (Err e) g =
     let n = not_ended rest e g in
     (n.0, λ h. n.1 (ap (λ (p : List ℕ × List ℕ). p.1) (ok_is (s, rest) (b, []) (sym is ∙ raw_again b h))))
 
--- ---- an attribute of another kind: its elements stand as they are
+-- ---- an attribute of another kind: its elements are written as they are
 
 pub other_made : (o : OtherAttribute) (vs : List (List ℕ)) → vs ≡ o.values → (r : Result (List ℕ) Error)
     → MakesText (Unit {0} × All IsElement vs) (seq (oid (oid_octets o.oid) ++ set_of (map (λ (t : List ℕ). t) vs))) r

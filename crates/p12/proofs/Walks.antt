@@ -97,7 +97,7 @@ goes R p exact s bytes rest after v w e =
 pub lends : {A : Type 0} (p : Front A) → Shrinks p → (bytes rest after : List ℕ) (v : A) → IsWalk p bytes rest → p rest ≡ Ok (v, after) → read_or_none (many p rest) ≡ v ∷ read_or_none (many p after)
 lends p s bytes rest after v w e = let l = behind p s rest after v _ e w.1 in l.2 ∙ ap (λ (r : Result (List _) Fault). v ∷ read_or_none r) (sym l.1)
 
--- ---- parts, with what stands behind them
+-- ---- parts, with what comes after them
 
 pub deeper : (x y z a b : List ℕ) → Part y x a → Part z y b → Part z x (b ++ a)
 deeper x y z a b (f, e) (g, h) =

@@ -9,7 +9,7 @@ use Rattle.p12.specs.declared.attribute.PKCS12Attribute.TheVariants as owned
 use Rattle.p12.specs.declared.attribute.AttributeView.{AttributeView}
 use Rattle.p12.specs.declared.attribute.AttributeView.TheVariants as view
 
--- the text of a BMPString, as it stands
+-- the text of a BMPString, as it is
 abbrev pub bmp_text : List ℕ → List ℕ
 bmp_text b = read_or_none (whole bmp_at b)
 

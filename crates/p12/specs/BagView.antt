@@ -1,4 +1,4 @@
--- What is seen of a bag that lends its parts: the same in memory of its own, and where its encrypted octets stand.
+-- What is seen of a bag that lends its parts: the same in memory of its own, and where its encrypted octets are.
 use Rattle.std.specs.Prelude.{◌≡◌, ℕ, ◌-◌, ◌≤◌, List, ◌∷◌, length, Ok, true, ⊤}
 use Rattle.asn1_core.specs.Reading.{many}
 use Rattle.asn1_core.specs.Unicode.{is_ascii_text}
@@ -65,7 +65,7 @@ BagLies total b rest (view.Sdsi t) = ⊤
 BagLies total b rest (view.Shrouded a v at) = (after : List ℕ) × Part v.now b after × UpTo (total - length after) v.now at × (length rest ≤ length after)
 BagLies total b rest (view.Other k v) = ⊤
 
--- it stands where it says, in these octets
+-- it is where it says, in these octets
 abbrev pub BagStands : List ℕ → BagView → Type 0
 BagStands b (view.X509 v) = ⊤
 BagStands b (view.Sdsi t) = ⊤

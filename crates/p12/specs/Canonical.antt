@@ -1,7 +1,7 @@
 -- The one text that is written of a value (RFC 7292 section 4; X.690 sections 10 and 11). NULL comes after SHA-1 and
 -- SHA-256, the count of a MAC is always there, and an empty set of attributes is left out. A name or key id stands
 -- alone in its set, and the elements of a set ascend. The parameters of PBES2 are written as `pkcs5` writes them: HMAC
--- over SHA-1 is left out of those of PBKDF2. Octets of another kind stand as they are. A count of 1 is written too, as the
+-- over SHA-1 is left out of those of PBKDF2. Octets of another kind are written as they are. A count of 1 is written too, as the
 -- Rust crate writes it, though DER leaves a default value out (X.690 section 11.5).
 use Rattle.std.specs.Prelude.{ℕ, List, [], ◌∷◌, ◌++◌, map, IsTrue, All}
 use Rattle.asn1_core.specs.Der.{IsElement, el, joined, seq, set, ctx, pctx, oid, octets, null, uint}
@@ -110,7 +110,7 @@ bags_canon gs = seq (joined (map bag_canon gs))
 abbrev pub store_canon : PFX → List ℕ
 store_canon s = seq (uint s.version ++ (content_canon s.auth_safe ++ canon_option mac_canon s.mac_data))
 
--- ---- which values can be written: octets that stand as they are, are one element each; the text of an SDSI
+-- ---- which values can be written: octets that are written as they are, are one element each; the text of an SDSI
 -- certificate is ASCII; the parameters of PBES2 keep to the bounds of their types
 
 abbrev pub WritableAlgorithm : AlgorithmIdentifier → Type 0

@@ -1,4 +1,4 @@
--- What is seen of a content that lends its parts: the same in memory of its own, and where it stands.
+-- What is seen of a content that lends its parts: the same in memory of its own, and where it is.
 use Rattle.std.specs.Prelude.{◌≡◌, ℕ, ◌≤◌, List, ◌∷◌, length, ⊤}
 use Rattle.p12.specs.Place.{Between, UpTo, at_place}
 use Rattle.p12.specs.Walk.{Walk}
@@ -22,13 +22,13 @@ seen_content (view.Plain v at) = content.Data v.now
 seen_content (view.Encrypted a v at) = content.EncryptedData (record { encrypted_content_info = record { content_encryption_algorithm = seen_algorithm a; encrypted_content = v.now } })
 seen_content (view.Other k v) = content.OtherContext (record { content_type = k; content = v.now })
 
--- it stands up to the end
+-- it goes up to the end
 abbrev pub EndsAt : ℕ → ContentView → Type 0
 EndsAt end (view.Plain v at) = UpTo end v.now at
 EndsAt end (view.Encrypted a v at) = UpTo end v.now at
 EndsAt end (view.Other k v) = ⊤
 
--- it stands where it says, in these octets
+-- it is where it says, in these octets
 abbrev pub ContentStands : List ℕ → ContentView → Type 0
 ContentStands b (view.Plain v at) = at_place at b ≡ v.now
 ContentStands b (view.Encrypted a v at) = at_place at b ≡ v.now

@@ -14,6 +14,6 @@ UpTo end v p = (p.len ≡ length v) × (p.start + length v ≡ end)
 abbrev pub Between : ℕ → ℕ → Place → Type 0
 Between from to p = (from ≤ p.start) × (p.start + p.len ≤ to)
 
--- y is in x, and after it stands what is called after
+-- y is in x, and after it comes what is called after
 abbrev pub Part : List ℕ → List ℕ → List ℕ → Type 0
 Part y x after = (front : List ℕ) × (x ≡ front ++ (y ++ after))

@@ -85,7 +85,7 @@ SpellsEncryptedKey b e =
 abbrev pub AreSeveral : {A : Type 0} → (List ℕ → A → Type 0) → List ℕ → Type 0
 AreSeveral {A = A} R b = (vs : List A) × Many R b vs
 
--- in a set of names, or of key ids, others may stand before the one; the elements of another set may be in any order
+-- in a set of names, or of key ids, others may come before the one; the elements of another set may be in any order
 abbrev pub SpellsAttribute : List ℕ → PKCS12Attribute → Type 0
 SpellsAttribute b (FriendlyName t) =
     (others : List ℕ) × AreSeveral Bmp others
@@ -95,7 +95,7 @@ SpellsAttribute b (LocalKeyId v) =
 SpellsAttribute b (Other o) =
     (p : List ℕ) × SpellSet (λ t e. t ≡ e) p o.values × (b ≡ seq (oid (oid_octets o.oid) ++ set p))
 
--- where there are no attributes, an empty set may stand; they may be in any order
+-- where there are no attributes, there may be an empty set; they may be in any order
 abbrev pub SpellsAttributes : List ℕ → List PKCS12Attribute → Type 0
 SpellsAttributes b [] = (b ≡ []) ⊎ (b ≡ set [])
 SpellsAttributes b (v ∷ vs) = (p : List ℕ) × SpellSet SpellsAttribute p (v ∷ vs) × (b ≡ set p)

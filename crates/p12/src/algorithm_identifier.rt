@@ -79,7 +79,7 @@ pub enum AlgorithmView<'a> {
     },
 }
 
-/// That nothing stands, or NULL.
+/// That there is nothing, or NULL.
 fn no_parameters(mut body: SliceReader<'_>) -> Result<(), asn1_core::Error>
     ensures { Gives (λ u. u) result (made (λ o. tt) (perhaps null_at) body.entry.rest.now) }
 {
@@ -181,7 +181,7 @@ fn view_of<'a>(
     }
 }
 
-/// The algorithm that stands next.
+/// The algorithm that comes next.
 #[tactic(auto, unfolding(crate::specs::Reading::algorithm_at))]
 pub(crate) fn algorithm_view<'a>(
     r: &mut SliceReader<'a>,
@@ -240,7 +240,7 @@ impl<'a> AlgorithmView<'a> {
 }
 
 impl AlgorithmIdentifier {
-    /// The algorithm that stands next. `Malformed` exactly where none does; the other refusal is `Memory`. A refusal does
+    /// The algorithm that comes next. `Malformed` exactly where none does; the other refusal is `Memory`. A refusal does
     /// not move the reader.
     pub fn parse(alloc: Global, r: &mut SliceReader<'_>) -> Result<AlgorithmIdentifier, Error>
         ensures stands { Reads AlgorithmText r.old.rest.now r.new.rest.now result }

@@ -46,7 +46,7 @@ pub enum PKCS12Attribute {
     Other(OtherAttribute),
 }
 
-/// An attribute, which lends its parts: a name by the BMPString as it stands, other values by the octets of their set.
+/// An attribute, which lends its parts: a name by the BMPString as it is, other values by the octets of their set.
 #[derive(Clone, Copy, Drop)]
 enum AttributeView<'a> {
     Name(&'a [u8]),
@@ -119,7 +119,7 @@ fn check_units(octets: &[u8]) -> Result<(), asn1_core::Error>
     }
 }
 
-/// A BMPString, as it stands.
+/// A BMPString, as it is.
 #[tactic(auto, unfolding(asn1_core::specs::Unicode::bmp_at))]
 fn bmp_element<'a>(r: &mut SliceReader<'a>) -> Result<&'a [u8], asn1_core::Error>
     ensures exact { ReadsAs bmp_at (λ x. bmp_text x.now) r.old.rest.now r.new.rest.now result }
@@ -134,7 +134,7 @@ fn bmp_element<'a>(r: &mut SliceReader<'a>) -> Result<&'a [u8], asn1_core::Error
     Ok(element)
 }
 
-/// The last of one or more BMPStrings, as it stands.
+/// The last of one or more BMPStrings, as it is.
 fn last_name<'a>(mut body: SliceReader<'a>) -> Result<&'a [u8], asn1_core::Error>
     ensures exact { Gives (λ x. bmp_text x.now) result (latest bmp_at body.entry.rest.now) }
     ensures alone { IfOk result (λ x. bmp_at x.now ≡ Ok (bmp_text x.now, [])) }
@@ -248,7 +248,7 @@ pub(crate) fn attributes_view<'a>(mut body: SliceReader<'a>) -> Result<&'a [u8],
     Ok(all)
 }
 
-/// The elements of a set, in the order in which they stand.
+/// The elements of a set, in their order.
 fn elements(alloc: Global, mut body: SliceReader<'_>) -> Result<Items<Octets>, asn1_core::Error>
     ensures { GivesIn (λ x. x) result (many raw_at body.entry.rest.now) }
 {
@@ -314,7 +314,7 @@ pub(crate) fn attribute_list(
 }
 
 impl PKCS12Attribute {
-    /// The attribute that stands next. `Malformed` exactly where none does; the other refusal is `Memory`. A refusal does
+    /// The attribute that comes next. `Malformed` exactly where none does; the other refusal is `Memory`. A refusal does
     /// not move the reader.
     pub fn parse(alloc: Global, r: &mut SliceReader<'_>) -> Result<PKCS12Attribute, Error>
         ensures stands { Reads AttributeText r.old.rest.now r.new.rest.now result }

@@ -31,7 +31,7 @@ impl<'a> Model for BagsView<'a> {
     ghost invariant = { λ s. IsWalk bag_at s.bytes.now s.rest.now };
 }
 
-/// That bags stand one after the other, to the end.
+/// That bags come one after the other, to the end.
 fn check(mut body: SliceReader<'_>) -> Result<(), asn1_core::Error>
     ensures { Passes result (many bag_at body.entry.rest.now) }
 {

@@ -142,7 +142,7 @@ impl<'a> CertView<'a> {
 }
 
 impl CertBag {
-    /// The certificate that stands next. `Malformed` exactly where none does; the other refusal is `Memory`. A refusal does
+    /// The certificate that comes next. `Malformed` exactly where none does; the other refusal is `Memory`. A refusal does
     /// not move the reader.
     pub fn parse(alloc: Global, r: &mut SliceReader<'_>) -> Result<CertBag, Error>
         ensures stands { Reads CertBagText r.old.rest.now r.new.rest.now result }

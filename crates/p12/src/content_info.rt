@@ -139,7 +139,7 @@ fn view_of<'a>(
     }
 }
 
-/// The content that stands next in what is left of `total` octets, in which its place is counted.
+/// The content that comes next in what is left of `total` octets, in which its place is counted.
 #[tactic(auto, unfolding(crate::specs::Reading::content_at))]
 pub(crate) fn content_view<'a>(
     r: &mut SliceReader<'a>,
@@ -238,7 +238,7 @@ fn all_contents(alloc: Global, bytes: &[u8]) -> Result<Items<ContentInfo>, asn1_
 }
 
 impl ContentInfo {
-    /// The content that stands next. `Malformed` exactly where none does; the other refusal is `Memory`. A refusal does
+    /// The content that comes next. `Malformed` exactly where none does; the other refusal is `Memory`. A refusal does
     /// not move the reader.
     pub fn parse(alloc: Global, r: &mut SliceReader<'_>) -> Result<ContentInfo, Error>
         ensures stands { Reads ContentText r.old.rest.now r.new.rest.now result }
@@ -330,7 +330,7 @@ fn whole_content(alloc: Global, der: &[u8]) -> Result<ContentInfo, asn1_core::Er
 
 impl ContentInfo {
     /// Writes the content. `Malformed` only where its algorithm cannot be written, or a content of another kind is
-    /// not one whole element. `Overlength` only where the text has more than 2^32 - 1 octets, `Memory` for want of
+    /// not one whole element. `Overlength` only where the text has more than 2^32 - 1 octets, `Memory` when out of
     /// memory, else the writer's refusals; a front of the text was written then.
     pub fn write<W: Writer>(&self, alloc: Global, w: &mut W) -> Result<(), asn1_core::Error>
         ensures writes { WritesText W.sink (WritableContent self.now)

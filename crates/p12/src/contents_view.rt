@@ -31,7 +31,7 @@ impl<'a> Model for ContentsView<'a> {
     ghost invariant = { λ s. IsWalk content_at s.bytes.now s.rest.now };
 }
 
-/// That contents stand one after the other, to the end.
+/// That contents come one after the other, to the end.
 fn check(mut body: SliceReader<'_>) -> Result<(), asn1_core::Error>
     ensures { Passes result (many content_at body.entry.rest.now) }
 {

@@ -65,7 +65,7 @@ impl<'a> DigestView<'a> {
 }
 
 impl DigestInfo {
-    /// The digest that stands next. `Malformed` exactly where none does; the other refusal is `Memory`. A refusal does
+    /// The digest that comes next. `Malformed` exactly where none does; the other refusal is `Memory`. A refusal does
     /// not move the reader.
     pub fn parse(alloc: Global, r: &mut SliceReader<'_>) -> Result<DigestInfo, Error>
         ensures stands { Reads DigestText r.old.rest.now r.new.rest.now result }

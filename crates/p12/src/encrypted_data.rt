@@ -110,7 +110,7 @@ impl<'a> EncryptedView<'a> {
 }
 
 impl EncryptedContentInfo {
-    /// The encrypted octets that stand next. `Malformed` exactly where none do; the other refusal is `Memory`. A refusal does
+    /// The encrypted octets that come next. `Malformed` exactly where none do; the other refusal is `Memory`. A refusal does
     /// not move the reader.
     pub fn parse(alloc: Global, r: &mut SliceReader<'_>) -> Result<EncryptedContentInfo, Error>
         ensures stands { Reads EncryptedContentText r.old.rest.now r.new.rest.now result }
@@ -128,7 +128,7 @@ impl EncryptedContentInfo {
 }
 
 impl EncryptedData {
-    /// The encrypted content that stands next. `Malformed` exactly where none does; the other refusal is `Memory`. A refusal does
+    /// The encrypted content that comes next. `Malformed` exactly where none does; the other refusal is `Memory`. A refusal does
     /// not move the reader.
     pub fn parse(alloc: Global, r: &mut SliceReader<'_>) -> Result<EncryptedData, Error>
         ensures stands { Reads EncryptedDataText r.old.rest.now r.new.rest.now result }

@@ -48,7 +48,7 @@ pub(crate) fn encrypted_key_view<'a>(
 }
 
 impl EncryptedPrivateKeyInfo {
-    /// The encrypted key that stands next. `Malformed` exactly where none does; the other refusal is `Memory`. A refusal does
+    /// The encrypted key that comes next. `Malformed` exactly where none does; the other refusal is `Memory`. A refusal does
     /// not move the reader.
     pub fn parse(alloc: Global, r: &mut SliceReader<'_>) -> Result<EncryptedPrivateKeyInfo, Error>
         ensures stands { Reads EncryptedKeyText r.old.rest.now r.new.rest.now result }

@@ -102,7 +102,7 @@ impl<'a> MacView<'a> {
 }
 
 impl MacData {
-    /// The MAC that stands next. `Malformed` exactly where none does; the other refusal is `Memory`. A refusal does
+    /// The MAC that comes next. `Malformed` exactly where none does; the other refusal is `Memory`. A refusal does
     /// not move the reader.
     pub fn parse(alloc: Global, r: &mut SliceReader<'_>) -> Result<MacData, Error>
         ensures stands { Reads MacText r.old.rest.now r.new.rest.now result }

@@ -6,7 +6,7 @@ use asn1_core::{ObjectIdentifier, Octets};
 use std::alloc::Global;
 
 /// An algorithm that has no variant of its own in `AlgorithmIdentifier`, or PBES2 with parameters that are not read: its
-/// identifier, and its parameters as they stand.
+/// identifier, and its parameters as they are.
 #[derive(Debug, PartialEq, Eq, Drop)]
 pub struct OtherAlgorithmIdentifier {
     pub algorithm_type: ObjectIdentifier,

@@ -60,7 +60,7 @@ impl<'a> ParamsView<'a> {
 }
 
 impl Pkcs12PbeParams {
-    /// The parameters that stand next. `Malformed` exactly where none do; the other refusal is `Memory`. A refusal does
+    /// The parameters that come next. `Malformed` exactly where none do; the other refusal is `Memory`. A refusal does
     /// not move the reader.
     pub fn parse(alloc: Global, r: &mut SliceReader<'_>) -> Result<Pkcs12PbeParams, Error>
         ensures stands { Reads ParamsText r.old.rest.now r.new.rest.now result }
@@ -86,7 +86,7 @@ impl Pkcs12PbeParams {
 }
 
 impl Pkcs12PbeParams {
-    /// Writes the parameters. `Overlength` only where the text has more than 2^32 - 1 octets, `Memory` for want of
+    /// Writes the parameters. `Overlength` only where the text has more than 2^32 - 1 octets, `Memory` when out of
     /// memory, else the writer's refusals; a front of the text was written then.
     pub fn write<W: Writer>(&self, alloc: Global, w: &mut W) -> Result<(), asn1_core::Error>
         ensures writes { WritesText W.sink (Unit {0}) (params_canon self.now) w.old result w.new }

@@ -71,7 +71,7 @@ pub enum BagView<'a> {
     },
 }
 
-/// A bag, and the octets in which its attributes stand.
+/// A bag, and the octets in which its attributes are.
 #[derive(Clone, Copy, Drop)]
 pub(crate) struct BagParts<'a> {
     pub(crate) bag: BagView<'a>,
@@ -142,7 +142,7 @@ fn kind_view<'a>(
     }
 }
 
-/// The bag that stands next in what is left of `total` octets, in which its place is counted.
+/// The bag that comes next in what is left of `total` octets, in which its place is counted.
 #[tactic(auto, unfolding(crate::specs::Reading::bag_at))]
 pub(crate) fn bag_view<'a>(
     r: &mut SliceReader<'a>,
@@ -195,7 +195,7 @@ impl<'a> BagView<'a> {
     }
 }
 
-/// The value of a bag that stands next: an element whose tag its kind has.
+/// The value of a bag that comes next: an element whose tag its kind has.
 fn kind_in_front(
     alloc: Global,
     r: &mut SliceReader<'_>,
@@ -255,7 +255,7 @@ fn all_bags(alloc: Global, bytes: &[u8]) -> Result<Items<SafeBag>, asn1_core::Er
 }
 
 impl SafeBag {
-    /// The bag that stands next. `Malformed` exactly where none does; the other refusal is `Memory`. A refusal does
+    /// The bag that comes next. `Malformed` exactly where none does; the other refusal is `Memory`. A refusal does
     /// not move the reader.
     pub fn parse(alloc: Global, r: &mut SliceReader<'_>) -> Result<SafeBag, Error>
         ensures stands { Reads BagText r.old.rest.now r.new.rest.now result }
@@ -331,7 +331,7 @@ impl SafeBag {
 }
 
 impl SafeBagKind {
-    /// The value of a bag with this identifier, as it stands inside the bag's `[0]`. `Malformed` exactly where none does; the
+    /// The value of a bag with this identifier, as it is inside the bag's `[0]`. `Malformed` exactly where none does; the
     /// other refusal is `Memory`. A refusal does not move the reader.
     pub fn parse(
         alloc: Global,
@@ -423,7 +423,7 @@ impl SafeBag {
 }
 
 impl SafeBagKind {
-    /// Writes the value that stands inside of a bag. `Malformed` only where its algorithm or its SDSI text cannot be
+    /// Writes the value inside of a bag. `Malformed` only where its algorithm or its SDSI text cannot be
     /// written, or the value of another kind is not one whole element. `Overlength` only where the text has more than
     /// 2^32 - 1 octets, `Memory` when out of memory, else the writer's refusals; a front of the text was written then.
     pub fn write<W: Writer>(&self, alloc: Global, w: &mut W) -> Result<(), asn1_core::Error>

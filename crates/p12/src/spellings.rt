@@ -22,7 +22,7 @@ pub fn values_have_one_text()
     ensures certificate { HasOneText CertBagText cert_bag_canon }
 {}
 
-/// The texts of an algorithm: SHA-1 and SHA-256 may stand without NULL, and the parameters of PBES2 in any spelling.
+/// The texts of an algorithm: SHA-1 and SHA-256 may be without NULL, and the parameters of PBES2 in any spelling.
 pub fn algorithms_are_spelled()
     ensures { IsSpelled AlgorithmText algorithm_canon SpellsAlgorithm }
 {}
@@ -55,7 +55,7 @@ pub fn contents_are_spelled()
     ensures list { IsSpelled (Within 0x30 (Many ContentText)) contents_canon SpellsContents }
 {}
 
-/// The texts of an attribute: further names or key ids may stand before the one, and the elements of another set in any
+/// The texts of an attribute: further names or key ids may come before the one, and the elements of another set in any
 /// order.
 pub fn attributes_are_spelled()
     ensures { IsSpelledAsSame AttributeText SameAttribute attribute_canon SpellsAttribute }

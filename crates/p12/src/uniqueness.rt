@@ -57,7 +57,7 @@ pub fn one_text_has_one_value()
 {}
 
 /// Two ciphertexts that open to the same text under Triple DES and a password in UTF-16 are the same: so what `encrypt_pbe`
-/// answers is the only ciphertext of its text. Of PBES2 `pkcs5::opening_laws` says the same.
+/// returns is the only ciphertext of its text. Of PBES2 `pkcs5::opening_laws` says the same.
 pub fn one_ciphertext_opens_to_a_text()
     ensures { (p : Pkcs12PbeParams) (q c d m : List ℕ) → All (λ octet. octet < 256) c
         → All (λ octet. octet < 256) d

@@ -129,7 +129,7 @@ fn check_element(octets: &[u8]) -> Result<(), Error>
     }
 }
 
-/// Octets that stand as they are: one whole element.
+/// Octets that are written as they are: one whole element.
 impl Row for Octets {
     ghost canon = { λ o. o };
 
@@ -202,7 +202,7 @@ impl<'p, A: Row, B: Row> Row for Both<'p, A, B> {
     }
 }
 
-/// An element of this tag, in which a row stands.
+/// An element of this tag that holds a row.
 #[derive(Drop)]
 pub(crate) struct Within<'p, A> {
     pub(crate) tag: Tag,

@@ -13,7 +13,7 @@ use std::{fs, io};
 /// The most octets of a file.
 const MOST_OCTETS: u64 = 67_108_864;
 
-/// The folder in which this path is.
+/// The folder that this path is in is.
 fn parent(path: &str) -> &str {
     match path.rsplit_once('/') {
         Some(("", _)) => "/",

@@ -66,7 +66,7 @@ plain_exact T a x b cs told after before now n m r none same i made refused =
       | inr memory ↦ inr memory
     ]
 
--- Where they are those of the words.
+-- Where they are those of the arguments.
 pub drawn_exact : {A : Type 0} (T : A → List ℕ) (a : Asked) (x digits octets : List ℕ) (state : DrawnState) (b : Book) (cs : List Command) (after : Option (List ℕ)) (now : ℕ) (e : Effects) (r : Result A Status)
     → a.digits ≡ Some digits → IsHex digits octets → state ≡ record { left = octets; faults = 0 } → b.rounds ≡ a.rounds → IsInput x b.entries cs
     → IfOk r (λ t. MakesLines b cs (Some state.left) after e.steps e.steps_after (T t)) → IfErr r (StopsAs (RunsShort b cs (Some state.left) after state.faults now))

@@ -107,7 +107,7 @@ pub text_more : (text : List ℕ) (es : Entries) (rest name : List ℕ) (e : Ent
 text_more text es rest name e more is next =
     is ∙ ap (λ t. text_of es ++ t) next ∙ sym (append_assoc (text_of es) (line (name, e)) more) ∙ ap (λ t. t ++ more) (flat_map_more line [] es (name, e))
 
--- ---- What stands after a file
+-- ---- What is after a file
 
 feed_name : (b : ℕ) → IsNameOctet b → b ≡ 10 → ⊥
 feed_name b h e = omega (arith, h, e)

@@ -1,4 +1,4 @@
--- The words of a command line.
+-- The arguments of a command line.
 use Rattle.std.proofs.Common.{◌≡◌, ◌≢◌, ℕ, ◌≤◌, Bool, true, false, List, ◌∷◌, ◌++◌, length, refl, sym, ◌∙◌, subst, rules, All, take}
 use Rattle.std.proofs.lemmas.List.{take_all}
 use lib.Pointwise.{bytes_decides}

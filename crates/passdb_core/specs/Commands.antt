@@ -36,7 +36,7 @@ pub record Outcome : Type 0 where
 abbrev pub outcome : Reply → Change → ℕ → Outcome
 outcome reply becomes steps = record { reply = reply; change = becomes; steps = steps }
 
--- the answer to a password that was tested in n steps, where the entry's rounds are few or not
+-- the result of a password that was tested in n steps, where the entry's rounds are few or not
 abbrev pub checked : ℕ → ℕ → Bool → Bool → List ℕ → Outcome
 checked r n false few w = outcome Wrong stays n
 checked r n true true w = outcome Renewed (made w) (n + r)

@@ -1,4 +1,4 @@
--- What the program answers: the rows of its own in the table of `frame`.
+-- What the program returns: the rows of its own in the table of `frame`.
 use Rattle.std.specs.Prelude.{ℕ, ◌≡◌, ◌⊎◌, ◌*◌, ◌≤◌, List, [], ◌∷◌, ◌++◌, Option, Some, None, IsSome, MatchOption, codes, decimal}
 use Rattle.std.specs.List.{flat_map}
 use Rattle.std.specs.Option.{ForSome}
@@ -17,9 +17,9 @@ use Rattle.passdb_core.specs.Entries.{AreEntries, Book, Entries, text_of}
 use Rattle.passdb_core.specs.Entry.{rounds_limit}
 use Rattle.passdb_core.specs.Reading.{IsInput, IsNoInput}
 
--- ---- The words
+-- ---- The arguments
 
--- What the words ask for: the rounds of fresh entries, and the digits of the octets that are drawn, where they are told.
+-- What the arguments ask for: the rounds of fresh entries, and the digits of the octets that are drawn, where they are told.
 pub record Asked : Type 0 where
   pub rounds : ℕ
   pub digits : Option (List ℕ)
@@ -29,14 +29,14 @@ abbrev pub drawn_word : Option (List ℕ) → List ℕ
 drawn_word None = codes "-"
 drawn_word (Some digits) = digits
 
--- The words are those of this command.
+-- The arguments are those of this command.
 pub record IsAsked (words : List (List ℕ)) (a : Asked) : Type 0 where
   pub spelled : words ≡ codes "passdb" ∷ decimal a.rounds ∷ drawn_word a.digits ∷ []
   pub some_rounds : 1000 ≤ a.rounds
   pub few_rounds : a.rounds ≤ rounds_limit
   pub drawn : ForSome a.digits IsDrawn
 
--- The words are those of no command.
+-- The arguments are those of no command.
 abbrev pub IsNotAsked : List (List ℕ) → Type 0
 IsNotAsked words = (a : Asked) → IsAsked words a → ⊥
 
@@ -64,13 +64,13 @@ StopsAs P s = ((s ≡ Rng) × P) ⊎ (s ≡ Memory)
 
 -- ---- The work
 
--- P of what was done to the draw and the steps. Where the words tell octets these were drawn in place of the draw's.
+-- P of what was done to the draw and the steps. Where the arguments tell octets these were drawn in place of the draw's.
 abbrev pub ByDrawn : Option (List ℕ) → Effects → (Effects → Type 0) → Type 0
 ByDrawn None e P = P e
 ByDrawn (Some digits) e P = (octets : List ℕ) × IsHex digits octets
     × ((rest : Option (List ℕ)) × (before : ℕ) × (now : ℕ) × P (record e { draw = stream (Some octets) rest before now }))
 
--- the file that the input has, under the rounds of the words
+-- the file that the input has, under the rounds of the arguments
 abbrev pub book : Asked → Entries → Book
 book a es = record { entries = es; rounds = a.rounds }
 
@@ -113,7 +113,7 @@ pub record ExactInput (a : Asked) (e : Effects) (x : List ℕ) (s : Status) : Ty
 abbrev pub steps_limit : ℕ
 steps_limit = 3 * rounds_limit * input_limit
 
--- The draw is not touched: the words tell the octets that are drawn, or the input is not of the form.
+-- The draw is not touched: the arguments tell the octets that are drawn, or the input is not of the form.
 abbrev pub DrawsOwn : Asked → List ℕ → Type 0
 DrawsOwn a x = IsSome a.digits ⊎ IsNoInput x
 

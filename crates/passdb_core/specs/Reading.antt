@@ -6,7 +6,7 @@ use Rattle.passdb_core.specs.Commands.{Command, IsCommand, command_text}
 use Rattle.passdb_core.specs.Entry.{Entry, IsEntry, entry_text}
 use Rattle.passdb_core.specs.Entries.{Above, AreEntries, Entries, line, text_of}
 
--- The octet stands between these parts for the first time.
+-- The octet is between these parts for the first time.
 pub record IsCut (octet : ℕ) (text front back : List ℕ) : Type 0 where
   pub parts : text ≡ front ++ octet ∷ back
   pub first : All (λ b. b ≢ octet) front
@@ -17,22 +17,22 @@ pub record IsPair (text name : List ℕ) (e : Entry) : Type 0 where
   pub entry : IsEntry e
   pub spelled : text ≡ name ++ 58 ∷ entry_text e
 
--- No line stands here: the text has ended, or a line feed (10) comes.
+-- No line is here: the text has ended, or a line feed (10) comes.
 abbrev pub Stops : List ℕ → Type 0
 Stops [] = Unit {0}
 Stops (b ∷ t) = b ≡ 10
 
--- In front of the text stands the file of these entries, and no line after it.
+-- At the front of the text is the file of these entries, and no line after it.
 pub record IsFront (text : List ℕ) (es : Entries) (rest : List ℕ) : Type 0 where
   pub entries : AreEntries es
   pub spelled : text ≡ text_of es ++ rest
   pub stops : Stops rest
 
--- In front of the text stands no file that ends there.
+-- At the front of the text is no file that ends there.
 abbrev pub HasNoFront : List ℕ → Type 0
 HasNoFront text = (es : Entries) (rest : List ℕ) → IsFront text es rest → ⊥
 
--- In front of the text stands the line of an entry whose name is above those of es.
+-- At the front of the text is the line of an entry whose name is above those of es.
 pub record IsNext (text : List ℕ) (es : Entries) (name : List ℕ) (e : Entry) (rest : List ℕ) : Type 0 where
   pub named : IsIdent name
   pub entry : IsEntry e

@@ -1,4 +1,4 @@
--- The words that the program has read.
+-- The arguments that the program has read.
 
 use Rattle.passdb_core.specs.declared.program.command.Words.{Words}
 use Rattle.passdb_core.specs.Program.{Asked}

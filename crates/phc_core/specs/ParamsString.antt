@@ -8,7 +8,7 @@ use Rattle.phc_core.specs.Value.{IsValue}
 abbrev pub pieces : List ℕ → List (List ℕ)
 pieces t = slice_split (λ b. b == 44) t
 
--- what stands before the first `=` of a piece
+-- what is before the first `=` of a piece
 abbrev pub name_in : List ℕ → List ℕ
 name_in p = before_first (λ b. b == 61) p
 

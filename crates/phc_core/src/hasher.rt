@@ -8,7 +8,7 @@ use crate::error::Error;
 
 /// Makes password hashes of type `H` under its own parameters.
 pub trait PasswordHasher<H> {
-    // what the call answers at a password and a salt
+    // what the call returns at a password and a salt
     ghost hashes: { Self → List ℕ → List ℕ → Result H Error → Type 0 };
 
     /// The hash of a password under a salt. The refusals are those of the implementation.
@@ -20,7 +20,7 @@ pub trait PasswordHasher<H> {
 pub trait CustomizedPasswordHasher<H> {
     type Params;
 
-    // what the call answers at a password, a salt, an identifier, a version and parameters
+    // what the call returns at a password, a salt, an identifier, a version and parameters
     ghost customizes: { Self → List ℕ → List ℕ → Option (List ℕ) → Option ℕ → Self.Params
         → Result H Error → Type 0 };
 
@@ -41,7 +41,7 @@ pub trait CustomizedPasswordHasher<H> {
 
 /// Tests passwords against password hashes of type `H`.
 pub trait PasswordVerifier<H> {
-    // what the call answers at a password and a hash
+    // what the call returns at a password and a hash
     ghost verifies: { Self → List ℕ → H → Result (Unit {0}) Error → Type 0 };
 
     /// Whether this is the password of the hash: Ok where it is. The refusals are those of the implementation.

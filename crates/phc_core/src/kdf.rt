@@ -6,7 +6,7 @@ use crate::error::Error;
 
 /// A key derivation function.
 pub trait Kdf {
-    // what the call leaves in the output at a password, a salt and an output, and what it answers
+    // what the call leaves in the output at a password, a salt and an output, and what it returns
     ghost derives: { Self → List ℕ → List ℕ → List ℕ → List ℕ → Result (Unit {0}) Error → Type 0 };
 
     /// Fills `out` with a key that is derived from a password and a salt. Caller: `out` has at most 2^32 - 1 octets.

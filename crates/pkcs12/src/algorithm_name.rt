@@ -60,7 +60,7 @@ fn name_of(identifier: ObjectIdentifier) -> Option<&'static str> {
     None
 }
 
-/// An identifier in decimal, behind its name where that is known.
+/// An identifier in decimal, after its name where that is known.
 #[derive(Clone, Copy)]
 pub struct Named(pub ObjectIdentifier);
 

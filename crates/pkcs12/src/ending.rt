@@ -15,7 +15,7 @@ pub enum Ending {
     Usage,
     /// The store, a password or `/dev/urandom` could not be read.
     ReadFault,
-    /// The answer could not be written.
+    /// The output could not be written.
     WriteFault,
     /// There was not enough memory.
     Memory,

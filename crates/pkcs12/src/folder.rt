@@ -15,7 +15,7 @@ use std::rt::Files;
 use std::{fs, io};
 use transfer::Transferred;
 
-/// Where the answer goes: a folder that is not there yet, or is to be replaced.
+/// Where the output goes: a folder that is not there yet, or is to be replaced.
 #[derive(Clone, Copy)]
 pub struct Folder<'a> {
     pub target: Target<'a>,
@@ -46,7 +46,7 @@ fn write_fault(alloc: Global, purpose: &str, path: &str, error: io::Error) -> Fa
     Failure::io(alloc, Ending::WriteFault, purpose, path, error)
 }
 
-/// The failure where a process of the same number left the folder in which the answer is begun.
+/// The failure where a process of the same number left the folder in which the output is begun.
 fn left_over(alloc: Global, part: &str) -> Failure {
     let shown = Printable(part);
     let failure = Failure::told(
@@ -95,7 +95,7 @@ fn not_placed(alloc: Global, path: &str, error: io::Error) -> Failure {
     write_fault(alloc, "the output folder", path, error)
 }
 
-/// Says on the standard error that something was not done which does not make the answer wrong.
+/// Says on the standard error that something was not done which does not make the output wrong.
 fn tell<R: Eprint>(rt: &R, path: &str, what: &str, error: &io::Error) {
     let shown = Printable(path);
     // A standard error that cannot be written to is no failure of the work.
@@ -209,7 +209,7 @@ impl<'a> Folder<'a> {
         Ok(folder)
     }
 
-    /// The path at which the answer is begun.
+    /// The path at which the output is begun.
     fn part(&self, alloc: Global) -> Result<String, AllocError> {
         let path = self.path;
         let process = self.process;
@@ -223,7 +223,7 @@ impl<'a> Folder<'a> {
         format!(in alloc; "{path}.old-{process}")
     }
 
-    /// Makes the folder in which the answer is begun, which only its owner may read.
+    /// Makes the folder in which the output is begun, which only its owner may read.
     fn make<R: Files + AllocGlobal>(&self, rt: &R, part: &str) -> Result<(), Failure> {
         match DirBuilder::new().mode(0o700).create(rt, part) {
             Ok(()) => Ok(()),
@@ -307,7 +307,7 @@ impl<'a> Folder<'a> {
         written
     }
 
-    /// Writes all of it into the folder in which the answer is begun, and puts that in its place.
+    /// Writes all of it into the folder in which the output is begun, and puts that in its place.
     fn fill_and_place<R: Files + Eprint + AllocGlobal + Clone + Drop>(
         &self,
         rt: &R,

@@ -1,4 +1,4 @@
-//! What stands in a store beside what is transferred: names of its bags, and algorithms that are
+//! What is in a store beside what is transferred: names of its bags, and algorithms that are
 //! not opened.
 ghost use Rattle.std.specs.Prelude.{◌≡◌, ◌<◌, ◌≤◌, ◌^◌, IsTrue, length};
 ghost use Rattle.p12.specs.AlgorithmIdentifier.{salt_of};
@@ -123,7 +123,7 @@ fn add_bag(alloc: Global, bag: &SafeBag, found: &mut Listing) -> Result<(), Fail
     Ok(())
 }
 
-/// What stands in the bags of an opened store.
+/// What is in the bags of an opened store.
 pub fn listing(alloc: Global, contents: &[Items<SafeBag>]) -> Result<Listing, Failure> {
     let mut found = Listing::new(alloc);
     for bags in contents {
@@ -245,7 +245,7 @@ fn keys_not_opened(
     Ok(None)
 }
 
-/// Why the outer content is not opened: it has to be data, in which the contents stand.
+/// Why the outer content is not opened: it has to be data, in which the contents are.
 fn outer_not_opened(alloc: Global, outer: &ContentView<'_>) -> Result<Option<String>, AllocError> {
     match outer {
         ContentView::Plain { .. } => Ok(None),

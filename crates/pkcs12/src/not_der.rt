@@ -29,7 +29,7 @@ pub struct NotDer {
 
 enum Step<'a> {
     Found(Form),
-    /// What stands behind the element, or behind its header where it has elements inside.
+    /// What comes after the element, or after its header where it has elements inside.
     Behind(&'a [u8]),
     End,
 }
@@ -48,7 +48,7 @@ fn long_length(count: u8, octets: &[u8]) -> Option<u64>
     Some(length)
 }
 
-/// What stands behind an element with this many octets of value, or behind its header.
+/// What comes after an element with this many octets of value, or after its header.
 fn behind(constructed: bool, length: u64, value: &[u8]) -> Step<'_> {
     if constructed {
         return Step::Behind(value);

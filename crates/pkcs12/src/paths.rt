@@ -1,6 +1,6 @@
 //! Paths.
 
-/// The folder in which this path stands.
+/// The folder that this path is in.
 pub fn parent(path: &str) -> &str {
     match path.rsplit_once('/') {
         Some(("", _)) => "/",

@@ -69,7 +69,7 @@ pub fn fits_in_command(path: &str) -> bool {
     path.chars().count() <= MOST && path.chars().all(is_printable)
 }
 
-/// A path as a word of a command for the shell: in single quotes, and behind `./` where it begins
+/// A path as a word of a command for the shell: in single quotes, and after `./` where it begins
 /// with a dash.
 #[derive(Clone, Copy)]
 pub struct ShellWord<'a>(pub &'a str);

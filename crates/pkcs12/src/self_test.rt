@@ -27,7 +27,7 @@ sha256 940c151a3862ea0c8ecfb552c614a1d0d71a2c4d894042d79c854692106fd0cb
 /// More octets than the lines have.
 const ROOM: usize = 1_000;
 
-/// The words of the sample.
+/// The arguments of the sample.
 fn words(alloc: Global) -> Result<Vec<String>, Error> {
     let mut words = Vec::new(alloc);
     words.push(String::from_str(alloc, "sample")?)?;

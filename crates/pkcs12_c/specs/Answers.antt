@@ -20,11 +20,11 @@ use Rattle.pkcs12_c.specs.declared.refusal.Refusal.TheVariants.{Rounds, Password
 abbrev pub AreRounds : ℕ → Type 0
 AreRounds rounds = (1 ≤ rounds) × (rounds ≤ rounds_limit)
 
--- Nothing was written, and the answer is this refusal.
+-- Nothing was written, and the result is this refusal.
 abbrev pub Refuses : List ℕ → List ℕ → ℕ → Result (Unit {0}) Refusal → Refusal → Type 0
 Refuses old new needed r e = (r ≡ Err e) × (new ≡ old) × (needed ≡ 0)
 
--- The number that is needed is that of the text's octets. Where the output has room for them the text stands at its front, and else
+-- The number that is needed is that of the text's octets. Where the output has room for them the text is at its front, and else
 -- nothing was written.
 pub record Fills (text old new : List ℕ) (needed : ℕ) (r : Result (Unit {0}) Refusal) : Type 0 where
   pub size : needed ≡ length text
@@ -35,14 +35,14 @@ pub record Fills (text old new : List ℕ) (needed : ℕ) (r : Result (Unit {0})
 abbrev pub Hands : List ℕ → List ℕ → List ℕ → ℕ → Result (Unit {0}) Refusal → Type 0
 Hands text old new needed r = Fills text old new needed r ⊎ Refuses old new needed r (Store cause.Memory)
 
--- what is answered for what the store came to: its text, or the refusal
+-- what is returned for what the store came to: its text, or the refusal
 abbrev pub Follows : {T : Type 0} → (T → List ℕ) → Result T TransferError → List ℕ → List ℕ → ℕ → Result (Unit {0}) Refusal → Type 0
 Follows text (Ok t) old new needed r = Hands (text t) old new needed r
 Follows text (Err e) old new needed r = Refuses old new needed r (Store e)
 
 -- ---- The transfer
 
--- What the transfer of a store came to, and what was answered for it.
+-- What the transfer of a store came to, and what was returned for it.
 pub record StoreTransferred (b p q random : List ℕ) (rounds limit : ℕ) (old new : List ℕ) (needed : ℕ) (r : Result (Unit {0}) Refusal) : Type 0 where
   pub transferred : Result Transferred TransferError
   -- it is transferred under the new password in these rounds, over these random octets
@@ -53,7 +53,7 @@ pub record StoreTransferred (b p q random : List ℕ) (rounds limit : ℕ) (old 
   pub exact : Settles b p limit (Some random) transferred
   pub follows : Follows (λ t. pem_text t.certificates t.documents) transferred old new needed r
 
--- The answer of a transfer: the rounds are tested first, then the password, then the store.
+-- The result of a transfer: the rounds are tested first, then the password, then the store.
 pub record TransferAnswers (b p q random : List ℕ) (rounds limit : ℕ) (old new : List ℕ) (needed : ℕ) (r : Result (Unit {0}) Refusal) : Type 0 where
   pub rounds_first : (AreRounds rounds → ⊥) → Refuses old new needed r Rounds
   pub then_password : AreRounds rounds → (IsPassword p → ⊥) → Refuses old new needed r Password
@@ -61,7 +61,7 @@ pub record TransferAnswers (b p q random : List ℕ) (rounds limit : ℕ) (old n
 
 -- ---- Opening
 
--- What the opening of a store came to, and what was answered for it.
+-- What the opening of a store came to, and what was returned for it.
 pub record StoreOpened (b p : List ℕ) (limit : ℕ) (old new : List ℕ) (needed : ℕ) (r : Result (Unit {0}) Refusal) : Type 0 where
   pub opened : Result Opened TransferError
   -- it is opened to these bags and keys
@@ -72,7 +72,7 @@ pub record StoreOpened (b p : List ℕ) (limit : ℕ) (old new : List ℕ) (need
   pub exact : IsDecided b p limit opened
   pub follows : Follows (λ o. opened_text o.contents o.keys) opened old new needed r
 
--- The answer of an opening: the password is tested first, then the store.
+-- The result of an opening: the password is tested first, then the store.
 pub record OpenAnswers (b p : List ℕ) (limit : ℕ) (old new : List ℕ) (needed : ℕ) (r : Result (Unit {0}) Refusal) : Type 0 where
   pub password_first : (IsPassword p → ⊥) → Refuses old new needed r Password
   pub then_store : IsPassword p → StoreOpened b p limit old new needed r
@@ -90,7 +90,7 @@ pub record StoreListed (b p : List ℕ) (limit : ℕ) (old new : List ℕ) (need
   pub exact : IsDecided b p limit listed
   pub follows : Follows (λ t. t) listed old new needed r
 
--- The answer of a list: the password is tested first, then the store.
+-- The result of a list: the password is tested first, then the store.
 pub record ListAnswers (b p : List ℕ) (limit : ℕ) (old new : List ℕ) (needed : ℕ) (r : Result (Unit {0}) Refusal) : Type 0 where
   pub password_first : (IsPassword p → ⊥) → Refuses old new needed r Password
   pub then_store : IsPassword p → StoreListed b p limit old new needed r
@@ -108,7 +108,7 @@ pub record StoreChanged (b p q random : List ℕ) (limit : ℕ) (old new : List 
   pub exact : IsSettled b p limit (Some random) changed
   pub follows : Follows (λ c. c) changed old new needed r
 
--- The answer of a change: the passwords are tested first, then the store.
+-- The result of a change: the passwords are tested first, then the store.
 pub record ChangeAnswers (b p q random : List ℕ) (limit : ℕ) (old new : List ℕ) (needed : ℕ) (r : Result (Unit {0}) Refusal) : Type 0 where
   pub password_first : (IsPassword p → ⊥) → Refuses old new needed r Password
   pub then_new_password : IsPassword p → (IsPassword q → ⊥) → Refuses old new needed r Password

@@ -17,6 +17,6 @@ abbrev pub answer_number : {A : Type 0} → Result A Refusal → ℕ
 answer_number (Ok a) = 0
 answer_number (Err e) = refusal_number e
 
--- No two answers have one number.
+-- No two results have one number.
 abbrev pub NumbersTell : Type 0
 NumbersTell = (r s : Result (Unit {0}) Refusal) → answer_number r ≡ answer_number s → r ≡ s

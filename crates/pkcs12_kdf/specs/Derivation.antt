@@ -1,4 +1,4 @@
--- The key derivation of RFC 7292 appendix B.2, with blocks of 64 octets, over a hash function h whose answers have
+-- The key derivation of RFC 7292 appendix B.2, with blocks of 64 octets, over a hash function h whose digests have
 -- u octets.
 use Rattle.std.specs.Prelude.{ℕ, zero, suc, ◌+◌, ◌-◌, ◌*◌, ◌/◌, ◌%◌, ◌^◌, List, [], ◌++◌, length, take, map, replicate, slice_index}
 use Rattle.std.specs.List.{flat_map, range_with_len}

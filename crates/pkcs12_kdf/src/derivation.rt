@@ -28,7 +28,7 @@ pub struct Derivation<'a> {
     /// As `utf16_password` gives it.
     pub password: &'a [u8],
     pub salt: &'a [u8],
-    /// How often the hash function is applied for each of its answers (the iterations of RFC 7292), at least 1.
+    /// How often the hash function is applied for each of its digests (the iterations of RFC 7292), at least 1.
     pub rounds: u64,
 }
 

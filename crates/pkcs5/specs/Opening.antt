@@ -34,7 +34,7 @@ prf_of HmacWithSha256 q = hmac sha256 64 q
 prf_of HmacWithSha384 q = hmac sha384 128 q
 prf_of HmacWithSha512 q = hmac sha512 128 q
 
--- how many octets it answers
+-- how many octets it returns
 abbrev pub prf_output : Pbkdf2Prf → ℕ
 prf_output HmacWithSha1 = 20
 prf_output HmacWithSha224 = 28
@@ -69,7 +69,7 @@ answers_of (Scrypt p) n = 0
 abbrev pub GivesKey : Kdf → ℕ → Type 0
 GivesKey kdf n = StatesLength kdf n × TakesCosts kdf
 
--- the steps of deriving n octets of key: those answers in each round, and 0 rounds are one
+-- the steps of deriving n octets of key: those results in each round, and 0 rounds are one
 abbrev pub key_steps : Kdf → ℕ → ℕ
 key_steps kdf n = max (rounds_of kdf) 1 * answers_of kdf n
 

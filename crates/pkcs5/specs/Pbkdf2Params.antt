@@ -32,7 +32,7 @@ stated_prf HmacWithSha256 = Some HmacWithSha256
 stated_prf HmacWithSha384 = Some HmacWithSha384
 stated_prf HmacWithSha512 = Some HmacWithSha512
 
--- what stands before the function
+-- what is before the function
 abbrev pub before_prf : Pbkdf2Params → List ℕ
 before_prf v = octets v.salt ++ uint v.iteration_count ++ canon_option uint v.key_length
 

@@ -1,4 +1,4 @@
--- What the calls of a scheme answer: under PBES2 (RFC 8018 section 6.2) what those of its parameters do, and nothing is opened or
+-- What the calls of a scheme return: under PBES2 (RFC 8018 section 6.2) what those of its parameters do, and nothing is opened or
 -- sealed under PBES1.
 use Rattle.std.specs.Prelude.{◌≡◌, ℕ, List}
 use Rattle.pkcs5.specs.Kinds.{IsDes}

@@ -62,5 +62,5 @@ impl fmt::Display for Error {
 
 impl std::error::Error for Error {}
 
-/// What a call of this crate answers.
+/// What a call of this crate returns.
 pub type Result<T> = std::result::Result<T, Error>;

@@ -43,7 +43,7 @@ pub fn prfs_are_spelled()
 {}
 
 /// The texts that are read as parameters of PBKDF2 are the canonical text, and those with another spelling of the
-/// function; HMAC over SHA-1 is left out or stands written.
+/// function; HMAC over SHA-1 is left out or written.
 pub fn pbkdf2_params_are_spelled()
     ensures { (b : List ℕ) (v : Pbkdf2Params) → whole pbkdf2_params_at b ≡ Ok v ↔ (ArePbkdf2Params v
         × SpellsPbkdf2Params b v × IsShort b) }

@@ -1,4 +1,4 @@
--- Key types: what they answer of sealed documents and of files.
+-- Key types: what they return of sealed documents and of files.
 use Rattle.std.proofs.Common.{◌≡◌, ℕ, List, Result, Ok, Err, inl, inr, sym, subst}
 use Rattle.std.specs.Prelude.{IfOk, IfErr}
 use Rattle.pkcs5.specs.SchemeOpening.{SchemeOpens}

@@ -27,7 +27,7 @@ module _ {A V K L B W : Type 0} (seen : A → V) (P : List ℕ → V → Type 0)
   public_spelled b None r = r
   public_spelled b (Some k) (w, r, e) = e ∙ ap (λ (l : List ℕ). el 0x81 l) (sole w k r)
 
-  -- where the parts' texts stand
+  -- where the parts' texts are
   abbrev laid : ℕ → List ℕ → List ℕ → List ℕ → List ℕ → List ℕ → List ℕ
   laid n a l x r y = uint n ++ a ++ l ++ x ++ r ++ y
 

@@ -19,7 +19,7 @@ version_spelled b v = (
   λ h. (uint_spelled 1 b (version_number v)).1 (version_small v, h.1),
 )
 
--- the versions' test, by its four answers
+-- the versions' test, by its four results
 module _ (q : Version → Version → Bool) (one : q V1 V1 ≡ true) (up : q V1 V2 ≡ false) (down : q V2 V1 ≡ false) (two : q V2 V2 ≡ true) where
   pub version_same : (v w : Version) → (version_number v ≡ version_number w → q v w ≡ true) × (q v w ≡ true → version_number v ≡ version_number w)
   version_same V1 V1 = (λ e. one, λ h. refl)

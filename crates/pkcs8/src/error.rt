@@ -135,5 +135,5 @@ impl std::error::Error for Error {}
 
 impl std::error::Error for KeyError {}
 
-/// What a call of this crate answers.
+/// What a call of this crate returns.
 pub type Result<T> = std::result::Result<T, Error>;

@@ -86,7 +86,7 @@ impl<PubKey: EncodeValue> EncodeValue for PublicKeyField<PubKey> {
     }
 }
 
-/// Takes a public key, or nothing where no element of its tag stands next. Refusals are those of its value, and
+/// Takes a public key, or nothing where no element of its tag comes next. Refusals are those of its value, and
 /// `Malformed` where the element or the next tag is none. A refusal does not move the reader.
 pub fn read_public_key<'a, PubKey: DecodeValue<&'a [u8]>>(
     r: &mut SliceReader<'a>,
@@ -101,7 +101,7 @@ pub fn read_public_key<'a, PubKey: DecodeValue<&'a [u8]>>(
     }
 }
 
-/// Takes a further field. `Malformed` exactly where none stands next.
+/// Takes a further field. `Malformed` exactly where none comes next.
 fn skip_further_field<'a>(r: &mut SliceReader<'a>) -> Result<(), Error>
     ensures exact { ReadsAs further_at (λ u. u) r.old.rest.now r.new.rest.now result }
     ensures shorter { OnOk result (length r.new.rest.now < length r.old.rest.now) }

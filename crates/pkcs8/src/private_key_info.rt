@@ -48,7 +48,7 @@ pub struct PrivateKeyInfo<Params, Key, PubKey> {
     pub algorithm: AlgorithmIdentifier<Params>,
     /// The key, in a form that the algorithm defines.
     pub private_key: Key,
-    /// The public key, where it stands beside the private one.
+    /// The public key, where it is beside the private one.
     pub public_key: Option<PubKey>,
 }
 

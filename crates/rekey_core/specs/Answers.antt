@@ -1,4 +1,4 @@
--- What the command `rekey` answers: the rows of its own in the table of `frame`.
+-- What the command `rekey` returns: the rows of its own in the table of `frame`.
 use Rattle.std.specs.Prelude.{ℕ, ◌*◌, ◌≡◌, List, codes, Option, Result, Ok, Err}
 use Rattle.frame.specs.Calls.{Call, Effects}
 use Rattle.frame.specs.DueText.{digits_line}
@@ -24,7 +24,7 @@ abbrev pub RefusesStore : Command → Effects → List ℕ → Status → Type 0
 RefusesStore c e store s = (cause : TransferError) × (s ≡ status_of cause)
     × FirstRefusal store c.passwords c.limit e.draw.told e.draw.told_after e.draw.faults e.draw.faults_after e.steps e.steps_after cause
 
--- the status of an answer
+-- the status of a result
 abbrev pub IsStatusOf : Result (List ℕ) TransferError → Status → Type 0
 IsStatusOf (Ok c) s = s ≡ Done
 IsStatusOf (Err e) s = s ≡ status_of e
@@ -47,6 +47,6 @@ on_stores words = record {
   limit = steps_limit;
 }
 
--- What a run answers for these words, over the call and the output.
+-- What a run returns for these arguments, over the call and the output.
 abbrev pub Answers : List (List ℕ) → Call → Stream → Status → Type 0
 Answers words call output s = programs.Answers (lined (on_stores words)) call output s

@@ -57,7 +57,7 @@ abbrev pub first_of : List (List ℕ) → List ℕ
 first_of [] = []
 first_of (p ∷ ps) = p
 
--- Each answer comes where its cause holds, out of memory apart. Each of the changes draws the same number of octets, and comes to a text
+-- Each result comes where its cause holds, out of memory apart. Each of the changes draws the same number of octets, and comes to a text
 -- of the same size.
 pub record SettledAll (b : List ℕ) (passwords : List (List ℕ)) (limit : ℕ) (left : Option (List ℕ)) (r : Result (List ℕ) TransferError) : Type 0 where
   -- a store that a cause refuses is refused for that cause

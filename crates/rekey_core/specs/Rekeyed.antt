@@ -44,7 +44,7 @@ pub record Rekeys (b p q : List ℕ) (limit : ℕ) (left left_after : Option (Li
 abbrev pub IsRefused : List ℕ → List ℕ → ℕ → ℕ → ℕ → TransferError → Type 0
 IsRefused b p limit steps steps_after e = (n : ℕ) × HasVerdict b p limit (refused e) n × (steps_after ≡ steps + n)
 
--- The store opens, and the draw failed: where it tells its octets, for want of those that the change draws.
+-- The store opens, and the draw failed: where it tells its octets, for lack of those that the change draws.
 pub record RunsShort (b p : List ℕ) (limit : ℕ) (left : Option (List ℕ)) (faults faults_after steps steps_after : ℕ) : Type 0 where
   pub allowed : IsAllowed b p limit
   pub short : Lacks faults faults_after left (draws b p limit allowed)
@@ -73,7 +73,7 @@ pub record IsUndrawn (e : TransferError) : Type 0 where
   pub not_memory : e ≢ Memory
   pub not_too_long : e ≢ TooLong
 
--- Each answer comes where its cause holds, out of memory apart.
+-- Each result comes where its cause holds, out of memory apart.
 pub record IsSettled (b p : List ℕ) (limit : ℕ) (left : Option (List ℕ)) (r : Result (List ℕ) TransferError) : Type 0 where
   -- a store that a cause refuses is refused for that cause
   pub refuses : (e : TransferError) → FirstCause b p limit (Some e) → IsRefusal r e

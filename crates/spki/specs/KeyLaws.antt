@@ -1,5 +1,5 @@
 -- lemmas only: nothing to believe here
--- Key types: what they answer by way of a public or a private key, in errors of any type.
+-- Key types: what they return by way of a public or a private key, in errors of any type.
 use Rattle.std.proofs.Common.{◌≡◌, ◌⊎◌, ℕ, List, Result, Ok, Err, inl, inr}
 use Rattle.std.specs.Prelude.{IfOk, IfErr}
 use Rattle.asn1_core.specs.Gives.{IsNone, ParsesIn}

@@ -13,6 +13,6 @@ use Rattle.spki.specs.Seen.{AnyAlgorithm, borrowed_algorithm}
 abbrev pub made_of : {V : Type 0} → (AnyAlgorithm → Result V Fault) → All V
 made_of make = on oid_at (λ o. on (option_at any_tag any_at) (λ p rest. make (algorithm o p) >>= λ v. ended v rest))
 
--- a conversion from algorithms, of which `gives` tells what it may answer, returns what `make` gives
+-- a conversion from algorithms, of which `gives` tells what it may return, returns what `make` gives
 abbrev pub IsMaking : {V : Type 0} → (AlgorithmIdentifier AnyRef → Result V Error → Type 0) → (AnyAlgorithm → Result V Fault) → Type 0
 IsMaking gives make = (a : AlgorithmIdentifier AnyRef) (r : Result _ Error) → gives a r → Gives (λ v. v) r (make (borrowed_algorithm a))

@@ -32,7 +32,7 @@ one_command words c d p q =
     ap (λ a. make a c.new_password c.rounds c.limit) password ∙ ap (λ b. make d.password b c.rounds c.limit) new_password
     ∙ ap (λ n. make d.password d.new_password n c.limit) rounds ∙ ap (λ m. make d.password d.new_password d.rounds m) limit
 
--- ---- Each answer comes where its cause holds
+-- ---- Each result comes where its cause holds
 
 abbrev refusal_in : (T : Type 0) → TransferError → Result T TransferError
 refusal_in T e = Err e

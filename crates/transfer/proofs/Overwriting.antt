@@ -12,7 +12,7 @@ if_at P o x e h = subst (λ o. IfSome o P) e h
 
 -- ---- One place
 
--- What stands before or after a change stands as it stood.
+-- What is before or after a change stands as it stood.
 pub place_before : (p : Place) (from : ℕ) (old new : List ℕ) → p.start + p.len ≤ from → take from new ≡ take from old → at_place p new ≡ at_place p old
 place_before p from old new h e =
     let cut : (b : List ℕ) → at_place p b ≡ drop p.start (take (p.start + p.len) (take from b)) = λ b. sym (drop-take p.start p.len b) ∙ ap (drop p.start) (sym (take-take (p.start + p.len) from b h)) in

@@ -1,4 +1,4 @@
--- Each answer comes where its cause holds.
+-- Each result comes where its cause holds.
 use Rattle.std.proofs.Common.{ℕ, ◌≡◌, ◌+◌, ◌*◌, ◌≤◌, ◌<◌, ◌⊎◌, inl, inr, List, length, refl, sym, ap, subst, arith}
 use Rattle.std.specs.Prelude.{Option, Some, None, Result, Ok, Err, IfSome, ⊤}
 use Rattle.p12.specs.declared.safe_bag.SafeBag.{SafeBag}

@@ -33,7 +33,7 @@ row_sole P a k rest s v w m n (inr p) (inr q) = s v w m n p.1 q.1
 pub of_sole : {X V : Type 0} (R : X → Type 0) (rest : X → V → ℕ → Type 0) → ((x y : X) → R x → R y → x ≡ y) → ((x : X) → R x → Sole (rest x)) → Sole (Of R rest)
 of_sole R rest one s v w m n p q = s p.0 p.1 v w m n p.2 (subst (λ x. rest x w n) (one q.0 p.0 q.1 p.1) q.2)
 
--- A row with one answer after one number of steps.
+-- A row with one result after one number of steps.
 pub last_sole : {V : Type 0} (P : Type 0) (a : V) (k : ℕ) → Sole (λ (v : V) (n : ℕ). P × (v ≡ a) × (n ≡ k))
 last_sole P a k v w m n p q = (p.1 ∙ sym q.1, p.2 ∙ sym q.2)
 

@@ -1,4 +1,4 @@
--- What the command `transfer` answers: the rows of its own in the table of `frame`.
+-- What the command `transfer` returns: the rows of its own in the table of `frame`.
 use Rattle.std.specs.Prelude.{ℕ, ◌*◌, ◌≡◌, ◌⊎◌, ◌<◌, ◌≤◌, List, length, Option, Some, None, IfSome}
 use Rattle.frame.specs.Calls.{Call, Effects}
 use Rattle.frame.specs.Lined.{lined}
@@ -32,7 +32,7 @@ abbrev pub RefusesStore : Command → Effects → List ℕ → Status → Type 0
 RefusesStore c e store Rng = RunsShort c e store
 RefusesStore c e store s = (cause : TransferError) × (s ≡ status_of cause) × IsRefused c e store cause
 
--- Of a command, a store and the octets to be drawn: each answer comes where its row holds, running out of memory apart.
+-- Of a command, a store and the octets to be drawn: each status comes where its row holds, running out of memory apart.
 pub record ExactStore (c : Command) (drawn : Option (List ℕ)) (store : List ℕ) (s : Status) : Type 0 where
   -- a store that a cause refuses: the status of the first cause
   pub refuses : (e : TransferError) → FirstCause store c.password c.limit (Some e) → s ≡ status_of e
@@ -52,7 +52,7 @@ on_stores words = record {
   limit = λ c. c.limit;
 }
 
--- What a run returns for these words, over the call and the output: InputMalformed where the input spells no store, and else what the
+-- What a run returns for these arguments, over the call and the output: InputMalformed where the input spells no store, and else what the
 -- command promises of the store that it spells, under the octets of its second line, or of the draw where there is none.
 abbrev pub Answers : List (List ℕ) → Call → Stream → Status → Type 0
 Answers words call output s = programs.Answers (lined (on_stores words)) call output s

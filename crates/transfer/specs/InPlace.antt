@@ -74,7 +74,7 @@ places_of ls = map (λ (l : KeyLock). l.at) ls
 abbrev pub LockFits : KeyLock → Type 0
 LockFits l = length (salt_of l.algorithm) < 2 ^ 59
 
--- After the locks so far stand those of the encrypted keys among bags.
+-- After the locks so far come those of the encrypted keys among bags.
 pub record AddsLocks (text : List ℕ) (place : Place) (gs : List SafeBag) (old new : List KeyLock) : Type 0 where
   pub made : List KeyLock
   pub grows : new ≡ old ++ made

@@ -9,6 +9,6 @@ store_limit = 16777215
 abbrev pub rounds_limit : ℕ
 rounds_limit = 100000000
 
--- the most octets that a password in the words may have
+-- the most octets that a password in the arguments may have
 abbrev pub password_limit : ℕ
 password_limit = 1024

@@ -23,7 +23,7 @@ pub record AreOpen {A B E : Type 0} (K : PartKind A B E) (limit sum : ℕ) (xs :
   pub each : Each K.OpensTo xs ys
   pub within : sum + sum_by K.share xs ≤ limit
 
--- After the things so far stand those that further parts open to.
+-- After the things so far come those that further parts open to.
 pub record OpensMore {A B E : Type 0} (K : PartKind A B E) (limit sum : ℕ) (xs : List A) (old new : List B) : Type 0 where
   pub made : List B
   pub grows : new ≡ old ++ made

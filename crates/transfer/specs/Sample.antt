@@ -181,9 +181,9 @@ pub record SampleMakes (keys steps steps_after : ℕ) (text : List ℕ) : Type 0
 abbrev pub OneSample : Type 0
 OneSample = (keys a b c d : ℕ) (t u : List ℕ) → SampleMakes keys a b t → SampleMakes keys c d u → t ≡ u
 
--- ---- the answers
+-- ---- the statuses
 
--- The words are `sample` and a number of keys.
+-- The arguments are `sample` and a number of keys.
 pub record IsSample (words : List (List ℕ)) (keys : ℕ) : Type 0 where
   pub spelled : words ≡ codes "sample" ∷ decimal keys ∷ []
   pub some_keys : 1 ≤ keys

@@ -21,7 +21,7 @@ pub record Transfers (c : Command) (e : Effects) (store : List ℕ) (certificate
   pub sealed : SealsAll c.rounds c.new_password e.draw.told e.draw.told_after keys documents
   pub counted : e.steps_after ≡ e.steps + work
 
--- The store is opened, by its work in steps, and the draw failed: where it tells its octets, for want of 32 a key.
+-- The store is opened, by its work in steps, and the draw failed: where it tells its octets, for lack of 32 a key.
 pub record RunsShort (c : Command) (e : Effects) (store : List ℕ) : Type 0 where
   pub bags : List (List SafeBag)
   pub keys : List (List ℕ)
@@ -47,7 +47,7 @@ pub record IsDecided {T : Type 0} (b p : List ℕ) (limit : ℕ) (r : Result T T
 abbrev pub DrawsFor : {T : Type 0} → Option (List ℕ) → ℕ → Result T TransferError → Type 0
 DrawsFor left keys r = IfSome left (λ d. (length d < 32 * keys → IsRefusal r Rng) × (32 * keys ≤ length d → (r ≡ Err Memory) ⊎ IsOk r))
 
--- Each answer comes where its cause holds, running out of memory apart.
+-- Each result comes where its cause holds, running out of memory apart.
 pub record IsSettled {T : Type 0} (b p : List ℕ) (limit : ℕ) (left : Option (List ℕ)) (r : Result T TransferError) : Type 0 where
   -- a store that a cause refuses is refused for that cause
   pub refuses : (e : TransferError) → FirstCause b p limit (Some e) → IsRefusal r e

@@ -51,7 +51,7 @@ pub record StoreOpens (b p : List ℕ) (gss : List (List SafeBag)) (ks : List (L
 abbrev pub IsValid : List ℕ → List ℕ → ℕ → Type 0
 IsValid b p limit = (gss : List (List SafeBag)) × (ks : List (List ℕ)) × (n : ℕ) × StoreOpens b p gss ks n × (n ≤ limit)
 
--- A table gives at most one answer and one number of steps.
+-- A table gives at most one result and one number of steps.
 abbrev pub Sole : {V : Type 0} → (V → ℕ → Type 0) → Type 0
 Sole {V} T = (v w : V) (m n : ℕ) → T v m → T w n → (v ≡ w) × (m ≡ n)
 

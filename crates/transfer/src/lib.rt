@@ -1,7 +1,7 @@
 //! The transfer of a PKCS#12 store: the program's top call `run`, and below it `transfer`.
 //!
-//! `run` reads words and an input, opens the store that the input spells, and writes its certificates and documents that
-//! seal its private keys anew. What each answer means is in the contract of `run`; the causes of a refusal are in
+//! `run` reads arguments and an input, opens the store that the input spells, and writes its certificates and documents that
+//! seal its private keys anew. What each status means is in the contract of `run`; the causes of a refusal are in
 //! order in `specs/Opening.antt`.
 #![tactic(auto)]
 

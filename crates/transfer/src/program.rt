@@ -1,4 +1,4 @@
-//! The program: the words, the work on the store that the input spells, and the text that is due.
+//! The program: the arguments, the work on the store that the input spells, and the text that is due.
 pub(crate) mod command;
 pub(crate) mod due_text;
 pub(crate) mod refusal;

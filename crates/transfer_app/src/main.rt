@@ -16,10 +16,10 @@ use transfer::{ReadSource, Sink, Source, Status, WriteSink, run};
 /// The file of the system's random octets. It is opened by the first draw.
 const RANDOM: &str = "/dev/urandom";
 
-/// What the program ends with where the words themselves cannot be had.
+/// What the program ends with where the arguments themselves cannot be had.
 const NO_WORDS: u8 = 7;
 
-/// The words after the program's name.
+/// The arguments after the program's name.
 fn words_after_name<R: Env + Alloc<A = Global>>(rt: &R) -> io::Result<Vec<String>> {
     let mut words = Vec::new(rt.alloc());
     for word in env::args(rt)?.skip(1) {

@@ -153,14 +153,14 @@ fn key_with_room() -> [u8; 66] {
     buffer
 }
 
-/// Whether the parameters encrypt the key where it stands, and leave the octets after.
+/// Whether the parameters encrypt the key where it is, and leave the octets after.
 fn encrypts_in_place(alloc: Global, parameters: &Parameters) -> bool {
     let mut buffer = key_with_room();
     let sealed = parameters.encrypt_in_place(alloc, &PASSWORD, &mut buffer, 48);
     sealed == Ok(&SEALED_KEY) && buffer.starts_with(&SEALED_KEY) && buffer.ends_with(&[0x55, 0x55])
 }
 
-/// Whether the scheme of these parameters encrypts the key where it stands, and leaves the octets after.
+/// Whether the scheme of these parameters encrypts the key where it is, and leaves the octets after.
 fn scheme_encrypts_in_place(alloc: Global, parameters: Parameters) -> bool {
     let scheme = pkcs5::EncryptionScheme::Pbes2(parameters);
     let mut buffer = key_with_room();
@@ -168,7 +168,7 @@ fn scheme_encrypts_in_place(alloc: Global, parameters: Parameters) -> bool {
     sealed == Ok(&SEALED_KEY) && buffer.ends_with(&[0x55, 0x55])
 }
 
-/// Whether the parameters decrypt the key where it stands, with its padding after.
+/// Whether the parameters decrypt the key where it is, with its padding after.
 fn decrypts_in_place(alloc: Global, parameters: &Parameters) -> bool {
     let mut buffer = SEALED_KEY;
     let opened = parameters.decrypt_in_place(alloc, &PASSWORD, &mut buffer);

@@ -34,7 +34,7 @@ fn no_front_of_a_private_key_is_one_nor_a_key_with_an_octet_more(rt: HostRuntime
     assert!(rt; PrivateKeyInfoRef::try_from(LONGER_KEY).err() == malformed);
 }
 
-/// Texts of no private key. From the third on each differs from a text of `SPELLINGS` in what stands above it.
+/// Texts of no private key. From the third on each differs from a text of `SPELLINGS` in what is above it.
 static OF_NO_KEY: [&str; 31] = [
     "",
     "3000",

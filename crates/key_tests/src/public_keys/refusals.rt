@@ -4,7 +4,7 @@ use spki::{Error, SubjectPublicKeyInfoOwned, SubjectPublicKeyInfoRef};
 use std::alloc::Global;
 use std::process::Abort;
 
-/// Texts of no public key. From the third on each differs from `SHORT` in what stands above it.
+/// Texts of no public key. From the third on each differs from `SHORT` in what is above it.
 static OF_NO_KEY: [&str; 12] = [
     "",
     "3000",

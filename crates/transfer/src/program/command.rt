@@ -1,4 +1,4 @@
-//! What the words ask for.
+//! What the arguments ask for.
 ghost use Rattle.std.specs.Prelude.{◌≤◌, length};
 ghost use Rattle.transfer.specs.Limits.{password_limit, rounds_limit};
 

@@ -17,7 +17,7 @@ use std::alloc::Global;
 use std::sync::ledger::Ledger;
 use steps::Steps;
 
-/// Does what the words ask for, those after the program's name.
+/// Does what the arguments ask for, those after the program's name.
 ///
 /// `transfer`, the password, the new password, the rounds and the limit: reads the input to its end, opens the store that it
 /// spells, seals its private keys anew, and writes what is due. The input is a line of hexadecimal digits, the octets of the
@@ -36,7 +36,7 @@ pub fn run<I: Source, O: Sink, D: Draw, L: Ledger>(
     output: &mut O,
     steps: &mut Steps<L>,
 ) -> Status
-    // Where the words are not those of a sample: the causes of each answer, where each has to come, what is written and the steps.
+    // Where the arguments are not those of a sample: the causes of each status, where each has to come, what is written and the steps.
     ensures answers { let read = stream (I.left input.old) (I.left input.new) (I.faults input.old)
         (I.faults input.new) in
         let drawn = stream (D.left draw.old) (D.left draw.new) (D.faults draw.old)
@@ -50,7 +50,7 @@ pub fn run<I: Source, O: Sink, D: Draw, L: Ledger>(
         (O.faults output.old) (O.faults output.new) in
         (keys : ℕ) → IsSample (map string_bytes words.now) keys
         → SampleAnswers keys steps.old steps.new written result }
-    // Where the words are no command's, nothing is read or drawn and no step taken; for a sample nothing is read or drawn.
+    // Where the arguments are no command's, nothing is read or drawn and no step taken; for a sample nothing is read or drawn.
     ensures untouched { IsNoCommand (map string_bytes words.now) → (input.new ≡ input.old)
         × (draw.new ≡ draw.old)
         × (IsNoSample (map string_bytes words.now) → steps.new ≡ steps.old) }

@@ -1,4 +1,4 @@
-//! The words of the command line.
+//! The arguments of the command line.
 ghost use Rattle.std.specs.Prelude.{IfSome, IfNone, MatchOption, map};
 ghost use Rattle.std.specs.String.{string_bytes};
 ghost use Rattle.transfer.specs.Asked.{command_asked};
@@ -11,7 +11,7 @@ use frame::{Lined, behind_name, next_number, next_password};
 /// The most keys of a sample.
 pub(crate) const KEYS_LIMIT: u64 = 10_000;
 
-/// The command that the words spell.
+/// The command that the arguments spell.
 pub(crate) fn command_of(words: &[String]) -> Option<Lined<Words<'_>>>
     ensures { MatchOption result (IsNoCommand (map string_bytes words.now))
         (λ asked. IsCommand (map string_bytes words.now) (command_asked asked)) }
@@ -33,7 +33,7 @@ pub(crate) fn command_of(words: &[String]) -> Option<Lined<Words<'_>>>
     Some(Lined { job })
 }
 
-/// The number of keys that the words ask for a sample of.
+/// The number of keys that the arguments ask for a sample of.
 pub(crate) fn sample_keys(words: &[String]) -> Option<u32>
     ensures found { IfSome result (IsSample (map string_bytes words.now)) }
     ensures none { IfNone result (IsNoSample (map string_bytes words.now)) }

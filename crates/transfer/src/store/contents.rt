@@ -31,7 +31,7 @@ fn check_bags(text: &[u8]) -> Result<(), TransferError>
     }
 }
 
-/// Opens a content in place, and returns where its bags stand.
+/// Opens a content in place, and returns where its bags are.
 fn open_content<L: Ledger>(
     alloc: Global,
     content: &ContentView<'_>,
@@ -72,7 +72,7 @@ fn open_content<L: Ledger>(
     }
 }
 
-/// Opens each content in order, in place in a copy of the octets that list them, and returns where the bags of each stand.
+/// Opens each content in order, in place in a copy of the octets that list them, and returns where the bags of each are.
 pub(crate) fn open_contents<L: Ledger>(
     alloc: Global,
     mut contents: ContentsView<'_>,

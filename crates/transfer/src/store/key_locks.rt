@@ -11,7 +11,7 @@ use asn1_core::Items;
 use p12::{AlgorithmIdentifier, AlgorithmView, BagView, Place};
 use std::alloc::{AllocError, Global};
 
-/// What opens an encrypted key, and where its octets stand. A view of the key would borrow the text that it is opened in.
+/// What opens an encrypted key, and where its octets are. A view of the key would borrow the text that it is opened in.
 #[derive(Drop)]
 pub(crate) struct KeyLock {
     pub(crate) algorithm: AlgorithmIdentifier,

@@ -54,7 +54,7 @@ pub(crate) fn open_front<L: Ledger>(
     }
 }
 
-/// Opens a locked text at a place of a longer one, which stays as it is elsewhere, and returns where the plain octets stand.
+/// Opens a locked text at a place of a longer one, which stays as it is elsewhere, and returns where the plain octets are.
 pub(crate) fn open_lock<L: Ledger>(
     alloc: Global,
     algorithm: &AlgorithmView<'_>,

@@ -7,7 +7,7 @@ use Rattle.phc_core.specs.declared.error.Error.TheVariants.{ParamsInvalid}
 use Rattle.phc_core.specs.ParamsString.{with_pair}
 use Rattle.phc_core.proofs.line.line_with_pair.Goals as goal
 
--- A pair comes after all that stands before it: first its name, then `=`, then its value.
+-- A pair comes after all that comes before it: first its name, then `=`, then its value.
 from_pair : (t p : List ℕ) → with_pair t p ≡ with_pair t [] ++ p
 from_pair [] p = refl
 from_pair (c ∷ cs) p = sym (append_assoc (c ∷ cs) (44 ∷ []) p)
