@@ -23,7 +23,8 @@ use Rattle.p12.proofs.DefinitionLaws.{contents_sole, store_sole}
 use Rattle.transfer.specs.Opening.{all_shrouded, shrouded_among, shrouded_in}
 use Rattle.rekey_core.specs.Anew.{anew, content_draws, drawn_for, key_draws}
 use Rattle.rekey_core.specs.Change.{Changes}
-use Rattle.rekey_core.specs.Like.{BagLike, ContentLike, EachDrawn, FormLike, IsAnew, KindLike, OpensAlike}
+use Rattle.rekey_core.specs.Like.{BagLike, ContentLike, FormLike, IsAnew, KindLike, OpensAlike}
+use Rattle.rekey_core.specs.Resealing.{EachDrawn}
 use Rattle.rekey_core.specs.Rekeyed.{IsAllowed, draws, size}
 use Rattle.rekey_core.specs.Size.{blank, blank_algorithm, blank_bag, blank_content, blank_contents, blank_key, blank_kind, blank_mac, blank_text, changed_size, digest_size, sealed_size, size_in}
 use Rattle.rekey_core.proofs.Sizes.{holds_sole}

@@ -39,7 +39,8 @@ use Rattle.transfer.proofs.Valid.{opened_exactly}
 use Rattle.rekey_core.specs.Anew.{anew}
 use Rattle.rekey_core.specs.Change.{Changes}
 use Rattle.rekey_core.specs.Changes.{BagKept, IsKept, KindKept, RekeysAll, last_of}
-use Rattle.rekey_core.specs.Like.{BagLike, ContentLike, EachDrawn, IsAnew, KindLike}
+use Rattle.rekey_core.specs.Like.{BagLike, ContentLike, IsAnew, KindLike}
+use Rattle.rekey_core.specs.Resealing.{EachDrawn}
 use Rattle.rekey_core.proofs.Sizes.{holds_sole}
 
 -- ---- costs

@@ -20,7 +20,8 @@ use Rattle.p12.specs.declared.safe_bag.SafeBag.{SafeBag}
 use Rattle.p12.specs.declared.safe_bag.SafeBagKind.{SafeBagKind}
 use Rattle.pkcs12_kdf.specs.Password.{bmp_password}
 use Rattle.rekey_core.specs.Change.{Changes}
-use Rattle.rekey_core.specs.Like.{BagLike, ContentLike, EachDrawn, KindLike}
+use Rattle.rekey_core.specs.Like.{BagLike, ContentLike, KindLike}
+use Rattle.rekey_core.specs.Resealing.{EachDrawn}
 use Rattle.rekey_core.specs.Making.{store_anew}
 use Rattle.rekey_core.specs.Sealing.{BagSealed, ContentSealed}
 use Rattle.rekey_core.proofs.Texts.{bags_sealed, contents_list, store_text}

@@ -50,7 +50,8 @@ use Rattle.p12.proofs.DefinitionLaws.{bags_sole, unlock_opened}
 use Rattle.p12.proofs.Fits.{Fits, left_fits, right_fits, through, value_fits}
 use Rattle.p12.proofs.Paddings.{unpadded_is}
 use Rattle.rekey_core.specs.Anew.{anew, drawn_for}
-use Rattle.rekey_core.specs.Like.{EachDrawn, IsAnew, KindLike, OpensAlike}
+use Rattle.rekey_core.specs.Like.{IsAnew, KindLike, OpensAlike}
+use Rattle.rekey_core.specs.Resealing.{EachDrawn}
 use Rattle.rekey_core.specs.Making.{store_anew}
 use Rattle.rekey_core.specs.Sealing.{BagSealed, ContentSealed}
 use Rattle.rekey_core.specs.Size.{blank, blank_algorithm, blank_bag, blank_content, blank_contents, blank_key, blank_kind, blank_store, blank_text, changed_size, digest_size, sealed_size, size_in}

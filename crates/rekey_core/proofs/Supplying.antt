@@ -17,7 +17,8 @@ use Rattle.transfer.specs.Opening.{KeyOpens, all_shrouded, shrouded_among, shrou
 use Rattle.transfer.specs.declared.store.error.TransferError.{TransferError}
 use Rattle.transfer.specs.declared.store.error.TransferError.TheVariants.{TooLong, Malformed, Unsupported, MacMissing, MacUnsupported, ZeroIterations, WorkLimit, MacMismatch, ContentMalformed, DecryptFailed, KeyMalformed, Rng, Memory}
 use Rattle.rekey_core.specs.Anew.{content_draws, drawn_for, key_draws}
-use Rattle.rekey_core.specs.Like.{EachDrawn, IsAnew, KindLike}
+use Rattle.rekey_core.specs.Like.{IsAnew, KindLike}
+use Rattle.rekey_core.specs.Resealing.{EachDrawn}
 use Rattle.rekey_core.specs.Sealing.{BagSealed, BagsSealed, ContentSealed, ContentsSealed, LongOnly, Supplies, SuppliesAll, bag_draws, bags_draw}
 use Rattle.rekey_core.specs.Size.{blank_bag, blank_content, blank_contents, blank_text, sealed_size}
 use Rattle.rekey_core.proofs.Sizes.{bag_in, blank_data_size, content_in, key_in}

@@ -40,7 +40,8 @@ use Rattle.p12.specs.declared.safe_bag.SafeBagKind.{SafeBagKind}
 use Rattle.p12.specs.declared.safe_bag.SafeBagKind.TheVariants as kind
 use Rattle.pkcs12_kdf.specs.Password.{bmp_password}
 use Rattle.rekey_core.specs.Anew.{anew, drawn_for}
-use Rattle.rekey_core.specs.Like.{EachDrawn, IsAnew, KindLike}
+use Rattle.rekey_core.specs.Like.{IsAnew, KindLike}
+use Rattle.rekey_core.specs.Resealing.{EachDrawn}
 use Rattle.rekey_core.specs.Making.{store_anew}
 use Rattle.rekey_core.specs.Sealing.{BagSealed, ContentSealed}
 

@@ -13,7 +13,7 @@ use Rattle.p12.specs.declared.mac_data.MacData.{MacData}
 use Rattle.p12.specs.declared.pfx.PFX.{PFX}
 use Rattle.pkcs12_kdf.specs.Password.{bmp_password}
 use Rattle.rekey_core.specs.Change.{Changes}
-use Rattle.rekey_core.specs.Like.{EachDrawn}
+use Rattle.rekey_core.specs.Resealing.{EachDrawn}
 use Rattle.rekey_core.specs.Sealing.{ContentSealed}
 use Rattle.rekey_core.specs.Size.{changed_size}
 use Rattle.transfer.specs.Limits.{store_limit}

@@ -11,7 +11,8 @@ use Rattle.transfer.specs.Opening.{KeyOpens, all_shrouded, shrouded_among, shrou
 use Rattle.transfer.specs.declared.store.error.TransferError.{TransferError}
 use Rattle.transfer.specs.declared.store.error.TransferError.TheVariants.{TooLong, Memory}
 use Rattle.rekey_core.specs.Anew.{key_draws}
-use Rattle.rekey_core.specs.Like.{EachDrawn, FormLike, KindLike}
+use Rattle.rekey_core.specs.Like.{FormLike, KindLike}
+use Rattle.rekey_core.specs.Resealing.{EachDrawn}
 
 -- TooLong comes only where P holds, out of memory at any point, and nothing else.
 abbrev pub LongOnly : Type 0 → TransferError → Type 0

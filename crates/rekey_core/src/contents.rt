@@ -6,7 +6,7 @@ ghost use Rattle.p12.specs.Canonical.{content_canon, contents_canon};
 ghost use Rattle.p12.specs.Collected.{HoldsBags};
 ghost use Rattle.p12.specs.declared.safe_bag.SafeBag.{SafeBag};
 ghost use Rattle.rekey_core.specs.Anew.{content_draws};
-ghost use Rattle.rekey_core.specs.Like.{EachDrawn};
+ghost use Rattle.rekey_core.specs.Resealing.{EachDrawn};
 ghost use Rattle.rekey_core.specs.Sealing.{ContentSealed, ContentsSealed, LongOnly, Supplies, SuppliesAll, bags_draw};
 ghost use Rattle.rekey_core.specs.Size.{blank_content, blank_contents};
 
