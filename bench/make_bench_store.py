@@ -13,6 +13,7 @@ writes the store to STORE and its hexadecimal line to STORE.hex. The kinds:
     sealed NUMBER         a certificate of NUMBER octets under Triple DES, counts 1
     sealed-aes NUMBER     a certificate of NUMBER octets under AES-256 (PBES2, HMAC-SHA256), counts 1
     keys NUMBER           NUMBER private keys under Triple DES, counts 1
+    keys-aes NUMBER       ten private keys under AES-256 (PBES2, HMAC-SHA256) with NUMBER rounds, count 1 of the MAC
 """
 
 import os
@@ -83,6 +84,16 @@ def keys_store(number):
     return with_mac(make.sequence(make.data(make.sequence(*bags))))
 
 
+def aes_keys_store(rounds):
+    with open(os.path.join(HOME, "examples", "openssl-key", "key-0.der"), "rb") as file:
+        key = make.padded(file.read(), 16)
+    bags = []
+    for at in range(10):
+        parameters = at.to_bytes(8, "big"), rounds, None, HMAC_SHA256, AES_256_CBC, bytes(16)
+        bags.append(make.key_bag(make.pbes2(parameters), make.encrypt_pbes2(PASSWORD, parameters, key)))
+    return with_mac(make.sequence(make.data(make.sequence(*bags))))
+
+
 def store_of(kind, number):
     if kind == "plain":
         return of_length(number, lambda filling: plain_store(long_certificate(filling)))
@@ -100,6 +111,8 @@ def store_of(kind, number):
         return aes_store(of_length(number, long_certificate))
     if kind == "keys":
         return keys_store(number)
+    if kind == "keys-aes":
+        return aes_keys_store(number)
     sys.exit(__doc__)
 
 

@@ -34,6 +34,7 @@ lib/pkcs12/ask.sh 644
 lib/pkcs12/install.sh 644
 lib/pkcs12/made 644
 lib/pkcs12/pkcs12 755
+lib/pkcs12/terminal.sh 644
 share/bash-completion/completions/pkcs12 644
 share/man/man1/pkcs12.1 644'
 if [ -f "$home/crates/pkcs12_c/out/libpkcs12_c.a" ] && command -v "${CC:-cc}" >/dev/null; then
@@ -73,7 +74,7 @@ installed_asks() {
 holds the_installed_command_asks installed_asks
 # No path of this tree and no call of rt: what is installed stands alone.
 stands_alone() {
-    ! grep -rlF "$home" "$work/prefix" && ! grep -wE 'rt (all|run|check)' "$work/prefix/bin/pkcs12" "$work/prefix/lib/pkcs12/ask.sh"
+    ! grep -rlF "$home" "$work/prefix" && ! grep -wE 'rt (all|run|check)' "$work/prefix/bin/pkcs12" "$work/prefix/lib/pkcs12/ask.sh" "$work/prefix/lib/pkcs12/terminal.sh"
 }
 holds the_installed_command_knows_no_tree stands_alone
 installed_pages() {
@@ -197,9 +198,23 @@ not_writable() {
     mkdir -p "$work/copy/crates/pkcs12/out" && cp -r "$home/pkcs12" "$home/wrapper" "$home/docs" "$home/crates.txt" "$work/copy" &&
         cp "$home/crates/pkcs12/out/pkcs12" "$work/copy/crates/pkcs12/out" && chmod 755 "$work"
     refused 1 setpriv --reuid=65534 --regid=65534 --clear-groups "$work/copy/pkcs12" install "$work/closed" &&
-        [ -z "$(ls -A "$work/closed")" ]
+        [ -z "$(ls -A "$work/closed")" ] && grep -qF "$work/closed cannot be written" "$work/told" && ! grep -q 'building' "$work/told"
 }
 holds a_prefix_that_is_not_writable not_writable
+# Of another user: what is built there is installed, and nothing else is built.
+closed_tree() {
+    [ -d "$work/copy" ] || {
+        echo "skipped $name: only root can run as another user"
+        return 0
+    }
+    mkdir "$work/theirs" && chown 65534:65534 "$work/theirs"
+    status 0 setpriv --reuid=65534 --regid=65534 --clear-groups "$work/copy/pkcs12" install "$work/theirs/prefix" &&
+        grep -q '^without the library for C: ' "$work/told" && checks_a_store "$work/theirs/prefix/bin/pkcs12" || return 1
+    rm "$work/copy/crates/pkcs12/out/pkcs12"
+    refused 1 setpriv --reuid=65534 --regid=65534 --clear-groups "$work/copy/pkcs12" install "$work/theirs/another" &&
+        [ "$(ls "$work/theirs")" = prefix ] && [ "$(wc -l <"$work/told")" -eq 1 ]
+}
+holds a_tree_that_is_not_writable closed_tree
 full_disk() {
     mkdir -p "$work/full" && mount -t tmpfs -o size=200k none "$work/full" 2>/dev/null || {
         echo "skipped $name: no file system can be mounted here"

@@ -60,7 +60,10 @@ nothing_beside() {
 echo s3cret >"$work/one"
 echo 'a longer one' >"$work/two"
 printf '' >"$work/empty"
-"$PASSDB" --version >/dev/null # builds it, where it is not built
+# Builds the program where it is not built, and where it is older than a source.
+case $("$PASSDB" --version 2>&1 >/dev/null) in
+    *'the program is older than '*) "$PASSDB" build >&2 ;;
+esac
 
 # Adds the name $1 with few rounds.
 add() {
@@ -376,5 +379,63 @@ signal_while_asking() {
     [ "$code" -eq 130 ] && grep -q 'echo off while asking, on afterwards$' "$work/told"
 }
 holds echo_is_back_after_a_signal signal_while_asking
+end_of_input_at_the_question() {
+    asks --answer "$(printf '\004')" -- "$PASSDB" check "$file" bob
+    [ "$code" -eq 8 ] && grep -q '^passdb: PasswordMissing (8): ' "$work/told"
+}
+holds ctrl_d_gives_up end_of_input_at_the_question
+stopped_while_asked() {
+    command -v bash >/dev/null || {
+        echo "skipped $name: there is no bash"
+        return 0
+    }
+    echo typed-secret >"$work/typed"
+    ends 0 add "$file" gil --password-file "$work/typed" --rounds 1000 &&
+        "$home/tests/shared/stopped_at_terminal.py" "bash --norc --noprofile -i" "$PASSDB check $file gil --rounds 1000" >"$work/told"
+}
+holds echo_is_off_after_ctrl_z_and_fg stopped_while_asked
+# Before version 5.1 bash wrote here-documents to files of TMPDIR, as it does under this variable.
+no_file_of_a_password() {
+    command -v bash >/dev/null && [ -f "$home/passdb" ] || {
+        echo "skipped $name: there is no bash"
+        return 0
+    }
+    mkdir "$work/no_files" && chmod 555 "$work/no_files" || return 1
+    asks --answer 'typed-secret' -- env BASH_COMPAT=50 "TMPDIR=$work/no_files/none" bash "$PASSDB" check "$file" gil --rounds 1000
+    [ "$code" -eq 0 ]
+}
+holds no_password_in_a_file_of_TMPDIR no_file_of_a_password
+closed_standard_input() {
+    "$PASSDB" list "$file" <&- >"$work/said" 2>"$work/told" && grep -qx gil "$work/said"
+}
+holds closed_standard_input closed_standard_input
+few_descriptors() {
+    # shellcheck disable=SC2016
+    setsid -w sh -c 'ulimit -S -n 12 && exec sh "$@"' sh "$PASSDB" list "$file" </dev/null >"$work/said" 2>"$work/told" && grep -qx gil "$work/said"
+}
+holds few_descriptors few_descriptors
+
+# --- builds ---
+
+old_program() {
+    mkdir -p "$work/tree/crates/passdb_command/out" "$work/tree/crates/passdb_command/src" &&
+        cp -r "$home/passdb" "$home/wrapper" "$work/tree" && echo 'passdb_command:' >"$work/tree/crates.txt" &&
+        printf '#!/bin/sh\necho the program\n' >"$work/tree/crates/passdb_command/out/passdb_command" &&
+        chmod +x "$work/tree/crates/passdb_command/out/passdb_command" && sleep 0.01 &&
+        echo >"$work/tree/crates/passdb_command/src/main.rt" || return 1
+    "$work/tree/passdb" list users >"$work/said" 2>"$work/told" && grep -qx 'the program' "$work/said" && [ "$(wc -l <"$work/told")" -eq 1 ] &&
+        grep -q '^passdb: the program is older than crates/passdb_command/src/main.rt; ./passdb build ' "$work/told" || return 1
+    rm "$work/tree/crates/passdb_command/out/passdb_command"
+    code=0
+    PATH=/usr/bin:/bin "$work/tree/passdb" list users >"$work/said" 2>"$work/told" || code=$?
+    [ "$code" -eq 1 ] && grep -q '^passdb: BuildFailed (1): ' "$work/told"
+}
+holds a_copied_tree_is_run old_program
+wrong_build() {
+    code=0
+    "$home/passdb" build more >"$work/said" 2>"$work/told" || code=$?
+    [ "$code" -eq 2 ] && grep -q '^passdb: Usage (2): ' "$work/told"
+}
+holds build_takes_no_arguments wrong_build
 
 exit "$failed"

@@ -1,13 +1,10 @@
 # shellcheck shell=sh disable=SC2154 # names that the scripts set that source this
 # Runs $pkcs12_program with the arguments of the command, asks at the terminal for the passwords that it lacks, and ends with its
-# exit number. Sourced by ./pkcs12 and by the installed command; every variable has their prefix.
+# exit number. Sourced by ./pkcs12 and by the installed command, which set $pkcs12_scripts, the folder of this file.
 
-# The terminal, if there is one: standard input may be the store.
-pkcs12_terminal=
-if (: </dev/tty) 2>/dev/null; then
-    pkcs12_terminal=/dev/tty
-    export PKCS12_ASKING=yes
-fi
+# shellcheck source=wrapper/terminal.sh
+. "$pkcs12_scripts/terminal.sh"
+[ -z "$wrapper_terminal" ] || export PKCS12_ASKING=yes
 
 # What --out names, or with --in-place the store, and whether --force is given: for what a signal leaves of it.
 pkcs12_out=
@@ -69,15 +66,13 @@ tidy() {
     fi
 }
 
-pkcs12_settings=
 pkcs12_child=
 pkcs12_before=
 pkcs12_starting=
 # Gives the terminal its echo back, ends the program, and removes what it has begun to write. No further signal stops that.
 clean_up() {
     trap '' HUP INT QUIT TERM TSTP
-    [ -z "$pkcs12_settings" ] || stty "$pkcs12_settings" <"$pkcs12_terminal"
-    pkcs12_settings=
+    restore_terminal
     # The signal may have come when the program had been started and its number was not noted yet.
     [ -z "$pkcs12_starting" ] || [ "${!-}" = "$pkcs12_before" ] || pkcs12_child=$!
     if [ -n "$pkcs12_child" ]; then
@@ -97,68 +92,6 @@ trap 'end_by 1' HUP
 trap 'end_by 2' INT
 trap 'end_by 3' QUIT
 trap 'end_by 15' TERM
-
-# Turns the echo off and shows the question, at first and whenever the run goes on after it was stopped.
-pkcs12_question=
-show_question() {
-    pkcs12_continued=yes
-    stty -echo <"$pkcs12_terminal"
-    printf '%s: ' "$pkcs12_question" >"$pkcs12_terminal"
-}
-# Stops as Ctrl-Z asks for, with the echo on, since not every shell turns it on when it comes to the front again.
-stop_asking() {
-    stty "$pkcs12_settings" <"$pkcs12_terminal"
-    printf '\n' >"$pkcs12_terminal"
-    trap - TSTP CONT
-    kill -TSTP $$
-    catch_stops
-    show_question
-}
-# Whether the shell at the terminal waits for this very process. Where it waits for a script that has started this one, it is back
-# at the terminal as soon as that has stopped, and nobody else may set it.
-is_waited_for() {
-    pkcs12_line=
-    read -r pkcs12_line 2>/dev/null <"/proc/$$/stat" || :
-    # The name, which may have spaces, stands in parentheses; then come the state, the parent and the group.
-    # shellcheck disable=SC2086
-    set -- ${pkcs12_line##*) }
-    [ "${3-}" = $$ ]
-}
-catch_stops() {
-    trap show_question CONT
-    [ -z "$pkcs12_is_waited_for" ] || trap stop_asking TSTP
-}
-
-# Asks for a line with the words $1, without echo, and leaves it in $pkcs12_answered.
-ask() {
-    pkcs12_question=$1
-    pkcs12_settings=$(stty -g <"$pkcs12_terminal")
-    pkcs12_is_waited_for=
-    ! is_waited_for || pkcs12_is_waited_for=yes
-    catch_stops
-    show_question
-    pkcs12_read=
-    while [ -z "$pkcs12_read" ]; do
-        # Some shells end `read` when a signal was handled, and some go on with it.
-        pkcs12_continued=
-        pkcs12_answered=
-        if IFS= read -r pkcs12_answered <"$pkcs12_terminal"; then
-            pkcs12_read=line
-        elif [ -z "$pkcs12_continued" ]; then
-            pkcs12_read=end
-        fi
-    done
-    trap - TSTP CONT
-    stty "$pkcs12_settings" <"$pkcs12_terminal"
-    pkcs12_settings=
-    printf '\n' >"$pkcs12_terminal"
-    # Ctrl-D
-    [ "$pkcs12_read$pkcs12_answered" != end ] || give_up "no password was typed"
-}
-give_up() {
-    echo "pkcs12: PasswordMissing (8): $1" >&2
-    exit 8
-}
 
 # Runs the program with these arguments, and leaves its exit number in $pkcs12_status. What was asked for is handed over in
 # variables that only its own process has: a here-document may be a file of TMPDIR, and other users can read arguments.
@@ -197,15 +130,15 @@ case ${1-} in
 esac
 while :; do
     run "$@"
-    if [ "$pkcs12_status" -eq 8 ] && [ -n "$pkcs12_terminal" ] && [ -z "$pkcs12_has_password" ]; then
+    if [ "$pkcs12_status" -eq 8 ] && [ -n "$wrapper_terminal" ] && [ -z "$pkcs12_has_password" ]; then
         ask "Password of the store"
-        pkcs12_password=$pkcs12_answered
+        pkcs12_password=$wrapper_answered
         pkcs12_has_password=yes
-    elif [ "$pkcs12_status" -eq 9 ] && [ -n "$pkcs12_terminal" ] && [ -z "$pkcs12_has_new_password" ]; then
+    elif [ "$pkcs12_status" -eq 9 ] && [ -n "$wrapper_terminal" ] && [ -z "$pkcs12_has_new_password" ]; then
         ask "$pkcs12_new_question"
-        pkcs12_new_password=$pkcs12_answered
+        pkcs12_new_password=$wrapper_answered
         ask "The same again"
-        if [ "$pkcs12_answered" != "$pkcs12_new_password" ]; then
+        if [ "$wrapper_answered" != "$pkcs12_new_password" ]; then
             echo "pkcs12: PasswordUnusable (22): the two new passwords differ" >&2
             exit 22
         fi

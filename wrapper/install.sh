@@ -1,6 +1,6 @@
 # shellcheck shell=sh disable=SC2154 # names that the scripts set that source this
-# Installs the command below a prefix, and removes it again. Sourced by ./pkcs12, whose $pkcs12_home and $pkcs12_program it uses,
-# and for `uninstall` alone by the installed command.
+# Installs the command below a prefix, and removes it again. Sourced by ./pkcs12 after build.sh, and for `uninstall` alone by the
+# installed command.
 
 # The folders that `install` made, one a line, so that `uninstall` removes no other.
 pkcs12_made=lib/pkcs12/made
@@ -8,6 +8,7 @@ pkcs12_made=lib/pkcs12/made
 pkcs12_files='bin/pkcs12
 lib/pkcs12/pkcs12
 lib/pkcs12/ask.sh
+lib/pkcs12/terminal.sh
 lib/pkcs12/install.sh
 share/man/man1/pkcs12.1
 share/bash-completion/completions/pkcs12'
@@ -55,6 +56,17 @@ refuse_others() {
     done
 }
 
+# Refuses a prefix that nothing can be written below, before anything is built for it.
+refuse_closed() {
+    pkcs12_there=$pkcs12_top
+    while [ ! -e "$pkcs12_there" ] && [ ! -L "$pkcs12_there" ] && [ "${pkcs12_there%/*}" != "$pkcs12_there" ]; do
+        pkcs12_there=${pkcs12_there%/*}
+    done
+    pkcs12_there=${pkcs12_there:-/}
+    [ -d "$pkcs12_there" ] || not_installed "$pkcs12_there is no folder"
+    [ -w "$pkcs12_there" ] && [ -x "$pkcs12_there" ] || not_installed "$pkcs12_there cannot be written"
+}
+
 # Makes the folder $1 below the prefix, and notes each that was not there.
 make_folder() {
     [ ! -d "$pkcs12_top${1:+/$1}" ] || return 0
@@ -97,10 +109,10 @@ remove_folders() {
     done
 }
 
-# Leaves the library for C in $pkcs12_made_library, where it can be made here, and else says why it is not installed.
-make_library() {
-    pkcs12_made_library=
-    pkcs12_c=$pkcs12_home/crates/pkcs12_c
+# Builds the archive of the library for C where it can be built here, and else says why it is not installed.
+find_library() {
+    pkcs12_archive=
+    pkcs12_c=$wrapper_home/crates/pkcs12_c
     if ! command -v "${CC:-cc}" >/dev/null; then
         echo "without the library for C: there is no ${CC:-cc}" >&2
         return 0
@@ -110,8 +122,17 @@ make_library() {
             echo "without the library for C: it is not built, and rt of the Rattle kit is not there" >&2
             return 0
         fi
+        if [ ! -w "$wrapper_home/crates" ]; then
+            echo "without the library for C: it is not built, and $wrapper_home cannot be written" >&2
+            return 0
+        fi
         build_library
     fi
+    pkcs12_archive=yes
+}
+# Leaves it linked in $pkcs12_made_library.
+make_library() {
+    [ -n "$pkcs12_archive" ] || return 0
     pkcs12_made_library=$(mktemp -d)
     "$pkcs12_c/link/make_library.sh" "$pkcs12_made_library" || not_installed "the library for C could not be linked"
 }
@@ -128,12 +149,13 @@ stage_library() {
 
 # Each file of the installation, from its source.
 stage_all() {
-    stage 755 bin/pkcs12 cat "$pkcs12_home/wrapper/installed.sh"
+    stage 755 bin/pkcs12 cat "$wrapper_home/wrapper/installed.sh"
     stage 755 lib/pkcs12/pkcs12 cat "$pkcs12_program"
-    stage 644 lib/pkcs12/ask.sh cat "$pkcs12_home/wrapper/ask.sh"
-    stage 644 lib/pkcs12/install.sh cat "$pkcs12_home/wrapper/install.sh"
-    stage 644 share/man/man1/pkcs12.1 sed -e 's|\\&\./pkcs12|pkcs12|g' -e 's|\./pkcs12|pkcs12|g' "$pkcs12_home/docs/pkcs12.1"
-    stage 644 share/bash-completion/completions/pkcs12 cat "$pkcs12_home/docs/pkcs12.bash"
+    stage 644 lib/pkcs12/ask.sh cat "$wrapper_home/wrapper/ask.sh"
+    stage 644 lib/pkcs12/terminal.sh cat "$wrapper_home/wrapper/terminal.sh"
+    stage 644 lib/pkcs12/install.sh cat "$wrapper_home/wrapper/install.sh"
+    stage 644 share/man/man1/pkcs12.1 sed -e 's|\\&\./pkcs12|pkcs12|g' -e 's|\./pkcs12|pkcs12|g' "$wrapper_home/docs/pkcs12.1"
+    stage 644 share/bash-completion/completions/pkcs12 cat "$wrapper_home/docs/pkcs12.bash"
     stage_library
     pkcs12_old_folders=
     [ ! -f "$pkcs12_top/$pkcs12_made" ] || pkcs12_old_folders=$(cat -- "$pkcs12_top/$pkcs12_made")
@@ -144,7 +166,10 @@ stage_all() {
 install() {
     find_prefix "$@"
     refuse_others
+    refuse_closed
+    # These have traps of their own.
     [ -x "$pkcs12_program" ] || build
+    find_library
     umask 022
     pkcs12_staged=
     pkcs12_new_folders=

@@ -3,16 +3,18 @@
 set -eu
 # A shell needs more descriptors than the program does.
 [ "$(ulimit -n)" -ge 20 ] || ulimit -S -n 20 || :
-# Every variable here has this prefix, since any other may be one that --password-env names.
-unset PKCS12_ASKING pkcs12_password pkcs12_new_password pkcs12_answered
+# Every variable here begins with pkcs12_ or wrapper_, since any other may be one that --password-env names.
+unset PKCS12_ASKING pkcs12_password pkcs12_new_password wrapper_answered
+wrapper_name=pkcs12
 
 pkcs12_self=$(readlink -f -- "$0")
 pkcs12_prefix=${pkcs12_self%/bin/*}
-pkcs12_program=$pkcs12_prefix/lib/pkcs12/pkcs12
+pkcs12_scripts=$pkcs12_prefix/lib/pkcs12
+pkcs12_program=$pkcs12_scripts/pkcs12
 if [ "${1-}" = uninstall ]; then
-    . "$pkcs12_prefix/lib/pkcs12/install.sh"
+    . "$pkcs12_scripts/install.sh"
     [ $# -eq 1 ] || wrong_use "$0 uninstall removes itself, and takes no arguments"
     uninstall "$pkcs12_prefix"
     exit 0
 fi
-. "$pkcs12_prefix/lib/pkcs12/ask.sh"
+. "$pkcs12_scripts/ask.sh"

@@ -6,7 +6,7 @@ use std::alloc::{AllocError, Global};
 const NOTES: &str = "\
 A password is never an argument, since other users can read those. Without any of its options, ./passdb asks for it
 at a terminal. Of a file, its first line is the password, without LF or CR LF; /dev/fd/3 and other pipes work;
-./passdb uses descriptors 7, 8 and 9 itself.";
+./passdb uses descriptor 7 itself.";
 
 /// What is under the whole help.
 const AFTER: &str = "\
@@ -20,6 +20,8 @@ Examples:
   ./passdb change users ann --password-file old --new-password-file new
   ./passdb remove users ann
   ./passdb list users
+
+The script ./passdb has a subcommand of its own: build.
 
 Exit numbers:
    0  Done                done; of check, the password is that of the name
