@@ -312,6 +312,16 @@ for wrong, number in (("\udcff", 22), ("x" * 2000, 0)):
     except pkcs12.Refused as refused:
         assert refused.number == number
 END
+    # the same from C, in one step
+    built rekey "$sanitized" "$archive" && built open "$sanitized" "$archive" || return 1
+    for store in "$keyed:$keyed_password" "$work/short.p12:$work/p" "$work/nothing.p12:$work/p"; do
+        "$work/rekey" "${store%:*}" "${store#*:}" "$work/new" >"$work/changed" 2>"$work/told" &&
+            "$work/open" "$work/changed" "$work/new" >"$work/text" 2>"$work/told" &&
+            "$work/open" "${store%:*}" "${store#*:}" 2>"$work/told" | cmp - "$work/text" || return 1
+    done
+    code=0
+    "$work/rekey" "$keyed" "$work/new" "$work/new" >"$work/changed" 2>"$work/told" || code=$?
+    [ "$code" -eq 16 ] && [ ! -s "$work/changed" ] || return 1
     ! have_openssl "$name" || {
         openssl pkcs12 -in "$work/openssl-key.rekeyed" -passin "pass:$(printf 'n\303\246w')" -nodes -nocerts 2>"$work/told" |
             openssl pkey -outform DER 2>"$work/told" >"$work/key.der" &&

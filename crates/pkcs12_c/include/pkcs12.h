@@ -127,8 +127,8 @@ uint32_t pkcs12_rekey(
 
 /* ---- The same in one step, on the C side: written in C, and no part of what is proved.
  *
- * Define PKCS12_ONE_STEP before this header is included. On PKCS12_DONE *text is from malloc and has a NUL after its *len
- * octets: free it. Else *text is NULL. The random octets are the system's. */
+ * Define PKCS12_ONE_STEP before this header is included. On PKCS12_DONE *text, or *changed, is from malloc and has a NUL after
+ * its *len octets: free it. Else it is NULL. The random octets are the system's. */
 #ifdef PKCS12_ONE_STEP
 #include <stdlib.h>
 #include <sys/random.h>
@@ -149,6 +149,19 @@ static inline int pkcs12_random(uint8_t *at, size_t len)
     return 1;
 }
 
+/* What a call wrote, handed on with a NUL after it, or its output freed. The result is the number that the caller returns. */
+static inline uint32_t pkcs12_handed_on(uint32_t number, uint8_t *output, size_t needed, uint8_t **octets, size_t *len)
+{
+    if (number == PKCS12_DONE) {
+        output[needed] = 0;
+        *octets = output;
+        *len = needed;
+    } else {
+        free(output);
+    }
+    return number;
+}
+
 static inline uint32_t pkcs12_transfer_pem_new(
     const uint8_t *store, size_t store_len,
     const uint8_t *password, size_t password_len,
@@ -157,7 +170,8 @@ static inline uint32_t pkcs12_transfer_pem_new(
 {
     /* a private key takes more than 32 octets of a store, so there are enough random octets */
     size_t room = 2 * store_len + 4096, random_len = store_len + 32, needed = 0;
-    uint32_t answer;
+    uint8_t *octets = NULL;
+    uint32_t number;
     *text = NULL;
     *len = 0;
     if (store_len > PKCS12_STORE_MAX)
@@ -165,23 +179,18 @@ static inline uint32_t pkcs12_transfer_pem_new(
     do {
         uint8_t *random = (uint8_t *)malloc(random_len), *output = (uint8_t *)malloc(room + 1);
         if (!random || !output)
-            answer = PKCS12_MEMORY;
+            number = PKCS12_MEMORY;
         else if (!pkcs12_random(random, random_len))
-            answer = PKCS12_RANDOM_SHORT;
+            number = PKCS12_RANDOM_SHORT;
         else
-            answer = pkcs12_transfer_pem(store, store_len, password, password_len, new_password, new_password_len, rounds,
+            number = pkcs12_transfer_pem(store, store_len, password, password_len, new_password, new_password_len, rounds,
                 limit, random, random_len, output, room, &needed);
         free(random);
-        if (answer == PKCS12_DONE) {
-            output[needed] = 0;
-            *text = (char *)output;
-            *len = needed;
-        } else {
-            free(output);
-            room = needed;
-        }
-    } while (answer == PKCS12_ROOM);
-    return answer;
+        number = pkcs12_handed_on(number, output, needed, &octets, len);
+        room = needed;
+    } while (number == PKCS12_ROOM);
+    *text = (char *)octets;
+    return number;
 }
 
 static inline uint32_t pkcs12_open_pem_new(
@@ -190,7 +199,8 @@ static inline uint32_t pkcs12_open_pem_new(
     uint64_t limit, char **text, size_t *len)
 {
     size_t room = 2 * store_len + 4096, needed = 0;
-    uint32_t answer;
+    uint8_t *octets = NULL;
+    uint32_t number;
     *text = NULL;
     *len = 0;
     if (store_len > PKCS12_STORE_MAX)
@@ -198,19 +208,70 @@ static inline uint32_t pkcs12_open_pem_new(
     do {
         uint8_t *output = (uint8_t *)malloc(room + 1);
         if (!output)
-            answer = PKCS12_MEMORY;
+            number = PKCS12_MEMORY;
         else
-            answer = pkcs12_open_pem(store, store_len, password, password_len, limit, output, room, &needed);
-        if (answer == PKCS12_DONE) {
-            output[needed] = 0;
-            *text = (char *)output;
-            *len = needed;
-        } else {
-            free(output);
-            room = needed;
-        }
-    } while (answer == PKCS12_ROOM);
-    return answer;
+            number = pkcs12_open_pem(store, store_len, password, password_len, limit, output, room, &needed);
+        number = pkcs12_handed_on(number, output, needed, &octets, len);
+        room = needed;
+    } while (number == PKCS12_ROOM);
+    *text = (char *)octets;
+    return number;
+}
+
+static inline uint32_t pkcs12_list_new(
+    const uint8_t *store, size_t store_len,
+    const uint8_t *password, size_t password_len,
+    uint64_t limit, char **text, size_t *len)
+{
+    /* chains may be long, so a table can be longer than each multiple of the store: then the call is made again */
+    size_t room = 2 * store_len + 4096, needed = 0;
+    uint8_t *octets = NULL;
+    uint32_t number;
+    *text = NULL;
+    *len = 0;
+    if (store_len > PKCS12_STORE_MAX)
+        return PKCS12_TOO_LONG;
+    do {
+        uint8_t *output = (uint8_t *)malloc(room + 1);
+        if (!output)
+            number = PKCS12_MEMORY;
+        else
+            number = pkcs12_list(store, store_len, password, password_len, limit, output, room, &needed);
+        number = pkcs12_handed_on(number, output, needed, &octets, len);
+        room = needed;
+    } while (number == PKCS12_ROOM);
+    *text = (char *)octets;
+    return number;
+}
+
+/* The changed store is octets and no text; there is a NUL after them all the same. */
+static inline uint32_t pkcs12_rekey_new(
+    const uint8_t *store, size_t store_len,
+    const uint8_t *password, size_t password_len,
+    const uint8_t *new_password, size_t new_password_len,
+    uint64_t limit, uint8_t **changed, size_t *len)
+{
+    /* each part that is sealed, and the MAC, takes more than 32 octets of a store, so there are enough random octets */
+    size_t room = 2 * store_len + 4096, random_len = store_len + 32, needed = 0;
+    uint32_t number;
+    *changed = NULL;
+    *len = 0;
+    if (store_len > PKCS12_STORE_MAX)
+        return PKCS12_TOO_LONG;
+    do {
+        uint8_t *random = (uint8_t *)malloc(random_len), *output = (uint8_t *)malloc(room + 1);
+        if (!random || !output)
+            number = PKCS12_MEMORY;
+        else if (!pkcs12_random(random, random_len))
+            number = PKCS12_RANDOM_SHORT;
+        else
+            number = pkcs12_rekey(store, store_len, password, password_len, new_password, new_password_len, limit, random,
+                random_len, output, room, &needed);
+        free(random);
+        number = pkcs12_handed_on(number, output, needed, changed, len);
+        room = needed;
+    } while (number == PKCS12_ROOM);
+    return number;
 }
 #endif
 
