@@ -23,15 +23,21 @@ static size_t read_file(const char *path, uint8_t *to, size_t room)
     return len;
 }
 
+/* The octets before the line's end. */
+static inline size_t line_len(const uint8_t *octets, size_t len)
+{
+    while (len && (octets[len - 1] == '\n' || octets[len - 1] == '\r'))
+        len--;
+    return len;
+}
+
 /* The arguments of the program: STORE PASSWORD-FILE. */
 static void read_inputs(int argc, char **argv)
 {
     if (argc < 3)
         exit(3);
     store_len = read_file(argv[1], store, sizeof store);
-    password_len = read_file(argv[2], password, sizeof password);
-    while (password_len && (password[password_len - 1] == '\n' || password[password_len - 1] == '\r'))
-        password_len--;
+    password_len = line_len(password, read_file(argv[2], password, sizeof password));
 }
 
 static inline uint32_t transferred(uint8_t *output, size_t room, size_t *needed)
