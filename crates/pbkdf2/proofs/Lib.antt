@@ -3,3 +3,4 @@ pub mod Pieces
 pub mod Written
 pub mod Counts
 pub mod OneReading
+mod LaneKeys

@@ -3,3 +3,4 @@ pub mod Settings
 pub mod Algorithm
 pub mod Params
 pub mod Hashes
+pub mod Lanes

@@ -5,6 +5,7 @@ mod algorithm;
 mod block;
 mod derivation;
 mod hasher;
+mod lanes;
 pub mod laws;
 mod params;
 mod params_text;
@@ -19,6 +20,7 @@ pub mod phc {
 pub use algorithm::Algorithm;
 pub use derivation::{pbkdf2, pbkdf2_array, pbkdf2_counted};
 pub use hasher::Pbkdf2;
+pub use lanes::{PasswordAndSalt, pbkdf2_hmac_sha256_four};
 pub use params::Params;
 pub use phc_core::{PasswordHasher, PasswordVerifier};
 pub use with_hmac::{pbkdf2_hmac, pbkdf2_hmac_array, pbkdf2_hmac_counted, pbkdf2_hmac_with_params};

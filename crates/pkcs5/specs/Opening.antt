@@ -47,6 +47,10 @@ unfoldable pub derived : Kdf → List ℕ → ℕ → List ℕ
 derived (Pbkdf2 p) q n = pbkdf2 (prf_of p.prf q) (prf_output p.prf) p.salt p.iteration_count n
 derived (Scrypt p) q n = scrypt q p.salt p.cost_parameter p.block_size p.parallelization n
 
+-- the key of 32 octets that PBKDF2 over HMAC-SHA-256 derives from the password q
+abbrev pub sha256_key : ℕ → List ℕ → List ℕ → List ℕ
+sha256_key rounds q salt = pbkdf2 (hmac sha256 64 q) 32 salt rounds 32
+
 -- scrypt takes the costs: the first is a power of two, and they are within the bounds
 abbrev pub TakesCosts : Kdf → Type 0
 TakesCosts (Pbkdf2 p) = ⊤

@@ -80,6 +80,12 @@ RefusesUnder cipher n room (errors.UnsupportedAlgorithm o) = (oid_octets o ≡ d
 RefusesUnder cipher n room errors.EncryptFailed = ¬ IsDes cipher × (room < ciphertext_size cipher n)
 RefusesUnder cipher n room e = ⊥
 
+-- under a key in memory of its own: the cipher is DES, or there is no memory
+abbrev pub RefusesUnderIn : EncryptionScheme → Error → Type 0
+RefusesUnderIn cipher (errors.UnsupportedAlgorithm o) = (oid_octets o ≡ des_cbc_oid) × IsDes cipher
+RefusesUnderIn cipher errors.Memory = ⊤
+RefusesUnderIn cipher e = ⊥
+
 -- no text is encrypted: the function gives no key for the cipher, or then the cipher is DES
 abbrev pub RefusesToEncrypt : Parameters → Error → Type 0
 RefusesToEncrypt par (errors.UnsupportedAlgorithm o) = FitsKey par × (oid_octets o ≡ des_cbc_oid) × IsDes par.encryption

@@ -1,10 +1,10 @@
 //! Encrypting private keys.
-ghost use Rattle.std.specs.Prelude.{◌≡◌, ◌≤◌, ◌⊎◌, length, None, IfOk, IfErr, OnOk};
+ghost use Rattle.std.specs.Prelude.{◌≡◌, ◌≤◌, ◌⊎◌, ℕ, List, length, None, IfOk, IfErr, OnOk};
 ghost use Rattle.asn1_core.specs.Writing.{Cause, IsOverlong};
 ghost use Rattle.octet_core.specs.Draw.{DrawsIvAndSalt, Lacks};
 ghost use Rattle.pkcs5.specs.Generation.{recommended};
-ghost use Rattle.pkcs5.specs.Kinds.{IsDes};
-ghost use Rattle.pkcs5.specs.Opening.{FitsKey};
+ghost use Rattle.pkcs5.specs.Kinds.{IsDes, key_size};
+ghost use Rattle.pkcs5.specs.Opening.{FitsKey, key_under};
 ghost use Rattle.pkcs5.specs.declared.encryption_scheme.EncryptionScheme.TheVariants.{Pbes2};
 ghost use Rattle.pkcs8.specs.EncryptedPrivateKeyInfo.{encrypted_key_text};
 ghost use Rattle.pkcs8.specs.Sealing.{IsSealed, RefusesToEncryptDrawn, RefusesToEncryptKey, RefusesToSeal, RefusesToSealDrawn};
@@ -59,6 +59,30 @@ pub(crate) fn seal(
     ensures err { IfErr result (λ e. RefusesToSeal parameters password.now text.now e) }
 {
     let ciphertext = match parameters.encrypt(alloc, password, text) {
+        Ok(ciphertext) => ciphertext,
+        Err(e) => return Err(Error::from(e)),
+    };
+    match document_of(alloc, parameters, ciphertext.as_slice()) {
+        Ok(document) => Ok(document),
+        Err(e) => Err(Error::from(e)),
+    }
+}
+
+/// The document of a text under a key that was derived already, with these parameters of PBES2.
+fn seal_under_key(
+    alloc: Global,
+    parameters: pbes2::Parameters,
+    key: &pbes2::EncryptionKey,
+    text: &[u8],
+) -> Result<SecretDocument>
+    requires { length key.now ≡ key_size parameters.encryption }
+    ensures ok { IfOk result (λ d. (q : List ℕ) → key.now ≡ key_under parameters q
+        → IsSealed parameters q text.now d.document.octets) }
+    ensures other_than_des { OnOk result (¬ IsDes parameters.encryption) }
+    ensures err { IfErr result (λ e. (q : List ℕ) → FitsKey parameters
+        → key.now ≡ key_under parameters q → RefusesToSeal parameters q text.now e) }
+{
+    let ciphertext = match parameters.encrypt_under_key(alloc, key, text) {
         Ok(ciphertext) => ciphertext,
         Err(e) => return Err(Error::from(e)),
     };
@@ -171,6 +195,36 @@ impl<Params: Encode, Key: Encode, PubKey: BitStringLike> PrivateKeyInfo<Params, 
     {
         match self.to_der(alloc) {
             Ok(text) => seal(alloc, params, password, text.as_slice()),
+            Err(e) => Err(Error::from(e)),
+        }
+    }
+
+    /// `encrypt_with_params` under a key that was derived already, as `pbes2::EncryptionKey::derive_each_pbkdf2_sha256`
+    /// derives several at once: the document is that of the password from which these parameters derive the key.
+    ///
+    /// `Asn1(Malformed)` exactly where a part of the key has no text. Then `EncryptedPrivateKey` only where the cipher
+    /// is DES. `Asn1(Overlength)` only where the key's text or the document would have more than 2^32 - 1 octets. And
+    /// `Memory`. Caller: the derived key has the length of the cipher's keys.
+    pub fn encrypt_with_key(
+        &self,
+        alloc: Global,
+        params: pbes2::Parameters,
+        key: &pbes2::EncryptionKey,
+    ) -> Result<SecretDocument>
+        requires { length key.now ≡ key_size params.encryption }
+        ensures ok { IfOk result (λ d. (q : List ℕ) → key.now ≡ key_under params q
+            → IsSealed params q
+            (⟦<PrivateKeyInfo<Params, Key, PubKey> as Encode>⟧.canon self.now) d.document.octets) }
+        ensures other_than_des { OnOk result (¬ IsDes params.encryption) }
+        ensures lawful { OnOk result
+            (⟦<PrivateKeyInfo<Params, Key, PubKey> as Encode>⟧.writable self.now) }
+        ensures err { IfErr result (λ e. (q : List ℕ) → FitsKey params
+            → key.now ≡ key_under params q → RefusesToEncryptKey
+            (⟦<PrivateKeyInfo<Params, Key, PubKey> as Encode>⟧.writable self.now) params q
+            (⟦<PrivateKeyInfo<Params, Key, PubKey> as Encode>⟧.canon self.now) e) }
+    {
+        match self.to_der(alloc) {
+            Ok(text) => seal_under_key(alloc, params, key, text.as_slice()),
             Err(e) => Err(Error::from(e)),
         }
     }

@@ -1,14 +1,22 @@
 -- Drawn octets, and documents sealed under them.
-use Rattle.std.proofs.Common.{ℕ, ◌≡◌, ◌+◌, ◌≤◌, ◌<◌, List, [], ◌∷◌, ◌++◌, length, refl, sym, ap, ◌∙◌, arith, subst, take, get_or}
-use Rattle.std.specs.Prelude.{Option, Some, None, IfSome, Result, Ok, Err, IfOk}
+use Rattle.std.proofs.Common.{ℕ, ◌≡◌, ◌+◌, ◌*◌, ◌≤◌, ◌<◌, suc, List, [], ◌∷◌, ◌++◌, length, refl, sym, ap, ◌∙◌, arith, subst, take, get_or}
+use Rattle.std.specs.Prelude.{All, Option, Some, None, IfSome, Result, Ok, Err, IfOk}
 use Rattle.std.specs.Io.KnownBytes.{Consumes}
-use Rattle.std.proofs.lemmas.List.{append_assoc, append-nil, length-append}
+use Rattle.std.proofs.lemmas.List.{append_assoc, append-nil, get_or-map, length-append, length-map}
 use Rattle.pkcs5.specs.declared.pbes2.parameters.Parameters.{Parameters}
 use Rattle.pkcs8.specs.Sealing.{IsSealed}
 use Rattle.transfer.specs.declared.store.error.TransferError.{TransferError}
 use Rattle.transfer.specs.declared.store.key_text.OpenedKey.{OpenedKey}
-use Rattle.transfer.specs.Document.{IsDocument}
-use Rattle.transfer.specs.Sealing.{AreDrawn, IsDrawn, Seals, SealsAll}
+use Rattle.transfer.specs.Document.{IsDocument, document_key}
+use Rattle.transfer.specs.declared.store.seal.IvAndSalt.{IvAndSalt}
+use Rattle.mac_modes.specs.Hmac.{hmac}
+use Rattle.mac_modes.specs.HmacLaws.{length-hmac}
+use Rattle.pbkdf2.proofs.Xors.{has_its_length}
+use Rattle.sha2.specs.Sha256.{sha256}
+use Rattle.sha2.proofs.Facts256.{length-sha256}
+use Rattle.std.proofs.lemmas.Grind.{flat_map-append}
+use Rattle.std.proofs.lemmas.List.Elements.{All-head, All-tail}
+use Rattle.transfer.specs.Sealing.{AreDrawn, AreOf16, IsDrawn, SealsAll, document_keys, octets_of}
 use Rattle.transfer.specs.InPlace.{texts_of}
 use Rattle.transfer.proofs.Faults.{take_one}
 use Rattle.transfer.proofs.Overwriting.{map_more}
@@ -27,16 +35,6 @@ pub sealed_as : (par pas : Parameters) (q m n b c : List ℕ) → par ≡ pas �
 sealed_as par pas q m n b c same text is s =
     subst (λ x. IsSealed pas q n x) (sym is) (subst (λ x. IsSealed pas q x b) text (subst (λ x. IsSealed x q m b) same s))
 
--- A document under 16 octets drawn as IV and 16 more as salt.
-pub seals : (r : Result (List ℕ) TransferError) (rounds : ℕ) (q iv salt : List ℕ) (old mid new : Option (List ℕ)) (text : List ℕ) → length iv ≡ 16 → length salt ≡ 16
-    → Consumes old mid iv → Consumes mid new salt → IfOk r (λ d. IsDocument d rounds iv salt q text) → IfOk r (λ d. Seals rounds q old new text d)
-seals (Ok d) rounds q iv salt old mid new text of and first second h = record {
-  drawn = iv ++ salt;
-  by = record { iv = iv; salt = salt; are = refl; of_16 = of; and_16 = and; is = h };
-  took = consumes_more old mid new iv salt first second;
-}
-seals (Err e) rounds q iv salt old mid new text of and first second h = tt
-
 -- One more key after those that are sealed.
 pub sealed_append : (rounds : ℕ) (q : List ℕ) (ks : List (List ℕ)) (bs : List (List ℕ)) (k : List ℕ) (b d drawn : List ℕ)
     → AreDrawn rounds q ks bs d → IsDrawn rounds q drawn k b → AreDrawn rounds q (ks ++ k ∷ []) (bs ++ b ∷ []) (d ++ drawn)
@@ -46,20 +44,72 @@ sealed_append rounds q (j ∷ ks) [] k b d drawn a s = absurd a
 sealed_append rounds q (j ∷ ks) (c ∷ bs) k b d drawn a s =
     (a.0, a.1 ++ drawn, ap (λ t. t ++ drawn) a.2 ∙ append_assoc a.0 a.1 drawn, a.3, sealed_append rounds q ks bs k b a.1 drawn a.4 s)
 
-pub sealed_more : (rounds : ℕ) (q : List ℕ) (first old new : Option (List ℕ)) (keys : List OpenedKey) (i : ℕ) (key : OpenedKey) (bs : List (List ℕ)) (b : List ℕ)
-    → i < length keys → key ≡ get_or keys i key → SealsAll rounds q first old (texts_of (take i keys)) bs → Seals rounds q old new key.text.now b
-    → SealsAll rounds q first new (texts_of (take (i + 1) keys)) (bs ++ b ∷ [])
-sealed_more rounds q first old new keys i key bs b lt at a s =
-    let front = texts_of (take i keys) in
-    let more : texts_of (take (i + 1) keys) ≡ front ++ key.text.now ∷ [] = ap texts_of (take_one keys i key lt at) ∙ map_more (λ (k : OpenedKey). k.text.now) (take i keys) key in
-    let longer : length (texts_of (take (i + 1) keys)) ≡ length front + 1 = ap length more ∙ length-append front (key.text.now ∷ []) in
-    record {
-      drawn = a.drawn ++ s.drawn;
-      by = subst (λ t. AreDrawn rounds q t (bs ++ b ∷ []) (a.drawn ++ s.drawn)) (sym more) (sealed_append rounds q front bs key.text.now b a.drawn s.drawn a.by s.by);
-      took = consumes_more first old new a.drawn s.drawn a.took s.took;
-      each_one = omega (arith, a.each_one, longer, length-append bs (b ∷ []));
-      each_32 = omega (arith, a.each_32, longer, length-append a.drawn s.drawn, sealed_length rounds q s.drawn key.text.now b s.by);
-    }
+-- The octets of one more IV and salt come after the others.
+octets_more : (ds : List IvAndSalt) (d : IvAndSalt) → octets_of (ds ++ d ∷ []) ≡ octets_of ds ++ (d.iv ++ d.salt)
+octets_more ds d = flat_map-append (λ (d : IvAndSalt). d.iv ++ d.salt) ds (d ∷ []) ∙ ap (λ t. octets_of ds ++ t) (append-nil (d.iv ++ d.salt))
+
+pub drawn_more : (first old new : Option (List ℕ)) (ds : List IvAndSalt) (d : IvAndSalt) → Consumes first old (octets_of ds) → Consumes old new (d.iv ++ d.salt)
+    → Consumes first new (octets_of (ds ++ d ∷ []))
+drawn_more first old new ds d a b = subst (Consumes first new) (sym (octets_more ds d)) (consumes_more first old new (octets_of ds) (d.iv ++ d.salt) a b)
+
+-- 32 octets of each
+pub length-octets_of : (ds : List IvAndSalt) → All AreOf16 ds → length (octets_of ds) ≡ 32 * length ds
+length-octets_of [] h = refl
+length-octets_of (d ∷ ds) h =
+    let of = All-head AreOf16 d ds h in
+    omega (arith, length-append (d.iv ++ d.salt) (octets_of ds), length-append d.iv d.salt, of.0, of.1, length-octets_of ds (All-tail AreOf16 d ds h))
+
+-- The key at a place is sealed under the IV and the salt at that place.
+pub sealed_next : (rounds : ℕ) (q : List ℕ) (keys : List OpenedKey) (i : ℕ) (key : OpenedKey) (ds : List IvAndSalt) (d : IvAndSalt) (bs : List (List ℕ)) (b : List ℕ)
+    → i < length keys → i < length ds → key ≡ get_or keys i key → d ≡ get_or ds i d → All AreOf16 ds
+    → AreDrawn rounds q (texts_of (take i keys)) bs (octets_of (take i ds)) → IsDocument b rounds d.iv d.salt q key.text.now
+    → AreDrawn rounds q (texts_of (take (i + 1) keys)) (bs ++ b ∷ []) (octets_of (take (i + 1) ds))
+sealed_next rounds q keys i key ds d bs b lt less at there all a h =
+    let of = subst AreOf16 (sym there) (all i d less) in
+    let drawn : IsDrawn rounds q (d.iv ++ d.salt) key.text.now b = record { iv = d.iv; salt = d.salt; are = refl; of_16 = of.0; and_16 = of.1; is = h } in
+    let keys_more : texts_of (take (i + 1) keys) ≡ texts_of (take i keys) ++ key.text.now ∷ [] =
+    ap texts_of (take_one keys i key lt at) ∙ map_more (λ (k : OpenedKey). k.text.now) (take i keys) key in
+    let drawn_more : octets_of (take (i + 1) ds) ≡ octets_of (take i ds) ++ (d.iv ++ d.salt) = ap octets_of (take_one ds i d less there) ∙ octets_more (take i ds) d in
+    subst (λ t. AreDrawn rounds q t (bs ++ b ∷ []) (octets_of (take (i + 1) ds))) (sym keys_more)
+    (subst (AreDrawn rounds q (texts_of (take i keys) ++ key.text.now ∷ []) (bs ++ b ∷ [])) (sym drawn_more)
+    (sealed_append rounds q (texts_of (take i keys)) bs key.text.now b (octets_of (take i ds)) (d.iv ++ d.salt) a drawn))
+
+-- As many documents as keys.
+drawn_each : (rounds : ℕ) (q : List ℕ) (ks bs : List (List ℕ)) (d : List ℕ) → AreDrawn rounds q ks bs d → length bs ≡ length ks
+drawn_each rounds q [] [] d a = refl
+drawn_each rounds q [] (b ∷ bs) d a = absurd a
+drawn_each rounds q (k ∷ ks) [] d a = absurd a
+drawn_each rounds q (k ∷ ks) (b ∷ bs) d a = ap suc (drawn_each rounds q ks bs a.1 a.4)
+
+-- What is drawn at first and then sealed is sealed under the octets of the draw.
+sealed_all : (rounds : ℕ) (q : List ℕ) (old new : Option (List ℕ)) (keys : List OpenedKey) (ds : List IvAndSalt) (bs : List (List ℕ)) → All AreOf16 ds
+    → length ds ≡ length keys → Consumes old new (octets_of ds) → AreDrawn rounds q (texts_of keys) bs (octets_of ds) → SealsAll rounds q old new (texts_of keys) bs
+sealed_all rounds q old new keys ds bs of many took by = record {
+  drawn = octets_of ds;
+  by = by;
+  took = took;
+  each_one = drawn_each rounds q (texts_of keys) bs (octets_of ds) by;
+  each_32 = omega (arith, length-octets_of ds of, many, length-map keys (λ (k : OpenedKey). k.text.now));
+}
+
+-- The same of a result, under the keys that were derived for it.
+pub sealed_if : (r : Result (List (List ℕ)) TransferError) (rounds : ℕ) (q : List ℕ) (old new : Option (List ℕ)) (keys : List OpenedKey) (ds : List IvAndSalt)
+    (derived : List (List ℕ)) → All AreOf16 ds → length ds ≡ length keys → Consumes old new (octets_of ds) → derived ≡ document_keys rounds q ds
+    → IfOk r (λ bs. (q : List ℕ) → derived ≡ document_keys rounds q ds → AreDrawn rounds q (texts_of keys) bs (octets_of ds))
+    → IfOk r (λ bs. SealsAll rounds q old new (texts_of keys) bs)
+sealed_if (Ok bs) rounds q old new keys ds derived of many took e h = sealed_all rounds q old new keys ds bs of many took (h q e)
+sealed_if (Err f) rounds q old new keys ds derived of many took e h = tt
+
+-- The key of a document has 32 octets.
+pub length-document_key : (rounds : ℕ) (salt q : List ℕ) → length (document_key rounds salt q) ≡ 32
+length-document_key rounds salt q = has_its_length (hmac sha256 64 q) 32 salt rounds 32 (omega arith) (length-hmac sha256 64 32 length-sha256 q)
+
+-- The key at a place is that of the salt there.
+pub key_at : (rounds : ℕ) (q : List ℕ) (ds : List IvAndSalt) (keys : List (List ℕ)) (i : ℕ) (d : IvAndSalt) (key : List ℕ) → i < length ds
+    → keys ≡ document_keys rounds q ds → key ≡ get_or keys i key → d ≡ get_or ds i d → key ≡ document_key rounds d.salt q
+key_at rounds q ds keys i d key lt e at there =
+    at ∙ ap (λ ks. get_or ks i key) e ∙ get_or-map (λ (d : IvAndSalt). document_key rounds d.salt q) ds i d key lt
+    ∙ ap (λ (d : IvAndSalt). document_key rounds d.salt q) (sym there)
 
 -- What was drawn is no more than was left.
 pub took_least : (old new : Option (List ℕ)) (drawn : List ℕ) (n : ℕ) → Consumes old new drawn → length drawn ≡ n → IfSome old (λ d. n ≤ length d)

@@ -1,7 +1,21 @@
 -- Documents under drawn octets, one for each private key.
-use Rattle.std.specs.Prelude.{ℕ, ◌+◌, ◌*◌, ◌<◌, ◌≡◌, List, [], ◌∷◌, ◌++◌, length, take, drop, get_or, Option}
+use Rattle.std.specs.Prelude.{ℕ, ◌+◌, ◌*◌, ◌<◌, ◌≡◌, List, [], ◌∷◌, ◌++◌, length, map, take, drop, get_or, Option}
+use Rattle.std.specs.List.{flat_map}
 use Rattle.std.specs.Io.KnownBytes.{Consumes}
-use Rattle.transfer.specs.Document.{IsDocument}
+use Rattle.transfer.specs.Document.{IsDocument, document_key}
+use Rattle.transfer.specs.declared.store.seal.IvAndSalt.{IvAndSalt}
+
+-- The IV and the salt have 16 octets each.
+abbrev pub AreOf16 : IvAndSalt → Type 0
+AreOf16 d = (length d.iv ≡ 16) × (length d.salt ≡ 16)
+
+-- the octets of IVs and salts in the order in which they are drawn
+abbrev pub octets_of : List IvAndSalt → List ℕ
+octets_of drawn = flat_map (λ d. d.iv ++ d.salt) drawn
+
+-- the keys of documents under the password q
+abbrev pub document_keys : ℕ → List ℕ → List IvAndSalt → List (List ℕ)
+document_keys rounds q drawn = map (λ d. document_key rounds d.salt q) drawn
 
 -- The document seals the private key of this text under these 32 octets: the IV and then the salt.
 pub record IsDrawn (rounds : ℕ) (q drawn text document : List ℕ) : Type 0 where
@@ -11,12 +25,6 @@ pub record IsDrawn (rounds : ℕ) (q drawn text document : List ℕ) : Type 0 wh
   pub of_16 : length iv ≡ 16
   pub and_16 : length salt ≡ 16
   pub is : IsDocument document rounds iv salt q text
-
--- It does so under the next 32 octets of a draw.
-pub record Seals (rounds : ℕ) (q : List ℕ) (old new : Option (List ℕ)) (text document : List ℕ) : Type 0 where
-  pub drawn : List ℕ
-  pub by : IsDrawn rounds q drawn text document
-  pub took : Consumes old new drawn
 
 -- One document for each key, each under the next 32 of the drawn octets, and these are all of them.
 abbrev pub AreDrawn : ℕ → List ℕ → List (List ℕ) → List (List ℕ) → List ℕ → Type 0

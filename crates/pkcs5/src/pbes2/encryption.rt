@@ -1,8 +1,8 @@
 //! Encryption by PBES2 (RFC 8018 section 6.2.1).
 ghost use Rattle.std.specs.Prelude.{◌≡◌, ◌≤◌, ◌+◌, length, take, drop, IfOk, IfErr, OnErr, OnOk};
-ghost use Rattle.pkcs5.specs.Kinds.{IsDes};
-ghost use Rattle.pkcs5.specs.Opening.{FitsKey, Opens, ciphertext_size};
-ghost use Rattle.pkcs5.specs.Refusals.{RefusesToEncryptIn, RefusesToSeal};
+ghost use Rattle.pkcs5.specs.Kinds.{IsDes, key_size};
+ghost use Rattle.pkcs5.specs.Opening.{FitsKey, Opens, OpensBy, ciphertext_size};
+ghost use Rattle.pkcs5.specs.Refusals.{RefusesToEncryptIn, RefusesToSeal, RefusesUnderIn};
 
 use crate::error::Result;
 use crate::pbes2::cipher::encrypt_under;
@@ -27,6 +27,32 @@ fn growth(cipher: &EncryptionScheme, len: usize) -> usize
 }
 
 impl Parameters {
+    /// The ciphertext of a text under a key that was derived already (RFC 8018 section 6.2.1), in memory of its own, with
+    /// the length that it has in `encrypt`.
+    ///
+    /// `UnsupportedAlgorithm` with the cipher's identifier exactly where it is DES; and `Memory`. Caller: the key has the
+    /// length of the cipher's keys.
+    pub fn encrypt_under_key(
+        &self,
+        alloc: Global,
+        key: &EncryptionKey,
+        plaintext: &[u8],
+    ) -> Result<Octets>
+        requires { length key.now ≡ key_size self.now.encryption }
+        ensures ok { IfOk result
+            (λ c. OpensBy self.now.encryption key.now c plaintext.now) }
+        ensures length { IfOk result
+            (λ c. length c ≡ ciphertext_size self.now.encryption (length plaintext.now)) }
+        ensures other_than_des { OnOk result (¬ IsDes self.now.encryption) }
+        ensures err { IfErr result (λ e. RefusesUnderIn self.now.encryption e) }
+    {
+        let len = plaintext.len();
+        let mut text = Vec::from_slice(alloc, plaintext)?;
+        text.extend_from_slice(&[0; 16][..growth(&self.encryption, len)])?;
+        encrypt_under(&self.encryption, key.as_slice(), &mut text, len)?;
+        Ok(Octets::from_vec(text))
+    }
+
     /// The ciphertext of a text under a password, in memory of its own (RFC 8018 section 6.2.1). In CBC its length is
     /// the next greater multiple of a block, and in GCM 16 octets more than that of the text.
     ///
@@ -41,10 +67,8 @@ impl Parameters {
         ensures other_than_des { OnOk result (¬ IsDes self.now.encryption) }
         ensures err { IfErr result (λ e. RefusesToEncryptIn self.now e) }
     {
-        let mut text = Vec::from_slice(alloc, plaintext)?;
-        text.extend_from_slice(&[0; 16][..growth(&self.encryption, plaintext.len())])?;
-        self.encrypt_in_place_len(alloc, password, &mut text, plaintext.len())?;
-        Ok(Octets::from_vec(text))
+        let key = EncryptionKey::of_parameters(alloc, password, self)?;
+        self.encrypt_under_key(alloc, &key, plaintext)
     }
 
     /// `encrypt_in_place_len` that returns the ciphertext.

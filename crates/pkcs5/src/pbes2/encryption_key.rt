@@ -1,10 +1,12 @@
 //! Keys that are derived from passwords.
-ghost use Rattle.std.specs.Prelude.{◌≡◌, ◌+◌, ◌≤◌, ◌<◌, ◌^◌, length, IfOk, IfErr, OnOk, OnErr};
+ghost use Rattle.std.specs.Prelude.{◌≡◌, ◌+◌, ◌*◌, ◌/◌, ◌≤◌, ◌<◌, ◌^◌, ◌++◌, length, map, take, IfOk, IfErr, OnOk, OnErr};
 ghost use Rattle.pkcs5.specs.Error.{InvalidOf};
+ghost use Rattle.pkcs5.specs.Generation.{pbkdf2_sha256};
 ghost use Rattle.pkcs5.specs.Kinds as cipher;
 ghost use Rattle.pkcs5.specs.Kinds.{IsScrypt};
-ghost use Rattle.pkcs5.specs.Opening.{FitsKey, GivesKey, StatesLength, TakesCosts, derived, key_steps, key_under, opening_steps};
+ghost use Rattle.pkcs5.specs.Opening.{FitsKey, GivesKey, StatesLength, TakesCosts, derived, key_steps, key_under, opening_steps, sha256_key};
 ghost use Rattle.pkcs5.specs.Refusals.{RefusesCosts, RefusesKeyByRounds, RefusesKeyInPlace, RefusesToDerive};
+ghost use Rattle.pkcs5.specs.declared.pbes2.encryption_scheme.EncryptionScheme.{EncryptionScheme};
 ghost use Rattle.pkcs5.specs.declared.pbes2.kdf.Kdf.TheVariants.{Pbkdf2, Scrypt};
 
 use crate::error::{Error, Result};
@@ -13,9 +15,11 @@ use crate::pbes2::kdf::Kdf;
 use crate::pbes2::parameters::Parameters;
 use crate::pbes2::pbkdf2_params::Pbkdf2Params;
 use crate::pbes2::pbkdf2_prf::Pbkdf2Prf;
+use crate::pbes2::salt::Salt;
 use crate::pbes2::scrypt_params::{ScryptParams, costs_of};
+use asn1_core::Items;
 use octet_core::ShortOctets;
-use pbkdf2::pbkdf2_hmac_counted;
+use pbkdf2::{PasswordAndSalt, pbkdf2_hmac_array, pbkdf2_hmac_counted, pbkdf2_hmac_sha256_four};
 use scrypt_core::scrypt;
 use sha1::Sha1;
 use sha2::{Sha224, Sha256, Sha384, Sha512};
@@ -138,7 +142,99 @@ fn expect_length(kdf: &Kdf, key_size: usize) -> Result<()>
     Ok(())
 }
 
+/// The key of 32 octets that PBKDF2 with HMAC-SHA-256 derives from a password.
+fn derive_32(password: &[u8], salt: &Salt, rounds: u32) -> EncryptionKey
+    ensures { result ≡ sha256_key rounds password.now salt.now }
+{
+    let octets = pbkdf2_hmac_array::<Sha256, 32>(password, salt.as_bytes(), rounds);
+    EncryptionKey {
+        octets: ShortOctets::new(&octets),
+    }
+}
+
+/// Pushes the four keys of 32 octets that PBKDF2 with HMAC-SHA-256 derives from a password and four salts.
+fn push_four(
+    keys: &mut Items<EncryptionKey>,
+    password: &[u8],
+    salts: &[Salt],
+    rounds: u32,
+) -> Result<()>
+    requires { length salts.now ≡ 4 }
+    ensures ok { OnOk result
+        (keys.new ≡ keys.old ++ map (sha256_key rounds password.now) salts.now) }
+    ensures err { IfErr result (λ e. e ≡ Error.Memory) }
+{
+    let inputs = [
+        PasswordAndSalt {
+            password,
+            salt: salts[0].as_bytes(),
+        },
+        PasswordAndSalt {
+            password,
+            salt: salts[1].as_bytes(),
+        },
+        PasswordAndSalt {
+            password,
+            salt: salts[2].as_bytes(),
+        },
+        PasswordAndSalt {
+            password,
+            salt: salts[3].as_bytes(),
+        },
+    ];
+    for octets in pbkdf2_hmac_sha256_four(&inputs, rounds) {
+        keys.push(EncryptionKey {
+            octets: ShortOctets::new(&octets),
+        })?;
+    }
+    Ok(())
+}
+
+/// The keys of 32 octets of all salts but the last three or fewer, whose number is a multiple of four.
+fn derive_in_fours(
+    alloc: Global,
+    password: &[u8],
+    salts: &[Salt],
+    rounds: u32,
+) -> Result<Items<EncryptionKey>>
+    ensures ok { IfOk result (λ keys. keys ≡ map (sha256_key rounds password.now)
+        (take (4 * (length salts.now / 4)) salts.now)) }
+    ensures err { IfErr result (λ e. e ≡ Error.Memory) }
+{
+    let mut keys = Items::new(alloc);
+    for group in 0..salts.len() / 4 {
+        push_four(
+            &mut keys,
+            password,
+            &salts[4 * group..4 * group + 4],
+            rounds,
+        )?;
+    }
+    Ok(keys)
+}
+
 impl EncryptionKey {
+    /// The keys of 32 octets that PBKDF2 with HMAC-SHA-256 derives from a password and each of these salts, in this
+    /// number of rounds (RFC 8018 section 5.2): each is the key of a cipher with such keys, as AES-256, under the
+    /// parameters that have this salt. Four are derived in about the time of two. The only refusal is `Memory`.
+    pub fn derive_each_pbkdf2_sha256(
+        alloc: Global,
+        password: &[u8],
+        salts: &[Salt],
+        rounds: u32,
+    ) -> Result<Items<EncryptionKey>>
+        ensures ok { IfOk result (λ keys. (scheme : EncryptionScheme)
+            → cipher.key_size scheme ≡ 32 → keys
+            ≡ map (λ salt. key_under (pbkdf2_sha256 rounds salt scheme) password.now) salts.now) }
+        ensures err { IfErr result (λ e. e ≡ Error.Memory) }
+    {
+        let mut keys = derive_in_fours(alloc, password, salts, rounds)?;
+        for index in salts.len() / 4 * 4..salts.len() {
+            keys.push(derive_32(password, &salts[index], rounds))?;
+        }
+        Ok(keys)
+    }
+
     /// The key of `key_size` octets that is derived from a password (RFC 8018 section 5.2, RFC 7914 section 6). Only
     /// scrypt takes memory. `AlgorithmParametersInvalid` with the identifier of the key derivation function exactly
     /// where the parameters state another length of the key, or scrypt refuses its costs. Caller: `key_size` is at

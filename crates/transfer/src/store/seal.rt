@@ -1,12 +1,13 @@
 //! Sealing private keys anew, under octets that are drawn.
-ghost use Rattle.std.specs.Prelude.{◌≡◌, ◌≤◌, ◌<◌, ◌*◌, ◌^◌, All, length, IfOk, IfErr, OnOk};
+ghost use Rattle.std.specs.Io.KnownBytes.{Consumes};
+ghost use Rattle.std.specs.Prelude.{◌≡◌, ◌≤◌, ◌<◌, ◌*◌, ◌^◌, ◌++◌, ℕ, List, All, length, map, IfOk, IfErr, OnOk};
 ghost use Rattle.std.specs.Result.{IsErrOf};
 ghost use Rattle.octet_core.specs.Draw.{Lacks};
 ghost use Rattle.pkcs8.specs.declared.error.Error.TheVariants as errors;
 ghost use Rattle.transfer.specs.Limits.{rounds_limit};
-ghost use Rattle.transfer.specs.Document.{IsDocument};
+ghost use Rattle.transfer.specs.Document.{IsDocument, document_key};
 ghost use Rattle.transfer.specs.InPlace.{IsOpenedKey, texts_of};
-ghost use Rattle.transfer.specs.Sealing.{Seals, SealsAll};
+ghost use Rattle.transfer.specs.Sealing.{AreDrawn, AreOf16, SealsAll, document_keys, octets_of};
 ghost use Rattle.transfer.specs.TransferError.{RefusedBy};
 
 use crate::store::error::TransferError;
@@ -14,7 +15,7 @@ use crate::store::key_text::OpenedKey;
 use asn1_core::{Items, Octets};
 use mac_modes::Draw;
 use octet_core::laws::are_octets;
-use pkcs5::pbes2::Parameters;
+use pkcs5::pbes2::{EncryptionKey, Parameters, Salt};
 use pkcs8::{Error, private_keys_are_written, short_keys_are_encrypted, written_keys_are_shortest};
 use std::alloc::Global;
 
@@ -33,30 +34,122 @@ fn refusal_of(error: Error) -> TransferError
     }
 }
 
-/// The document of a key with this IV and this salt. The only refusal is `Memory`.
-fn seal_key(
+/// What is drawn for a document: an IV of 16 octets and a salt of 16.
+#[derive(Clone, Copy, Drop)]
+struct IvAndSalt {
+    iv: [u8; 16],
+    salt: Salt,
+}
+
+/// Draws 16 octets as IV, and the next 16 as salt.
+fn draw_one<D: Draw>(draw: &mut D) -> Result<IvAndSalt, TransferError>
+    ensures count { D.faults draw.old ≤ D.faults draw.new }
+    ensures no_fault { OnOk result (D.faults draw.new ≡ D.faults draw.old) }
+    ensures last { D.faults draw.old < D.faults draw.new → IsErrOf result TransferError.Rng }
+    ensures lengths { IfOk result AreOf16 }
+    ensures drawn { IfOk result
+        (λ d. Consumes (D.left draw.old) (D.left draw.new) (d.iv ++ d.salt)) }
+    ensures cause { IfErr result
+        (RefusedBy (λ e. ⊥) (Lacks (D.faults draw.old) (D.faults draw.new) (D.left draw.old) 32)) }
+{
+    let mut iv = [0u8; 16];
+    let mut octets = [0u8; 16];
+    match draw.fill(&mut iv) {
+        Ok(()) => {}
+        Err(_) => return Err(TransferError::Rng),
+    }
+    match draw.fill(&mut octets) {
+        Ok(()) => {}
+        Err(_) => return Err(TransferError::Rng),
+    }
+    match Salt::new(&octets) {
+        Ok(salt) => Ok(IvAndSalt { iv, salt }),
+        Err(_) => unreachable!(),
+    }
+}
+
+/// Draws for this number of documents, in order.
+fn draw_all<D: Draw>(
     alloc: Global,
-    opened: &OpenedKey<'_>,
+    number: usize,
+    draw: &mut D,
+) -> Result<Items<IvAndSalt>, TransferError>
+    ensures count { D.faults draw.old ≤ D.faults draw.new }
+    ensures no_fault { OnOk result (D.faults draw.new ≡ D.faults draw.old) }
+    ensures last { D.faults draw.old < D.faults draw.new → IsErrOf result TransferError.Rng }
+    ensures lengths { IfOk result (λ drawn. All AreOf16 drawn × (length drawn ≡ number)) }
+    ensures drawn { IfOk result
+        (λ drawn. Consumes (D.left draw.old) (D.left draw.new) (octets_of drawn)) }
+    ensures cause { IfErr result
+        (RefusedBy (λ e. ⊥) (Lacks (D.faults draw.old) (D.faults draw.new) (D.left draw.old)
+        (32 * number))) }
+{
+    let mut drawn = Items::new(alloc);
+    for _place in 0..number {
+        match draw_one(draw) {
+            Ok(one) => drawn.push(one)?,
+            Err(e) => return Err(e),
+        }
+    }
+    Ok(drawn)
+}
+
+/// The salts. The only refusal is `Memory`.
+fn salts_of(alloc: Global, drawn: &[IvAndSalt]) -> Result<Items<Salt>, TransferError>
+    ensures ok { IfOk result (λ salts. salts ≡ map (λ d. d.salt) drawn.now) }
+    ensures err { IfErr result (λ e. e ≡ TransferError.Memory) }
+{
+    let mut salts = Items::new(alloc);
+    for one in drawn {
+        salts.push(one.salt)?;
+    }
+    Ok(salts)
+}
+
+/// The key of each document under the password. The only refusal is `Memory`.
+fn derive_keys(
+    alloc: Global,
     new_password: &[u8],
     rounds: u32,
-    iv: [u8; 16],
-    salt: &[u8],
+    drawn: &[IvAndSalt],
+) -> Result<Items<EncryptionKey>, TransferError>
+    ensures ok { IfOk result (λ keys. keys ≡ document_keys rounds new_password.now drawn.now) }
+    ensures err { IfErr result (λ e. e ≡ TransferError.Memory) }
+{
+    let salts = salts_of(alloc, drawn)?;
+    let salts = salts.as_slice();
+    match EncryptionKey::derive_each_pbkdf2_sha256(alloc, new_password, salts, rounds) {
+        Ok(keys) => Ok(keys),
+        Err(_) => Err(TransferError::Memory),
+    }
+}
+
+/// The document of a key under the key that was derived for it. The only refusal is `Memory`.
+fn seal(
+    alloc: Global,
+    opened: &OpenedKey<'_>,
+    rounds: u32,
+    drawn: &IvAndSalt,
+    derived: &EncryptionKey,
 ) -> Result<Octets, TransferError>
     requires key { IsOpenedKey opened.now }
     requires rounds { (1 ≤ rounds) × (rounds ≤ rounds_limit) }
-    requires salt { length salt.now ≡ 16 }
+    requires drawn { AreOf16 drawn.now }
+    requires derived { (q : List ℕ) × (derived.now ≡ document_key rounds drawn.now.salt q) }
     ensures ok { IfOk result
-        (λ document. IsDocument document rounds iv salt.now new_password.now opened.now.text.now) }
+        (λ document. (q : List ℕ) → derived.now ≡ document_key rounds drawn.now.salt q
+        → IsDocument document rounds drawn.now.iv drawn.now.salt q opened.now.text.now) }
     ensures err { IfErr result (λ e. e ≡ TransferError.Memory) }
 {
     let key = &opened.key;
     private_keys_are_written(key);
     written_keys_are_shortest();
     short_keys_are_encrypted(key);
-    let Ok(parameters) = Parameters::generate_pbkdf2_sha256_aes256cbc(rounds, salt, iv) else {
+    let salt = drawn.salt.as_bytes();
+    let Ok(parameters) = Parameters::generate_pbkdf2_sha256_aes256cbc(rounds, salt, drawn.iv) else {
         unreachable!()
     };
-    let document = match key.encrypt_with_params(alloc, parameters, new_password) {
+    let document = match key.encrypt_with_key(alloc, parameters, derived) {
         Ok(document) => document,
         Err(error) => return Err(refusal_of(error)),
     };
@@ -64,37 +157,33 @@ fn seal_key(
     Ok(Octets::from_slice(alloc, document.as_bytes())?)
 }
 
-/// Seals one key under the next 16 octets drawn as IV, and the next 16 as salt.
-fn seal<D: Draw>(
+/// The documents of keys, in order. The only refusal is `Memory`.
+fn seal_each(
     alloc: Global,
-    opened: &OpenedKey<'_>,
-    new_password: &[u8],
+    keys: &[OpenedKey<'_>],
     rounds: u32,
-    draw: &mut D,
-) -> Result<Octets, TransferError>
-    requires key { IsOpenedKey opened.now }
+    drawn: &[IvAndSalt],
+    derived: &[EncryptionKey],
+) -> Result<Items<Octets>, TransferError>
+    requires keys { All IsOpenedKey keys.now }
     requires rounds { (1 ≤ rounds) × (rounds ≤ rounds_limit) }
-    ensures count { D.faults draw.old ≤ D.faults draw.new }
-    ensures no_fault { OnOk result (D.faults draw.new ≡ D.faults draw.old) }
-    ensures last { D.faults draw.old < D.faults draw.new → IsErrOf result TransferError.Rng }
-    ensures sealed { IfOk result (λ document. Seals rounds new_password.now (D.left draw.old)
-        (D.left draw.new) opened.now.text.now document) }
-    ensures cause { IfErr result
-        (RefusedBy (λ e. ⊥) (Lacks (D.faults draw.old) (D.faults draw.new) (D.left draw.old) 32)) }
+    requires drawn { All AreOf16 drawn.now × (length drawn.now ≡ length keys.now) }
+    requires derived { (q : List ℕ) × (derived.now ≡ document_keys rounds q drawn.now) }
+    ensures ok { IfOk result
+        (λ documents. (q : List ℕ) → derived.now ≡ document_keys rounds q drawn.now
+        → AreDrawn rounds q (texts_of keys.now) documents (octets_of drawn.now)) }
+    ensures err { IfErr result (λ e. e ≡ TransferError.Memory) }
 {
-    let mut iv = [0u8; 16];
-    let mut salt = [0u8; 16];
-    match draw.fill(&mut iv) {
-        Ok(()) => {}
-        Err(_) => return Err(TransferError::Rng),
+    let mut documents = Items::new(alloc);
+    for index in 0..keys.len() {
+        let document = seal(alloc, &keys[index], rounds, &drawn[index], &derived[index])?;
+        documents.push(document)?;
     }
-    match draw.fill(&mut salt) {
-        Ok(()) => seal_key(alloc, opened, new_password, rounds, iv, &salt),
-        Err(_) => Err(TransferError::Rng),
-    }
+    Ok(documents)
 }
 
-/// Seals the keys, in order, under the octets of a draw, 32 for each.
+/// Seals the keys, in order, under the octets of a draw, 32 for each. All of these are drawn first, so that the keys of
+/// the documents are derived several at once.
 pub(crate) fn seal_all<D: Draw>(
     alloc: Global,
     keys: &[OpenedKey<'_>],
@@ -113,12 +202,7 @@ pub(crate) fn seal_all<D: Draw>(
         (RefusedBy (λ e. ⊥) (Lacks (D.faults draw.old) (D.faults draw.new) (D.left draw.old)
         (32 * length keys.now))) }
 {
-    let mut documents = Items::new(alloc);
-    for key in keys {
-        match seal(alloc, key, new_password, rounds, draw) {
-            Ok(document) => documents.push(document)?,
-            Err(e) => return Err(e),
-        }
-    }
-    Ok(documents)
+    let drawn = draw_all(alloc, keys.len(), draw)?;
+    let derived = derive_keys(alloc, new_password, rounds, drawn.as_slice())?;
+    seal_each(alloc, keys, rounds, drawn.as_slice(), derived.as_slice())
 }

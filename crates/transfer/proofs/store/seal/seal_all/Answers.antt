@@ -1,12 +1,18 @@
-use Rattle.std.proofs.Common.{◌∙◌, arith}
-use Rattle.transfer.proofs.Drawn.{sealed_more}
+use Rattle.std.proofs.Common.{◌∙◌, ap, length, subst, sym}
+use Rattle.std.specs.Io.KnownBytes.{Consumes}
+use Rattle.std.specs.Prelude.{All}
+use Rattle.transfer.proofs.Drawn.{sealed_if}
+use Rattle.transfer.specs.Sealing.{AreOf16, document_keys, octets_of}
 use Rattle.transfer.proofs.store.seal.seal_all.Goals as goal
 
-pub loop-key-preserved : goal.loop-key-preserved
-loop-key-preserved g c =
-    let i = c.loop-key.invariant in
-    record {
-      done = rw (c.in_ok-push-in-Ok.ensures.ok) (sealed_more c.args.rounds c.args.new_password.now _ _ _ c.args.keys.now c.loop-key.key-index c.key-item.result c.loop-key.documents c.in-Ok.document
-          (omega arith) c.key-item.is i.done c.in-Ok.ensures.sealed);
-      faults = c.in-Ok.ensures.no_fault ∙ i.faults;
-    }
+pub returns-clause-sealed : goal.returns-clause-sealed
+returns-clause-sealed g c =
+    let r = c.args.rounds in
+    let q = c.args.new_password.now in
+    let drawn = sym c.as_slice-2.ensures in
+    let lengths = c.in_ok-drawn.ensures.lengths in
+    sealed_if c.seal_each.result r q _ _ c.args.keys.now c.as_slice-2.result.now c.as_slice-3.result.now
+    (subst (All AreOf16) drawn lengths.0) (ap length (sym drawn) ∙ lengths.1)
+    (subst (λ ds. Consumes (g.D.Draw.left c.args.draw.now) (g.D.Draw.left c.draw_all.new.draw) (octets_of ds)) drawn c.in_ok-drawn.ensures.drawn)
+    (c.as_slice-3.ensures ∙ c.in_ok-derived.ensures.ok ∙ ap (document_keys r q) (c.as_slice.ensures ∙ drawn))
+    c.seal_each.ensures.ok

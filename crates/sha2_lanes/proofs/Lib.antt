@@ -1,0 +1,5 @@
+mod ChMaj
+pub mod LaneLemmas
+mod OctetWords
+mod Rotations
+mod TwoBlocks
