@@ -54,6 +54,10 @@ enum {
 /* The most octets of a store. */
 #define PKCS12_STORE_MAX 16777215
 
+/* The room that is always enough for the text of a store of so many octets, for pkcs12_transfer_pem and pkcs12_open_pem: five
+ * times as many octets, and 5 * PKCS12_STORE_MAX for more than a store may have. */
+size_t pkcs12_room(size_t store_len);
+
 /* Opens the store, and writes a CERTIFICATE for each X.509 certificate, then an ENCRYPTED PRIVATE KEY for each encrypted
  * private key, both in store order, as one PEM text (RFC 7468) with no NUL after it. Other kinds of bags, such as private
  * keys that are not encrypted, are left out.
@@ -67,9 +71,10 @@ enum {
  *   output        where the text goes; its other octets stay as they are
  *   needed        the number of octets of the text on PKCS12_DONE and PKCS12_ROOM, and else 0
  *
- * Nothing is written to the output but on PKCS12_DONE. A call with the same arguments gives the same text, so after
- * PKCS12_ROOM call again with *needed octets of room. Twice the octets of the store and 4,096 are enough for stores as
- * programs write them; that is not proved, and is not so for a store with many keys of a few octets each. */
+ * Nothing is written to the output but on PKCS12_DONE. *needed is at most pkcs12_room(store_len), so an output of so many
+ * octets is always enough: PKCS12_ROOM is then never returned. With less room, call again after PKCS12_ROOM with *needed
+ * octets: a call with the same arguments gives the same text. As many random octets as the store has are always enough
+ * too: PKCS12_RANDOM_SHORT is then never returned. */
 uint32_t pkcs12_transfer_pem(
     const uint8_t *store, size_t store_len,
     const uint8_t *password, size_t password_len,
@@ -79,8 +84,8 @@ uint32_t pkcs12_transfer_pem(
     uint8_t *output, size_t output_len, size_t *needed);
 
 /* Opens the store, and writes a CERTIFICATE for each X.509 certificate, then a PRIVATE KEY, which is not sealed, for each
- * encrypted private key, both in store order. The rest is as above. The memory that the call took for keys is freed and not
- * overwritten. */
+ * encrypted private key, both in store order. The rest is as above, pkcs12_room too. The memory that the call took for keys
+ * is freed and not overwritten. */
 uint32_t pkcs12_open_pem(
     const uint8_t *store, size_t store_len,
     const uint8_t *password, size_t password_len,
@@ -101,7 +106,8 @@ uint32_t pkcs12_open_pem(
  *
  * Issuers are found by their names alone; no signature is tested. No name is written, and neither are friendly names, which
  * may be any octets that the store's maker chose: each line is ASCII text and ends with a line feed. A store with neither
- * certificates nor encrypted keys has a table of no octets. The rest is as for pkcs12_open_pem. */
+ * certificates nor encrypted keys has a table of no octets. A chain may have all certificates of the store, so pkcs12_room
+ * says nothing of a table. The rest is as for pkcs12_open_pem. */
 uint32_t pkcs12_list(
     const uint8_t *store, size_t store_len,
     const uint8_t *password, size_t password_len,
@@ -115,8 +121,9 @@ uint32_t pkcs12_list(
  *   new_password  in UTF-8, as password
  *   random        32 octets for each part under PBES2 and 8 for each under Triple DES, a key or a content, and 8 for the MAC
  *
- * PKCS12_TOO_LONG is returned too where the changed store would have more than PKCS12_STORE_MAX octets. The rest is as
- * for pkcs12_transfer_pem. */
+ * PKCS12_TOO_LONG is returned too where the changed store would have more than PKCS12_STORE_MAX octets: so much room is
+ * always enough, and pkcs12_room says nothing of a changed store. As many random octets as the store has are always enough
+ * here too. The rest is as for pkcs12_transfer_pem. */
 uint32_t pkcs12_rekey(
     const uint8_t *store, size_t store_len,
     const uint8_t *password, size_t password_len,
@@ -149,12 +156,14 @@ static inline int pkcs12_random(uint8_t *at, size_t len)
     return 1;
 }
 
-/* What a call wrote, handed on with a NUL after it, or its output freed. The result is the number that the caller returns. */
+/* What a call wrote, handed on with a NUL after it and without the room behind, or its output freed. The result is the number
+ * that the caller returns. */
 static inline uint32_t pkcs12_handed_on(uint32_t number, uint8_t *output, size_t needed, uint8_t **octets, size_t *len)
 {
     if (number == PKCS12_DONE) {
-        output[needed] = 0;
-        *octets = output;
+        uint8_t *shorter = (uint8_t *)realloc(output, needed + 1);
+        *octets = shorter ? shorter : output;
+        (*octets)[needed] = 0;
         *len = needed;
     } else {
         free(output);
@@ -168,27 +177,26 @@ static inline uint32_t pkcs12_transfer_pem_new(
     const uint8_t *new_password, size_t new_password_len,
     uint32_t rounds, uint64_t limit, char **text, size_t *len)
 {
-    /* a private key takes more than 32 octets of a store, so there are enough random octets */
-    size_t room = 2 * store_len + 4096, random_len = store_len + 32, needed = 0;
-    uint8_t *octets = NULL;
+    const size_t room = pkcs12_room(store_len);
+    size_t needed = 0;
+    uint8_t *random, *output, *octets = NULL;
     uint32_t number;
     *text = NULL;
     *len = 0;
     if (store_len > PKCS12_STORE_MAX)
         return PKCS12_TOO_LONG;
-    do {
-        uint8_t *random = (uint8_t *)malloc(random_len), *output = (uint8_t *)malloc(room + 1);
-        if (!random || !output)
-            number = PKCS12_MEMORY;
-        else if (!pkcs12_random(random, random_len))
-            number = PKCS12_RANDOM_SHORT;
-        else
-            number = pkcs12_transfer_pem(store, store_len, password, password_len, new_password, new_password_len, rounds,
-                limit, random, random_len, output, room, &needed);
-        free(random);
-        number = pkcs12_handed_on(number, output, needed, &octets, len);
-        room = needed;
-    } while (number == PKCS12_ROOM);
+    /* as many random octets as the store has, and one, so that there is something to allocate */
+    random = (uint8_t *)malloc(store_len + 1);
+    output = (uint8_t *)malloc(room + 1);
+    if (!random || !output)
+        number = PKCS12_MEMORY;
+    else if (!pkcs12_random(random, store_len))
+        number = PKCS12_RANDOM_SHORT;
+    else
+        number = pkcs12_transfer_pem(store, store_len, password, password_len, new_password, new_password_len, rounds, limit,
+            random, store_len, output, room, &needed);
+    free(random);
+    number = pkcs12_handed_on(number, output, needed, &octets, len);
     *text = (char *)octets;
     return number;
 }
@@ -198,22 +206,20 @@ static inline uint32_t pkcs12_open_pem_new(
     const uint8_t *password, size_t password_len,
     uint64_t limit, char **text, size_t *len)
 {
-    size_t room = 2 * store_len + 4096, needed = 0;
-    uint8_t *octets = NULL;
+    const size_t room = pkcs12_room(store_len);
+    size_t needed = 0;
+    uint8_t *output, *octets = NULL;
     uint32_t number;
     *text = NULL;
     *len = 0;
     if (store_len > PKCS12_STORE_MAX)
         return PKCS12_TOO_LONG;
-    do {
-        uint8_t *output = (uint8_t *)malloc(room + 1);
-        if (!output)
-            number = PKCS12_MEMORY;
-        else
-            number = pkcs12_open_pem(store, store_len, password, password_len, limit, output, room, &needed);
-        number = pkcs12_handed_on(number, output, needed, &octets, len);
-        room = needed;
-    } while (number == PKCS12_ROOM);
+    output = (uint8_t *)malloc(room + 1);
+    if (!output)
+        number = PKCS12_MEMORY;
+    else
+        number = pkcs12_open_pem(store, store_len, password, password_len, limit, output, room, &needed);
+    number = pkcs12_handed_on(number, output, needed, &octets, len);
     *text = (char *)octets;
     return number;
 }
@@ -223,7 +229,7 @@ static inline uint32_t pkcs12_list_new(
     const uint8_t *password, size_t password_len,
     uint64_t limit, char **text, size_t *len)
 {
-    /* chains may be long, so a table can be longer than each multiple of the store: then the call is made again */
+    /* a table with long chains has more octets: then the call is made again */
     size_t room = 2 * store_len + 4096, needed = 0;
     uint8_t *octets = NULL;
     uint32_t number;
@@ -251,22 +257,22 @@ static inline uint32_t pkcs12_rekey_new(
     const uint8_t *new_password, size_t new_password_len,
     uint64_t limit, uint8_t **changed, size_t *len)
 {
-    /* each part that is sealed, and the MAC, takes more than 32 octets of a store, so there are enough random octets */
-    size_t room = 2 * store_len + 4096, random_len = store_len + 32, needed = 0;
+    /* parts may become longer than they were: where the changed store does not fit, the call is made again */
+    size_t room = 2 * store_len + 4096, needed = 0;
     uint32_t number;
     *changed = NULL;
     *len = 0;
     if (store_len > PKCS12_STORE_MAX)
         return PKCS12_TOO_LONG;
     do {
-        uint8_t *random = (uint8_t *)malloc(random_len), *output = (uint8_t *)malloc(room + 1);
+        uint8_t *random = (uint8_t *)malloc(store_len + 1), *output = (uint8_t *)malloc(room + 1);
         if (!random || !output)
             number = PKCS12_MEMORY;
-        else if (!pkcs12_random(random, random_len))
+        else if (!pkcs12_random(random, store_len))
             number = PKCS12_RANDOM_SHORT;
         else
             number = pkcs12_rekey(store, store_len, password, password_len, new_password, new_password_len, limit, random,
-                random_len, output, room, &needed);
+                store_len, output, room, &needed);
         free(random);
         number = pkcs12_handed_on(number, output, needed, changed, len);
         room = needed;

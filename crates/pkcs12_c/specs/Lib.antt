@@ -6,3 +6,4 @@ pub mod Opened
 pub mod Listed
 pub mod PemText
 pub mod Answers
+pub mod Room

@@ -1,12 +1,14 @@
 //! The exports, and the typed calls that they number.
-ghost use Rattle.std.specs.Prelude.{◌≡◌, ◌⊎◌, Result};
+ghost use Rattle.std.specs.Prelude.{◌≡◌, ◌≢◌, ◌≤◌, ◌⊎◌, Result, length};
 ghost use Rattle.pkcs12_c.specs.Answers.{ChangeAnswers, Fills, ListAnswers, OpenAnswers, TransferAnswers};
 ghost use Rattle.pkcs12_c.specs.Refusal.{answer_number};
+ghost use Rattle.pkcs12_c.specs.Room.{HasRoom, room_for};
 ghost use Rattle.pkcs12_c.specs.declared.refusal.Refusal.{Refusal};
 
 use crate::changed::changed;
 use crate::drawn::transferred;
 use crate::filled::filled;
+use crate::laws::stores_suffice;
 use crate::listed::listed;
 use crate::opening::opened;
 use crate::password::password_of;
@@ -17,6 +19,9 @@ use transfer::TransferError;
 
 /// The most rounds of PBKDF2 in a document.
 const ROUNDS: u32 = 100_000_000;
+
+/// The most octets of a store.
+const STORE: usize = 16_777_215;
 
 /// The transfer, as PEM text.
 fn transfer_pem(
@@ -135,6 +140,17 @@ pub extern "C" fn pkcs12_version() -> u32
     1
 }
 
+/// `pkcs12_room` of `pkcs12.h`.
+#[unsafe(no_mangle)]
+pub extern "C" fn pkcs12_room(store_len: usize) -> usize
+    ensures { result ≡ room_for store_len }
+{
+    if store_len > STORE {
+        return 5 * STORE;
+    }
+    5 * store_len
+}
+
 /// `pkcs12_transfer_pem` of `pkcs12.h`.
 #[unsafe(no_mangle)]
 pub extern "C" fn pkcs12_transfer_pem(
@@ -148,10 +164,13 @@ pub extern "C" fn pkcs12_transfer_pem(
     output: &mut [u8],
     needed: &mut usize,
 ) -> u32
-    ensures { (r : Result (Unit {0}) Refusal) × (result ≡ answer_number r)
+    ensures answers { (r : Result (Unit {0}) Refusal) × (result ≡ answer_number r)
         × TransferAnswers store.now password.now new_password.now random.now rounds limit
         output.old output.new needed.new r }
+    ensures room { HasRoom (length store.now) (length output.old) needed.new result }
+    ensures random { length store.now ≤ length random.now → result ≢ 20 }
 {
+    stores_suffice();
     number_of(transfer_pem(
         alloc,
         store,
@@ -175,9 +194,11 @@ pub extern "C" fn pkcs12_open_pem(
     output: &mut [u8],
     needed: &mut usize,
 ) -> u32
-    ensures { (r : Result (Unit {0}) Refusal) × (result ≡ answer_number r)
+    ensures answers { (r : Result (Unit {0}) Refusal) × (result ≡ answer_number r)
         × OpenAnswers store.now password.now limit output.old output.new needed.new r }
+    ensures room { HasRoom (length store.now) (length output.old) needed.new result }
 {
+    stores_suffice();
     number_of(open_pem(alloc, store, password, limit, output, needed))
 }
 
@@ -209,10 +230,12 @@ pub extern "C" fn pkcs12_rekey(
     output: &mut [u8],
     needed: &mut usize,
 ) -> u32
-    ensures { (r : Result (Unit {0}) Refusal) × (result ≡ answer_number r)
+    ensures answers { (r : Result (Unit {0}) Refusal) × (result ≡ answer_number r)
         × ChangeAnswers store.now password.now new_password.now random.now limit
         output.old output.new needed.new r }
+    ensures random { length store.now ≤ length random.now → result ≢ 20 }
 {
+    stores_suffice();
     number_of(rekey(
         alloc,
         store,

@@ -30,25 +30,19 @@ func at(octets []byte) *C.uint8_t {
 
 // TransferPEM returns the PEM text of a store, its keys sealed under the new password.
 func TransferPEM(store, password, newPassword []byte, rounds uint32, limit uint64) ([]byte, error) {
-	random := make([]byte, len(store)+32) // a key takes more than 32 octets of a store
+	random := make([]byte, len(store)) // always enough
 	if _, err := rand.Read(random); err != nil {
 		return nil, err
 	}
-	output := make([]byte, 2*len(store)+4096)
-	for {
-		var needed C.size_t
-		number := C.pkcs12_transfer_pem(at(store), C.size_t(len(store)), at(password), C.size_t(len(password)),
-			at(newPassword), C.size_t(len(newPassword)), C.uint32_t(rounds), C.uint64_t(limit),
-			at(random), C.size_t(len(random)), at(output), C.size_t(len(output)), &needed)
-		switch number {
-		case C.PKCS12_DONE:
-			return output[:int(needed)], nil
-		case C.PKCS12_ROOM:
-			output = make([]byte, int(needed))
-		default:
-			return nil, Refused(number)
-		}
+	output := make([]byte, int(C.pkcs12_room(C.size_t(len(store))))) // always enough
+	var needed C.size_t
+	number := C.pkcs12_transfer_pem(at(store), C.size_t(len(store)), at(password), C.size_t(len(password)),
+		at(newPassword), C.size_t(len(newPassword)), C.uint32_t(rounds), C.uint64_t(limit),
+		at(random), C.size_t(len(random)), at(output), C.size_t(len(output)), &needed)
+	if number != C.PKCS12_DONE {
+		return nil, Refused(number)
 	}
+	return output[:int(needed)], nil
 }
 
 func firstLine(path string) ([]byte, error) {

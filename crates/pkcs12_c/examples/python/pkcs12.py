@@ -27,6 +27,8 @@ def _load():
     output = [ctypes.POINTER(ctypes.c_char), size, ctypes.POINTER(size)]
     library.pkcs12_version.restype = ctypes.c_uint32
     library.pkcs12_version.argtypes = []
+    library.pkcs12_room.restype = size
+    library.pkcs12_room.argtypes = [size]
     for call in (library.pkcs12_transfer_pem, library.pkcs12_open_pem, library.pkcs12_list, library.pkcs12_rekey):
         call.restype = ctypes.c_uint32
     sealing = [octets, size] * 3 + [ctypes.c_uint32, ctypes.c_uint64, octets, size]
@@ -43,8 +45,9 @@ _library = _load()
 
 
 def _output(call, store, *arguments):
-    """Calls with as much room as the output takes; a second time where the first was too short."""
-    room = 2 * len(store) + 4096
+    """Calls with as much room as the output takes: for the PEM text of a store that is always enough, and for a table of long chains
+    or a changed store it is tried first."""
+    room = _library.pkcs12_room(len(store))
     while True:
         output = ctypes.create_string_buffer(room)
         needed = ctypes.c_size_t()
@@ -58,7 +61,7 @@ def _output(call, store, *arguments):
 
 def transfer_pem(store, password, new_password, rounds=600_000, limit=100_000_000):
     """The PEM text of the octets `store`: certificates, then keys sealed under `new_password`."""
-    random = os.urandom(len(store) + 32)  # a key takes more than 32 octets of a store
+    random = os.urandom(len(store))  # always enough
     return _output(
         _library.pkcs12_transfer_pem, store, password, len(password), new_password, len(new_password),
         rounds, limit, random, len(random),
@@ -77,7 +80,7 @@ def list(store, password, limit=100_000_000):
 
 def rekey(store, password, new_password, limit=100_000_000):
     """The octets of the store under another password, with all that is in it."""
-    random = os.urandom(len(store) + 32)  # each part that is sealed anew takes more than 32 octets of a store
+    random = os.urandom(len(store))  # always enough
     return _output(
         _library.pkcs12_rekey, store, password, len(password), new_password, len(new_password), limit, random, len(random)
     )

@@ -6,9 +6,9 @@ use std::process::ExitCode;
 
 mod pkcs12 {
     const DONE: u32 = 0;
-    const ROOM: u32 = 100;
 
     extern "C" {
+        fn pkcs12_room(store_len: usize) -> usize;
         fn pkcs12_transfer_pem(
             store: *const u8,
             store_len: usize,
@@ -30,7 +30,8 @@ mod pkcs12 {
     #[derive(Clone, Copy, Debug, PartialEq, Eq)]
     pub struct Refused(pub u32);
 
-    /// The PEM text of a store, its keys sealed under the new password. `random` has 32 octets for each key.
+    /// The PEM text of a store, its keys sealed under the new password. As many random octets as the store has are always enough, and
+    /// so is the room.
     ///
     /// Slices are never null, valid for their length, and cannot overlap one that is written: so no call of this is unsafe.
     pub fn transfer_pem(
@@ -41,35 +42,30 @@ mod pkcs12 {
         limit: u64,
         random: &[u8],
     ) -> Result<Vec<u8>, Refused> {
-        let mut output = vec![0; 2 * store.len() + 4096];
-        loop {
-            let mut needed = 0;
-            let number = unsafe {
-                pkcs12_transfer_pem(
-                    store.as_ptr(),
-                    store.len(),
-                    password.as_ptr(),
-                    password.len(),
-                    new_password.as_ptr(),
-                    new_password.len(),
-                    rounds,
-                    limit,
-                    random.as_ptr(),
-                    random.len(),
-                    output.as_mut_ptr(),
-                    output.len(),
-                    &mut needed,
-                )
-            };
-            match number {
-                DONE => {
-                    output.truncate(needed);
-                    return Ok(output);
-                }
-                ROOM => output.resize(needed, 0),
-                _ => return Err(Refused(number)),
-            }
+        let mut output = vec![0; unsafe { pkcs12_room(store.len()) }];
+        let mut needed = 0;
+        let number = unsafe {
+            pkcs12_transfer_pem(
+                store.as_ptr(),
+                store.len(),
+                password.as_ptr(),
+                password.len(),
+                new_password.as_ptr(),
+                new_password.len(),
+                rounds,
+                limit,
+                random.as_ptr(),
+                random.len(),
+                output.as_mut_ptr(),
+                output.len(),
+                &mut needed,
+            )
+        };
+        if number != DONE {
+            return Err(Refused(number));
         }
+        output.truncate(needed);
+        Ok(output)
     }
 }
 
@@ -81,7 +77,7 @@ fn first_line(path: &str) -> std::io::Result<Vec<u8>> {
 
 fn run(words: &[String]) -> std::io::Result<Result<Vec<u8>, pkcs12::Refused>> {
     let store = std::fs::read(&words[0])?;
-    let mut random = vec![0; store.len() + 32];
+    let mut random = vec![0; store.len()];
     std::fs::File::open("/dev/urandom")?.read_exact(&mut random)?;
     let (password, new_password) = (first_line(&words[1])?, first_line(&words[2])?);
     Ok(pkcs12::transfer_pem(&store, &password, &new_password, 600_000, 100_000_000, &random))
