@@ -2,8 +2,9 @@
 # A call of the library for C, beside libcrypto and beside Python's cryptography: each in one process, CALLS times (1000), the least of
 # RUNS runs (3), in microseconds of a processor. libcrypto is measured as it is, without the processor's instructions for hashes
 # (SHA-NI), and without all of those that it asks for (AVX, AES and others too). Keys are sealed in 2,048 rounds; those of the store of
-# 1,000 keys of count 1 in one round, and there a hundredth of the calls is made. Python makes a tenth of them. The library is that of
-# `rt lib` in crates/pkcs12_c. The store of many keys needs Python's cryptography.
+# 1,000 keys of count 1 in one round, and there a hundredth of the calls is made; libcrypto seals those keys once as their octets are and
+# once parsed. Python makes a tenth of the calls. The library is that of `rt lib` in crates/pkcs12_c. The store of many keys needs Python's
+# cryptography.
 set -eu
 
 home=$(cd "$(dirname "$0")/.." && pwd)
@@ -46,7 +47,8 @@ for name in openssl-default openssl-key keytool-default cryptography-default; do
 done
 echo p >"$work/p"
 if "$home/bench/make_bench_store.py" keys 1000 "$work/keys" 2>/dev/null; then
-    measure '1,000 keys, count 1' "$work/keys" "$work/p" 1 "$((calls / 100 + 1))" keys
+    measure '1,000 keys' "$work/keys" "$work/p" 1 "$((calls / 100 + 1))" keys
+    measure '1,000 keys, parsed' "$work/keys" "$work/p" 1 "$((calls / 100 + 1))" parsed
 else
     echo "without the store of many keys: Python's cryptography is not there" >&2
 fi

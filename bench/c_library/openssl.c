@@ -1,6 +1,6 @@
-/* openssl STORE PASSWORD-FILE ROUNDS CALLS [keys]: the same by libcrypto: PKCS12_parse, then PEM of the certificates, and of the key
- * under PBES2 in so many rounds. PKCS12_parse gives one key of a store: with the word `keys` each bag is opened by itself, and each key
- * sealed as its octets are, without a look inside. */
+/* openssl STORE PASSWORD-FILE ROUNDS CALLS [keys | parsed]: the same by libcrypto: PKCS12_parse, then PEM of the certificates, and of
+ * the key under PBES2 in so many rounds. PKCS12_parse gives one key of a store: with a further word each bag is opened by itself. With
+ * `keys` each key is sealed as its octets are, without a look inside; with `parsed` it is read first, as PKCS12_parse reads its one. */
 #include <openssl/err.h>
 #include <openssl/evp.h>
 #include <openssl/pem.h>
@@ -62,13 +62,25 @@ static void once(size_t len, int rounds)
     PKCS12_free(read);
 }
 
-static void write_bag(BIO *out, const PKCS12_SAFEBAG *bag, int rounds)
+/* The key, read and written again. */
+static PKCS8_PRIV_KEY_INFO *parsed(PKCS8_PRIV_KEY_INFO *info)
+{
+    EVP_PKEY *key = EVP_PKCS82PKEY(info);
+    if (!key)
+        refused();
+    PKCS8_PRIV_KEY_INFO_free(info);
+    info = EVP_PKEY2PKCS8(key);
+    EVP_PKEY_free(key);
+    return info;
+}
+
+static void write_bag(BIO *out, const PKCS12_SAFEBAG *bag, int rounds, int parse)
 {
     if (PKCS12_SAFEBAG_get_nid(bag) == NID_pkcs8ShroudedKeyBag) {
         PKCS8_PRIV_KEY_INFO *info = PKCS12_decrypt_skey(bag, password, (int)strlen(password));
         if (!info)
             refused();
-        write_key(out, info, rounds);
+        write_key(out, parse ? parsed(info) : info, rounds);
     } else if (PKCS12_SAFEBAG_get_nid(bag) == NID_certBag) {
         X509 *certificate = PKCS12_SAFEBAG_get1_cert(bag);
         PEM_write_bio_X509(out, certificate);
@@ -76,7 +88,7 @@ static void write_bag(BIO *out, const PKCS12_SAFEBAG *bag, int rounds)
     }
 }
 
-static void each_bag(size_t len, int rounds)
+static void each_bag(size_t len, int rounds, int parse)
 {
     const unsigned char *at = store;
     PKCS12 *read = d2i_PKCS12(NULL, &at, (long)len);
@@ -90,7 +102,7 @@ static void each_bag(size_t len, int rounds)
             ? PKCS12_unpack_p7data(content)
             : PKCS12_unpack_p7encdata(content, password, (int)strlen(password));
         for (int j = 0; j < sk_PKCS12_SAFEBAG_num(bags); j++)
-            write_bag(out, sk_PKCS12_SAFEBAG_value(bags, j), rounds);
+            write_bag(out, sk_PKCS12_SAFEBAG_value(bags, j), rounds, parse);
         sk_PKCS12_SAFEBAG_pop_free(bags, PKCS12_SAFEBAG_free);
     }
     BIO_free(out);
@@ -110,7 +122,7 @@ int main(int argc, char **argv)
     clock_gettime(CLOCK_PROCESS_CPUTIME_ID, &from);
     for (int i = 0; i < calls; i++)
         if (argc > 5)
-            each_bag(len, rounds);
+            each_bag(len, rounds, !strcmp(argv[5], "parsed"));
         else
             once(len, rounds);
     clock_gettime(CLOCK_PROCESS_CPUTIME_ID, &to);
