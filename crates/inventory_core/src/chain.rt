@@ -1,105 +1,65 @@
-//! Chains of certificates.
-ghost use Rattle.std.specs.Prelude.{◌≡◌, ◌≢◌, ◌<◌, length, false, Some, IfOk, IfErr};
-ghost use Rattle.std.specs.List.{slice_get};
-ghost use Rattle.inventory_core.specs.Chains.{IsChain, IsLeast, IsParent, Next, Subject, has, has_subject};
-ghost use Rattle.inventory_core.specs.View.{seen_all, seen_certificate};
+//! The steps of a chain of certificates.
+ghost use Rattle.std.specs.Prelude.{◌≡◌, ℕ, None, get_or, IfOk};
+ghost use Rattle.std.specs.BTreeMap as tree;
+ghost use Rattle.std.specs.Ordering.{nat_cmp};
+ghost use Rattle.inventory_core.specs.SubjectIndex.{cursor_of, moved, skipped};
 
-use crate::certificate::CertificateView;
-use crate::parent::Parent;
-use octet_core::Items;
-use std::alloc::{AllocError, Global};
+use std::alloc::AllocError;
+use std::collections::BTreeMap;
 
-/// Whether the subject of the certificate is this name.
-fn is_named(certificates: &[Option<CertificateView<'_>>], k: usize, name: &[u8]) -> bool
-    ensures { result ≡ has_subject (slice_get (seen_all certificates.now) k) name.now }
+/// The cursors of a chain. For the first certificate of a subject: the certificate at which the
+/// search for the next one with this subject goes on, or `None` where all of them are in the chain.
+/// A cursor that was not moved is left out, and is at that first certificate. Certificates from a
+/// cursor on are not in the chain, but for the one that the chain starts with.
+pub(crate) type Cursors = BTreeMap<usize, Option<usize>>;
+
+/// The number at this place, where there is one.
+pub(crate) fn number_at(numbers: &[Option<usize>], k: usize) -> Option<usize>
+    ensures { result ≡ get_or numbers.now k None }
 {
-    match certificates.get(k) {
-        Some(Some(certificate)) => certificate.subject == name,
-        _ => false,
+    match numbers.get(k) {
+        Some(number) => *number,
+        None => None,
     }
 }
 
-/// The least other certificate with this subject.
-fn other_named(certificates: &[Option<CertificateView<'_>>], j: usize, name: &[u8]) -> Option<usize>
-    ensures { IsLeast (λ i. (i ≢ j) × Subject (seen_all certificates.now) name.now i) result }
+/// The cursor of the certificates with the subject of `first`, which is the first of them.
+fn cursor_at(cursors: &Cursors, first: usize) -> Option<usize>
+    ensures { result ≡ cursor_of (tree.get nat_cmp cursors.now) first }
 {
-    for k in 0..certificates.len() {
-        if k != j && is_named(certificates, k, name) {
-            return Some(k);
-        }
-    }
-    None
-}
-
-/// The parent of `certificate`, which has number `j`: itself where its issuer is its subject, else
-/// the least other certificate whose subject is its issuer, where there is one. `None` is for
-/// certificates that could not be read.
-pub fn parent_of(
-    certificates: &[Option<CertificateView<'_>>],
-    j: usize,
-    certificate: &CertificateView<'_>,
-) -> Parent
-    ensures { IsParent (seen_all certificates.now) j (seen_certificate certificate.now) result }
-{
-    if certificate.issuer == certificate.subject {
-        return Parent::Itself;
-    }
-    match other_named(certificates, j, certificate.issuer) {
-        Some(k) => Parent::Of(k),
-        None => Parent::Unknown,
+    match cursors.get(&first) {
+        Some(cursor) => *cursor,
+        None => Some(first),
     }
 }
 
-/// The least certificate with this subject that is not among the numbers.
-fn new_named(
-    certificates: &[Option<CertificateView<'_>>],
-    sofar: &[usize],
-    name: &[u8],
-) -> Option<usize>
-    ensures { IsLeast (λ k. (has sofar.now k ≡ false)
-        × Subject (seen_all certificates.now) name.now k) result }
+/// The certificate at a cursor, or the next one with its subject where that is the start.
+fn skip_start(namesakes: &[Option<usize>], start: usize, cursor: Option<usize>) -> Option<usize>
+    ensures { result ≡ skipped namesakes.now start cursor }
 {
-    for k in 0..certificates.len() {
-        if !sofar.contains(&k) && is_named(certificates, k, name) {
-            return Some(k);
-        }
+    let k = cursor?;
+    if k == start {
+        number_at(namesakes, k)
+    } else {
+        Some(k)
     }
-    None
 }
 
-/// The certificate that comes next in a chain.
-fn next_of(certificates: &[Option<CertificateView<'_>>], sofar: &[usize], j: usize) -> Option<usize>
-    ensures { Next (seen_all certificates.now) sofar.now j result }
-{
-    let Some(Some(certificate)) = certificates.get(j) else {
-        return None;
-    };
-    if certificate.issuer == certificate.subject {
-        return None;
-    }
-    new_named(certificates, sofar, certificate.issuer)
-}
-
-/// The chain that begins with the certificate of number `start`: after each comes the least
-/// certificate not yet in the chain whose subject is the issuer of the one before. It ends where
-/// there is none, or after a certificate that was not read or is its own issuer. The numbers count
-/// from 0. The only error is out of memory.
-pub fn chain_from(
-    alloc: Global,
-    certificates: &[Option<CertificateView<'_>>],
+/// Takes the next certificate of those with the subject of `first`, which is the first of them.
+pub(crate) fn take_next(
+    namesakes: &[Option<usize>],
+    cursors: &mut Cursors,
     start: usize,
-) -> Result<Items<usize>, AllocError>
-    ensures { IfOk result (λ ks. IsChain (seen_all certificates.now) start ks) }
+    first: usize,
+) -> Result<Option<usize>, AllocError>
+    ensures next { IfOk result (λ next. next
+        ≡ skipped namesakes.now start (cursor_of (tree.get nat_cmp cursors.old) first)) }
+    ensures cursors { IfOk result (λ next. (r : ℕ) → cursor_of (tree.get nat_cmp cursors.new) r
+        ≡ moved namesakes.now first next (cursor_of (tree.get nat_cmp cursors.old)) r) }
 {
-    let mut chain = Items::new(alloc);
-    chain.push(start)?;
-    let mut last = start;
-    'links: loop {
-        let k = match next_of(certificates, chain.as_slice(), last) {
-            Some(k) => k,
-            None => return Ok(chain),
-        };
-        chain.push(k)?;
-        last = k;
-    }
+    let Some(k) = skip_start(namesakes, start, cursor_at(cursors, first)) else {
+        return Ok(None);
+    };
+    cursors.insert(first, number_at(namesakes, k))?;
+    Ok(Some(k))
 }

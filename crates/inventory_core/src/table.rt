@@ -4,6 +4,7 @@ ghost use Rattle.frame.specs.DueText.{joined};
 ghost use Rattle.inventory_core.specs.Table.{IsTable};
 
 use crate::gathered::gather;
+use crate::subject_index::SubjectIndex;
 use crate::table_lines::{add_key_lines, certificate_lines};
 use octet_core::{Items, Text};
 use p12::SafeBag;
@@ -17,11 +18,11 @@ pub(crate) fn table_of(
     ensures { IfOk result (λ lines. IsTable contents.now (joined lines)) }
 {
     let gathered = gather(alloc, contents)?;
-    let certificates = gathered.certificates.as_slice();
-    let mut lines = certificate_lines(alloc, certificates)?;
+    let index = SubjectIndex::new(alloc, gathered.certificates.as_slice())?;
+    let mut lines = certificate_lines(alloc, &index)?;
     add_key_lines(
         alloc,
-        certificates,
+        &index,
         gathered.certificate_ids.as_slice(),
         gathered.key_ids.as_slice(),
         &mut lines,

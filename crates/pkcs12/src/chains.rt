@@ -1,7 +1,7 @@
 //! The chains of private keys, each as one PEM file: the key's certificate first, and then its issuers.
 use crate::listing::Listing;
 use asn1_core::{Items, Octets};
-use inventory_core::{CertificateView, chain_from};
+use inventory_core::{CertificateView, SubjectIndex};
 use pem_text::pem_of;
 use std::alloc::{AllocError, Global};
 use std::fmt::Write;
@@ -46,11 +46,12 @@ pub fn chains(
     found: &Listing,
 ) -> Result<Vec<Option<Chain>>, AllocError> {
     let views = views_of(alloc, certificates)?;
+    let index = SubjectIndex::new(alloc, views.as_slice())?;
     let mut chains = Vec::new(alloc);
     for start in found.pairs(alloc)?.iter() {
         let chain = match start {
             Some(start) => {
-                let places = chain_from(alloc, views.as_slice(), *start)?;
+                let places = index.chain_from(alloc, *start)?;
                 let is_whole = is_whole(views.as_slice(), places.as_slice());
                 Some(Chain { places, is_whole })
             }

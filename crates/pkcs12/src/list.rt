@@ -7,7 +7,7 @@ use crate::ending::Failure;
 use crate::given::{opened, read_given};
 use crate::input::inputs_differ;
 use crate::inspection::listing;
-use crate::listed::certificates_of;
+use crate::listed::read_certificates;
 use crate::listed_json::listed_json;
 use crate::listed_text::listed_text;
 use crate::long_work::tell_long_work;
@@ -71,7 +71,8 @@ pub fn run_list<R: Runtime + AllocGlobal>(
     tell_long_work(rt, around, given.store.as_slice(), None);
     let opened = opened(rt.alloc(), &given, asked.limit)?;
     let labels = listing(rt.alloc(), opened.contents.as_slice())?;
-    let certificates = certificates_of(rt.alloc(), opened.contents.as_slice())?;
+    let read = read_certificates(rt.alloc(), opened.contents.as_slice())?;
+    let certificates = read.indexed(rt.alloc())?;
     let now = now_text(rt)?;
     let now = now.as_ref().map(|text| text.as_str());
     let text = if asked.in_json {

@@ -1,16 +1,23 @@
 //! The certificates of an opened store, as `list` shows them.
 use asn1_core::{Items, Text};
-use inventory_core::{CertificateView, Parent, parent_of};
+use inventory_core::{CertificateView, Parent, SubjectIndex};
 use p12::{CertBag, SafeBag, SafeBagKind};
 use sha2::{Digest, Sha256};
 use std::alloc::{AllocError, Global};
 use x509_names::{Parts, name_text, time_text};
 
-/// The certificates of a store, in its order.
+/// The certificates of a store, in its order, and what could be read of each.
 #[derive(Drop)]
-pub struct Certificates<'a> {
+pub struct ReadCertificates<'a> {
     octets: Vec<&'a [u8]>,
     views: Vec<Option<CertificateView<'a>>>,
+}
+
+/// The certificates of a store, in its order, with an index by which parents and chains are found.
+#[derive(Drop)]
+pub struct Certificates<'a> {
+    octets: &'a [&'a [u8]],
+    index: SubjectIndex<'a>,
 }
 
 /// What is shown of a certificate beside its label.
@@ -59,7 +66,7 @@ impl Validity {
 
 /// Adds the certificates among these bags.
 fn add_bags<'a>(
-    certificates: &mut Certificates<'a>,
+    certificates: &mut ReadCertificates<'a>,
     bags: &'a [SafeBag],
 ) -> Result<(), AllocError> {
     for bag in bags {
@@ -75,11 +82,11 @@ fn add_bags<'a>(
 }
 
 /// The X.509 certificates among the bags of an opened store.
-pub fn certificates_of<'a>(
+pub fn read_certificates<'a>(
     alloc: Global,
     contents: &'a [Items<SafeBag>],
-) -> Result<Certificates<'a>, AllocError> {
-    let mut certificates = Certificates {
+) -> Result<ReadCertificates<'a>, AllocError> {
+    let mut certificates = ReadCertificates {
         octets: Vec::new(alloc),
         views: Vec::new(alloc),
     };
@@ -103,15 +110,30 @@ fn validity_of(
     }
 }
 
+impl ReadCertificates<'_> {
+    /// The same with an index.
+    pub fn indexed(&self, alloc: Global) -> Result<Certificates<'_>, AllocError> {
+        Ok(Certificates {
+            octets: self.octets.as_slice(),
+            index: SubjectIndex::new(alloc, self.views.as_slice())?,
+        })
+    }
+}
+
 impl<'a> Certificates<'a> {
     /// What could be read of each.
-    pub fn views(&self) -> &[Option<CertificateView<'a>>] {
-        self.views.as_slice()
+    pub fn views(&self) -> &'a [Option<CertificateView<'a>>] {
+        self.index.certificates()
+    }
+
+    /// The chain that begins with the certificate at this place.
+    pub fn chain_from(&self, alloc: Global, start: usize) -> Result<Items<usize>, AllocError> {
+        self.index.chain_from(alloc, start)
     }
 
     /// What is shown of the certificate at this place; none where its octets are no certificate.
     pub fn get(&self, alloc: Global, place: usize) -> Result<Option<Certificate<'a>>, AllocError> {
-        let (Some(octets), Some(Some(view))) = (self.octets.get(place), self.views.get(place))
+        let (Some(octets), Some(Some(view))) = (self.octets.get(place), self.views().get(place))
         else {
             return Ok(None);
         };
@@ -120,7 +142,7 @@ impl<'a> Certificates<'a> {
         };
         Ok(Some(Certificate {
             view: *view,
-            parent: parent_of(self.views.as_slice(), place, view),
+            parent: self.index.parent_of(place),
             subject: name_text(alloc, view.subject)?,
             issuer: name_text(alloc, view.issuer)?,
             serial_number: parts.serial_number,

@@ -5,7 +5,7 @@ use crate::listed::{Certificate, Certificates, Validity, When};
 use crate::listed_text::SerialNumber;
 use crate::listing::{Label, Listing};
 use crate::public_key::PublicKey;
-use inventory_core::{Parent, chain_from};
+use inventory_core::Parent;
 use std::alloc::{AllocError, Global};
 use std::fmt::Write;
 
@@ -132,7 +132,7 @@ fn add_private_key(
     text.push_str(", \"chain\": [")?;
     let mut whole = false;
     if let Some(start) = start {
-        let chain = chain_from(alloc, certificates.views(), start)?;
+        let chain = certificates.chain_from(alloc, start)?;
         whole = is_whole(certificates.views(), chain.as_slice());
         for (at, place) in chain.as_slice().iter().enumerate() {
             let comma = if at == 0 { "" } else { ", " };

@@ -4,7 +4,7 @@ use crate::listed::{Certificate, Certificates, Validity, When};
 use crate::listing::{Label, Listing};
 use crate::printable::{Hexadecimal, InQuotes, Printable};
 use crate::public_key::PublicKey;
-use inventory_core::{Parent, chain_from};
+use inventory_core::Parent;
 use std::alloc::{AllocError, Global};
 use std::fmt;
 use std::fmt::Write;
@@ -102,7 +102,7 @@ fn add_chain(
         return text.push_str("  chain: no certificate of this store has its local key id\n");
     };
     text.push_str("  chain:")?;
-    let chain = chain_from(alloc, certificates.views(), start)?;
+    let chain = certificates.chain_from(alloc, start)?;
     for place in chain.as_slice() {
         write!(text, " cert-{place}")?;
     }

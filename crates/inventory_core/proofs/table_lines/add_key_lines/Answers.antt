@@ -11,6 +11,6 @@ loop-i-preserved c =
     let so_far = c.loop-i.invariant in (
       so_far.0 ++ line ∷ [],
       c.in_ok-push.ensures.ok ∙ ap (λ t. t ++ line ∷ []) so_far.1 ∙ append_assoc c.args.lines.now so_far.0 (line ∷ []),
-      next_line (KeyLine (seen_all c.args.certificates.now) c.args.certificate_ids.now) c.args.key_ids.now c.loop-i.i c.index-key_ids-i.result so_far.0 line (omega arith) c.index-key_ids-i.is
-          (c.start_of-start.result, c.start_of-start.ensures, c.in_ok-chain_line.ensures) so_far.2,
+      next_line (KeyLine (seen_all c.args.index.now.certificates.now) c.args.certificate_ids.now) c.args.key_ids.now c.loop-i.i c.index-key_ids-i.result so_far.0 line (omega arith) c.index-key_ids-i.is
+          (c.start_of-start.result, c.start_of-start.ensures c.args.certificate_ids.now c.in_ok-firsts.ensures, c.in_ok-chain_line.ensures) so_far.2,
     )
