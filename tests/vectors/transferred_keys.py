@@ -166,6 +166,15 @@ def rows():
     yield "one octet too few", "p q 3 99", two, more[:63], "Rng", None
     yield "a second line of no octets", "p q 3 99", two, b"", "Rng", None
 
+    # Keys are sealed four at a time: here are one group of four, and two with one or three keys left.
+    for many in (4, 9, 11):
+        keys = [KEY[:-1] + bytes([at]) for at in range(many)]
+        whole_of = store_of([sealed_key(key, "p", SALTS[0], 1) for key in keys], "p")
+        more = bytes(at * 7 % 251 for at in range(32 * many))
+        seals = [document(key, "q", 3, more[32 * at : 32 * at + 32]) for at, key in enumerate(keys)]
+        yield f"{many} keys", "p q 3 99", whole_of, more, "Done", lines([], seals)
+        yield f"{many} keys and one octet too few", "p q 3 99", whole_of, more[:-1], "Rng", None
+
     def of(key, name, status="Done", opened=KEY, rounds=1):
         text = lines([], [document(opened, "q", rounds, drawn)]) if status == "Done" else None
         return name, f"p q {rounds} 9", store_of([sealed_key(key, "p", SALTS[0], 1)], "p"), drawn, status, text

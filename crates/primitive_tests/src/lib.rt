@@ -30,6 +30,8 @@ mod hash_caller;
 #[cfg(test)]
 mod hmac_tags;
 #[cfg(test)]
+mod lane_keys;
+#[cfg(test)]
 mod octets;
 #[cfg(test)]
 mod password_hashes;
