@@ -1,43 +1,68 @@
 -- Lanes of vectors, and what holds of each of four lanes, eight words or sixteen.
-use Rattle.std.proofs.Common.{◌≡◌, ℕ, zero, suc, ◌<◌, ◌+◌, ◌-◌, ◌*◌, ◌/◌, ◌%◌, ◌^◌, List, [], ◌∷◌, length, slice_index, slice_index_or, bit_or, arith, refl, ap, subst, inl, inr}
+use Rattle.std.proofs.Common.{◌≡◌, ℕ, zero, suc, ◌<◌, ◌+◌, ◌-◌, ◌*◌, ◌/◌, ◌%◌, ◌^◌, List, [], ◌∷◌, length, slice_index, slice_index_or, bit_or, arith, refl, sym, ap, ◌∙◌, subst, inl, inr}
 use Rattle.std.proofs.lemmas.Bool.{cases_lt}
-use Rattle.std.proofs.lemmas.Simd.{Each1-get_or}
+use Rattle.std.proofs.lemmas.Simd.{Each1-get_or, length-zip2}
 use Rattle.std.specs.Int.{w32, rotate_right}
 use Rattle.std.specs.Simd.Lanes.{Each1, zip2}
 use mir.Val.{Fits}
 use Rattle.sha2_lanes.specs.Lanes.{lane}
 
--- what holds of each of the four lanes
+-- what holds of 0, and of the number after each one below n, holds of each below n + 1
+below_next : (n : ℕ) (P : ℕ → Type 0) → P 0 → ((k : ℕ) → k < n → P (suc k)) → (k : ℕ) → k < suc n → P k
+below_next n P first later zero h = first
+below_next n P first later (suc k) h = later k (omega arith)
+
+below_none : (P : ℕ → Type 0) (k : ℕ) → k < 0 → P k
+below_none P k h = absurd (omega arith)
+
+-- what holds of 0 to 3
 pub below_four : (P : ℕ → Type 0) → P 0 → P 1 → P 2 → P 3 → (j : ℕ) → j < 4 → P j
-below_four P p0 p1 p2 p3 zero h = p0
-below_four P p0 p1 p2 p3 (suc zero) h = p1
-below_four P p0 p1 p2 p3 (suc (suc zero)) h = p2
-below_four P p0 p1 p2 p3 (suc (suc (suc zero))) h = p3
-below_four P p0 p1 p2 p3 (suc (suc (suc (suc n)))) h = absurd (omega arith)
+below_four P a b c d =
+    below_next 3 P a (below_next 2 (λ i. P (suc i)) b (below_next 1 (λ i. P (suc (suc i))) c
+    (below_next 0 (λ i. P (suc (suc (suc i)))) d (below_none (λ i. P (suc (suc (suc (suc i)))))))))
 
--- what holds of each list of four elements
-pub four_lanes : (P : List ℕ → Type 0) → ((a b c d : ℕ) → P (a ∷ b ∷ c ∷ d ∷ [])) → (xs : List ℕ) → length xs ≡ 4 → P xs
-four_lanes P p (a ∷ b ∷ c ∷ d ∷ []) h = p a b c d
-four_lanes P p [] h = absurd (omega arith)
-four_lanes P p (a ∷ []) h = absurd (omega arith)
-four_lanes P p (a ∷ b ∷ []) h = absurd (omega arith)
-four_lanes P p (a ∷ b ∷ c ∷ []) h = absurd (omega arith)
-four_lanes P p (a ∷ b ∷ c ∷ d ∷ e ∷ xs) h = absurd (omega arith)
+-- an element of two lists that are joined one by one
+zip_at : (f : ℕ → ℕ → ℕ) (a b : List ℕ) → length b ≡ length a → (j : ℕ) → j < length a
+    → slice_index (zip2 f a b) j ≡ f (slice_index a j) (slice_index b j)
+zip_at f [] b same j h = absurd (omega arith)
+zip_at f (x ∷ a) [] same j h = absurd (omega arith)
+zip_at f (x ∷ a) (y ∷ b) same zero h = refl
+zip_at f (x ∷ a) (y ∷ b) same (suc j) h = zip_at f a b (omega arith) j (omega arith)
 
--- two shifts of each lane and an or are a rotation
-abbrev Rotates : ℕ → List ℕ → Type 0
-Rotates k a = (j : ℕ) → j < 4
-    → slice_index (zip2 bit_or
-    (zip2 (λ x n. x / 2 ^ n) a (k ∷ k ∷ k ∷ k ∷ []))
-    (zip2 (λ x n. x * 2 ^ n % 2 ^ 32) a ((32 - k) ∷ (32 - k) ∷ (32 - k) ∷ (32 - k) ∷ []))) j
+-- the vector with n in each lane
+abbrev pub splat : ℕ → List ℕ
+splat n = n ∷ n ∷ n ∷ n ∷ []
+
+pub splat_at : (n j : ℕ) → j < 4 → slice_index (splat n) j ≡ n
+splat_at n = below_four _ refl refl refl refl
+
+-- f of each lane and n
+each_at : (f : ℕ → ℕ → ℕ) (n : ℕ) (a : List ℕ) → length a ≡ 4 → (j : ℕ) → j < 4
+    → slice_index (zip2 f a (splat n)) j ≡ f (slice_index a j) n
+each_at f n a four j lt = zip_at f a (splat n) (sym four) j (omega arith) ∙ ap (f (slice_index a j)) (splat_at n j lt)
+
+-- a shift of each lane
+pub shifts_each : (k : ℕ) → k < 32 → (a : List ℕ) → length a ≡ 4 → (j : ℕ) → j < 4
+    → slice_index (zip2 (λ x n. x / 2 ^ n) a (splat k)) j ≡ slice_index a j / 2 ^ k
+shifts_each k high a four j lt = each_at (λ x n. x / 2 ^ n) k a four j lt
+
+-- shifts of each lane to the right by k and to the left by the rest, joined by or, rotate it
+pub shifts_rotate : (k : ℕ) → 0 < k → k < 32 → (a : List ℕ) → length a ≡ 4 → (j : ℕ) → j < 4
+    → slice_index (zip2 bit_or (zip2 (λ x n. x / 2 ^ n) a (splat k)) (zip2 (λ x n. x * 2 ^ n % 2 ^ 32) a (splat (32 - k)))) j
     ≡ rotate_right w32 (slice_index a j) k
-
-pub shifts_rotate : (k : ℕ) → 0 < k → k < 32 → (a : List ℕ) → length a ≡ 4 → Rotates k a
-shifts_rotate k low high =
-    let left : k % 32 ≡ k = omega arith in
-    let right : (32 - k) % 32 ≡ 32 - k = omega arith in
-    four_lanes (Rotates k) (λ a0 a1 a2 a3.
-    below_four _ (rw (left, right) refl) (rw (left, right) refl) (rw (left, right) refl) (rw (left, right) refl))
+shifts_rotate k low high a four j lt =
+    let right = length-zip2 (λ x n. x / 2 ^ n) a (splat k) four in
+    let left = length-zip2 (λ x n. x * 2 ^ n % 2 ^ 32) a (splat (32 - k)) four in
+    let of_k : k % 32 ≡ k = omega arith in
+    let of_rest : (32 - k) % 32 ≡ 32 - k = omega arith in
+    rw (
+      zip_at bit_or _ (zip2 (λ x n. x * 2 ^ n % 2 ^ 32) a (splat (32 - k))) (left ∙ sym right) j (rw right (omega arith)),
+      each_at (λ x n. x / 2 ^ n) k a four j lt,
+      each_at (λ x n. x * 2 ^ n % 2 ^ 32) (32 - k) a four j lt,
+      of_k,
+      of_rest,
+    )
+    refl
 
 -- word k of a lane is the lane of vector k
 pub slice_index-lane : (x : List (List ℕ)) (j k : ℕ) → slice_index (lane j x) k ≡ slice_index (slice_index_or x k []) j
@@ -49,31 +74,17 @@ pub length-lane : (x : List (List ℕ)) (j : ℕ) → length (lane j x) ≡ leng
 length-lane [] j = refl
 length-lane (v ∷ x) j = ap suc (length-lane x j)
 
--- a splat has its word in each lane
-pub splat_at : (k j : ℕ) → j < 4 → slice_index (k ∷ k ∷ k ∷ k ∷ []) j ≡ k
-splat_at k = below_four _ refl refl refl refl
-
--- a shift of each lane
-abbrev Shifts : ℕ → List ℕ → Type 0
-Shifts k a = (j : ℕ) → j < 4
-    → slice_index (zip2 (λ x n. x / 2 ^ n) a (k ∷ k ∷ k ∷ k ∷ [])) j ≡ slice_index a j / 2 ^ k
-
-pub shifts_each : (k : ℕ) → k < 32 → (a : List ℕ) → length a ≡ 4 → Shifts k a
-shifts_each k high = four_lanes (Shifts k) (λ a0 a1 a2 a3. below_four _ refl refl refl refl)
-
 -- the lanes of a vector are words
 pub lane_lt : (x : List ℕ) (j : ℕ) → (length x ≡ 4) × Each1 (Fits w32) x → j < 4 → slice_index x j < 2 ^ 32
 lane_lt x j (long, each) lt = (Each1-get_or (Fits w32) x j 0 (omega arith) each).fits
 
--- what holds of each of the eight words
+-- what holds of 0 to 7
 pub below_eight : (P : ℕ → Type 0) → P 0 → P 1 → P 2 → P 3 → P 4 → P 5 → P 6 → P 7 → (k : ℕ) → k < 8 → P k
-below_eight P a0 a1 a2 a3 b0 b1 b2 b3 zero h = a0
-below_eight P a0 a1 a2 a3 b0 b1 b2 b3 (suc zero) h = a1
-below_eight P a0 a1 a2 a3 b0 b1 b2 b3 (suc (suc zero)) h = a2
-below_eight P a0 a1 a2 a3 b0 b1 b2 b3 (suc (suc (suc zero))) h = a3
-below_eight P a0 a1 a2 a3 b0 b1 b2 b3 (suc (suc (suc (suc k)))) h = below_four (λ i. P (suc (suc (suc (suc i))))) b0 b1 b2 b3 k (omega arith)
+below_eight P a0 a1 a2 a3 b0 b1 b2 b3 =
+    below_next 7 P a0 (below_next 6 (λ i. P (suc i)) a1 (below_next 5 (λ i. P (suc (suc i))) a2 (below_next 4 (λ i. P (suc (suc (suc i)))) a3
+    (below_four (λ i. P (suc (suc (suc (suc i))))) b0 b1 b2 b3))))
 
--- what holds of each of the sixteen words
+-- what holds of each below 8, and of 8 to 15
 pub below_sixteen : (P : ℕ → Type 0) → ((k : ℕ) → k < 8 → P k)
     → P 8 → P 9 → P 10 → P 11 → P 12 → P 13 → P 14 → P 15 → (k : ℕ) → k < 16 → P k
 below_sixteen P front a0 a1 a2 a3 b0 b1 b2 b3 k h = elim (cases_lt k 8) [

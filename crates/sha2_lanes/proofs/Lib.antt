@@ -1,5 +1,3 @@
-mod ChMaj
 pub mod LaneLemmas
 mod OctetWords
-mod Rotations
 mod TwoBlocks
