@@ -1,5 +1,6 @@
 //! Encryption and decryption: a vector of RFC 8018's scheme as OpenSSL writes it, and refusals. Each pseudorandom function and each
 //! cipher is tried by the lines of `tests/vectors/schemes.txt`.
+use asn1_core::Octets;
 use pkcs5::Error;
 use pkcs5::pbes2::{
     EncryptionKey, EncryptionScheme, Kdf, PBKDF2_OID, Parameters, Pbkdf2Params, Pbkdf2Prf, Salt,
@@ -73,6 +74,31 @@ fn a_key_of_openssl_is_opened_and_sealed(rt: HostRuntime) {
         agrees(alloc, &parameters, &PASSWORD, &KEY, &SEALED_KEY)
             && agrees(alloc, &stated, &PASSWORD, &KEY, &SEALED_KEY)
     );
+}
+
+/// The ciphertext of the key under a derived key, where that has the length of the cipher's keys.
+fn sealed_under(alloc: Global, parameters: &Parameters, key: &EncryptionKey) -> Option<Octets> {
+    if key.as_slice().len() != parameters.encryption.key_size() {
+        return None;
+    }
+    parameters.encrypt_under_key(alloc, key, &KEY).ok()
+}
+
+#[test]
+fn a_key_is_sealed_under_one_of_several_derived_keys(rt: HostRuntime) {
+    let alloc = rt.alloc();
+    let own = Salt::new(b"\x79\xd9\x82\xe7\x0d\xf9\x1a\x88").expect(&rt, "a salt");
+    let other = Salt::new(&IV).expect(&rt, "a salt");
+    let salts = [other, own, other, other, other, own];
+    let keys = EncryptionKey::derive_each_pbkdf2_sha256(alloc, &PASSWORD, &salts, 2048).expect(
+        &rt, "keys",
+    );
+    let parameters = key_parameters(&rt);
+    for place in [1, 5] {
+        let key = keys.get(place).expect(&rt, "a key");
+        let sealed = sealed_under(alloc, &parameters, key).expect(&rt, "a ciphertext");
+        assert!(rt; keys.len() == 6 && sealed.as_slice() == SEALED_KEY.as_slice());
+    }
 }
 
 #[test]
