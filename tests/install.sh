@@ -215,6 +215,26 @@ closed_tree() {
         [ "$(ls "$work/theirs")" = prefix ] && [ "$(wc -l <"$work/told")" -eq 1 ]
 }
 holds a_tree_that_is_not_writable closed_tree
+# Where the library is not built yet: rt, here one that hands out the archive that is there, is called in its crate.
+library_built() {
+    [ "$expected" != "${expected#*libpkcs12.a}" ] || {
+        echo "skipped $name: the library is not built"
+        return 0
+    }
+    mkdir -p "$work/fresh/crates/pkcs12/out" "$work/fresh/crates/pkcs12_c" "$work/rt" &&
+        cp -r "$home/pkcs12" "$home/wrapper" "$home/docs" "$home/crates.txt" "$work/fresh" &&
+        cp -r "$home/crates/pkcs12_c/include" "$home/crates/pkcs12_c/link" "$work/fresh/crates/pkcs12_c" &&
+        cp "$home/crates/pkcs12/out/pkcs12" "$work/fresh/crates/pkcs12/out" &&
+        printf '#!/bin/sh\nmkdir -p out && cp "%s" out && echo "${PWD##*/} $1" >>"%s"\n' \
+            "$home/crates/pkcs12_c/out/libpkcs12_c.a" "$work/calls" >"$work/rt/rt" && chmod +x "$work/rt/rt" || return 1
+    status 0 env "PATH=$work/rt:$PATH" "$work/fresh/pkcs12" install "$work/of fresh" &&
+        [ "$(cat "$work/calls")" = 'pkcs12_c lib' ] && [ "$(files_and_modes "$work/of fresh")" = "$expected" ] &&
+        status 0 "$work/fresh/pkcs12" uninstall "$work/of fresh" && nothing_at "$work/of fresh" || return 1
+    # and a build that fails leaves nothing
+    rm "$work/fresh/crates/pkcs12_c/out/libpkcs12_c.a" && printf '#!/bin/sh\necho no proof\nexit 1\n' >"$work/rt/rt" &&
+        refused 1 env "PATH=$work/rt:$PATH" "$work/fresh/pkcs12" install "$work/of fresh" && nothing_at "$work/of fresh"
+}
+holds the_library_is_built_where_it_is_not library_built
 full_disk() {
     mkdir -p "$work/full" && mount -t tmpfs -o size=200k none "$work/full" 2>/dev/null || {
         echo "skipped $name: no file system can be mounted here"
