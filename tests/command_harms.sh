@@ -345,7 +345,7 @@ many_keys() {
         code=0
         timeout 10 setsid -w "$home/pkcs12" export "$work/many-keys.p12" --out "$work/none" --password-file "$work/p" --same-password \
             --rounds 100000000 --seal-limit "$each" >"$work/said" 2>"$work/told" || code=$?
-        [ "$code" -eq 26 ] && says told "200 private keys of 100000000 rounds each take 20000000000 rounds, about 2 hours" || return 1
+        [ "$code" -eq 26 ] && says told "200 private keys of 100000000 rounds each take 20000000000 rounds, about 83 minutes" || return 1
     done
     # The limit is exact: 200 keys of 5 rounds.
     fails 26 SealLimit "allows 999" export "$work/many-keys.p12" --out "$work/none" --password-file "$work/p" --same-password --rounds 5 \
@@ -363,7 +363,7 @@ progress() {
     [ -f "$work/many-keys.p12" ] || return 0
     "$home/tests/shared/at_terminal.py" -- "$home/pkcs12" export "$work/many-keys.p12" --out "$work/progress" --password-file "$work/p" \
         --same-password --rounds 20000 >"$work/told" || return 1
-    says told "sealing private key 1 of 200 .." && says told "sealing private key 200 of 200 .."
+    says told "pkcs12: sealing 200 private keys, which takes about "
 }
 holds a_terminal_shows_how_far_it_is progress
 # In processor time, the least of three.

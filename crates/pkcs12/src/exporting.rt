@@ -14,7 +14,7 @@ use crate::given::{Given, is_not_given_again, new_password_missing, opened, read
 use crate::input::{inputs_differ, path_of_store};
 use crate::inspection::listing;
 use crate::listing::Listing;
-use crate::long_work::{Duration, is_long_sealing, tell_long_work};
+use crate::long_work::{is_long_sealing, sealing_time, tell_long_work};
 use crate::opening::{certificates_alone, sealed_store};
 use crate::origin::{Origin, read_password};
 use crate::others::has_others;
@@ -85,9 +85,9 @@ fn is_within(keys: usize, rounds: u32, limit: u64) -> bool
 /// The failure of private keys that take too many rounds.
 fn too_many_rounds(alloc: Global, keys: usize, rounds: u32, limit: u64) -> Failure {
     let all = (keys as u128).saturating_mul(u128::from(rounds));
-    let duration = Duration(all);
+    let time = sealing_time(keys, rounds);
     let text = format!(in alloc;
-        "{keys} private keys of {rounds} rounds each take {all} rounds, about {duration}, and \
+        "{keys} private keys of {rounds} rounds each take {all} rounds, about {time}, and \
          --seal-limit allows {limit}"
     );
     Failure::told(Ending::SealLimit, text)

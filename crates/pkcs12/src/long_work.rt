@@ -19,7 +19,9 @@ pub struct Duration(pub u128);
 impl fmt::Display for Duration {
     fn fmt<W: fmt::Write>(&self, f: &mut fmt::Formatter<W>) -> fmt::Result {
         let seconds = self.0 / ROUNDS_A_SECOND;
-        if seconds < 120 {
+        if seconds < 2 {
+            f.write_str("a second")
+        } else if seconds < 120 {
             write!(f, "{seconds} seconds")
         } else if seconds < 7_200 {
             let minutes = seconds / 60;
@@ -38,9 +40,28 @@ fn are_many(rounds: Option<u32>) -> bool {
     }
 }
 
+/// About how long sealing so many keys in so many rounds takes: four keys take the time of two.
+pub fn sealing_time(keys: usize, rounds: u32) -> Duration {
+    let all = (keys as u128).saturating_mul(u128::from(rounds));
+    if keys < 4 {
+        Duration(all)
+    } else {
+        Duration(all / 2)
+    }
+}
+
 /// Whether sealing so many keys in so many rounds takes more than about a second.
 pub fn is_long_sealing(keys: usize, rounds: u32) -> bool {
     (keys as u128).saturating_mul(u128::from(rounds)) > LONG_WORK
+}
+
+/// Says that private keys are sealed, and about how long it takes.
+pub fn tell_sealing<R: Eprint>(rt: &R, keys: usize, rounds: u32) {
+    let time = sealing_time(keys, rounds);
+    // A terminal that cannot be written to is no failure of the work.
+    match eprintln!(rt; "pkcs12: sealing {keys} private keys, which takes about {time} ..") {
+        Ok(()) | Err(_) => {}
+    }
 }
 
 /// Says what the work takes; `rounds` are those of each private key that is written.

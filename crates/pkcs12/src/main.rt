@@ -40,7 +40,6 @@ mod output_exists;
 mod password;
 mod paths;
 mod printable;
-mod progress;
 mod public_key;
 mod refusal;
 mod rekey;

@@ -5,8 +5,8 @@ ghost use Rattle.transfer.specs.Transferred.{SealsOpened};
 ghost use Rattle.transfer.specs.Verdicts.{StoreOpens};
 
 use crate::ending::{Ending, Failure};
+use crate::long_work::tell_sealing;
 use crate::password::{NewPassword, Password};
-use crate::progress::{Progress, end_progress};
 use asn1_core::Octets;
 use mac_modes::{DrawnBytes, ReadDraw};
 use std::alloc::Global;
@@ -85,7 +85,8 @@ pub fn opened_store(
 }
 
 /// Seals the keys of an opened store under the new password, in so many rounds, over the system's
-/// random octets. Where `is_shown` is set, the standard error says which key it has come to.
+/// random octets. Where `is_shown` is set, the standard error says how many there are, and about
+/// how long they take.
 pub fn sealed_store<R: Files + Eprint + AllocGlobal + Drop>(
     rt: &R,
     opened: &Opened,
@@ -109,11 +110,12 @@ pub fn sealed_store<R: Files + Eprint + AllocGlobal + Drop>(
             ));
         }
     };
-    let mut draw = Progress::new(rt, ReadDraw::new(random), opened.keys.len(), is_shown);
+    if is_shown {
+        tell_sealing(rt, opened.keys.len(), rounds);
+    }
+    let mut draw = ReadDraw::new(random);
     let new_password = new_password.as_str().as_bytes();
-    let sealed = seal_opened(rt.alloc(), opened, new_password, rounds, &mut draw);
-    end_progress(rt, is_shown);
-    match sealed {
+    match seal_opened(rt.alloc(), opened, new_password, rounds, &mut draw) {
         Ok(transferred) => Ok(transferred),
         Err(refusal) => Err(refused(refusal)),
     }
