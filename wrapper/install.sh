@@ -4,6 +4,8 @@
 
 # The folders that `install` made, one a line, so that `uninstall` removes no other.
 pkcs12_made=lib/pkcs12/made
+# That is there where the library for C was installed too.
+pkcs12_with_library=lib/pkcs12/with-library
 # Everything that is installed, below the prefix.
 pkcs12_files='bin/pkcs12
 lib/pkcs12/pkcs12
@@ -17,7 +19,8 @@ pkcs12_library='include/pkcs12.h
 lib/libpkcs12.a
 lib/libpkcs12.so.1
 lib/libpkcs12.so
-lib/pkgconfig/pkcs12.pc'
+lib/pkgconfig/pkcs12.pc
+lib/pkcs12/with-library'
 
 not_installed() {
     printf 'pkcs12: BuildFailed (1): not installed: %s\n' "$1" >&2
@@ -42,16 +45,21 @@ find_prefix() {
         -* | '') wrong_use "the prefix is a folder, as in ./pkcs12 install /usr/local" ;;
         *) pkcs12_prefix=$PWD/$pkcs12_prefix ;;
     esac
+    while [ "${pkcs12_prefix%/}" != "$pkcs12_prefix" ]; do pkcs12_prefix=${pkcs12_prefix%/}; done
     pkcs12_top=${DESTDIR-}$pkcs12_prefix
+    case $pkcs12_top in
+        /* | '') ;;
+        *) pkcs12_top=$PWD/$pkcs12_top ;;
+    esac
     while [ "${pkcs12_top%/}" != "$pkcs12_top" ]; do pkcs12_top=${pkcs12_top%/}; done
 }
 
-# Refuses to write over what is not of an earlier installation.
+# Refuses to write over those of the files $2 that are there and not of an earlier installation, which has left the file $1.
 refuse_others() {
-    for pkcs12_each in $pkcs12_files $pkcs12_library; do
+    for pkcs12_each in $2; do
         pkcs12_there=$pkcs12_top/$pkcs12_each
         [ -e "$pkcs12_there" ] || [ -L "$pkcs12_there" ] || continue
-        [ -f "$pkcs12_top/$pkcs12_made" ] || not_installed "$pkcs12_there is there, and is not of this command"
+        [ -f "$pkcs12_top/$1" ] || not_installed "$pkcs12_there is there, and is not of this command"
         [ ! -d "$pkcs12_there" ] || not_installed "$pkcs12_there is a folder"
     done
 }
@@ -133,11 +141,12 @@ find_library() {
 # Leaves it linked in $pkcs12_made_library.
 make_library() {
     [ -n "$pkcs12_archive" ] || return 0
-    pkcs12_made_library=$(mktemp -d)
+    pkcs12_made_library=$(mktemp -d) || not_installed "a folder for temporary files could not be made"
     "$pkcs12_c/link/make_library.sh" "$pkcs12_made_library" || not_installed "the library for C could not be linked"
 }
 stage_library() {
     [ -n "$pkcs12_made_library" ] || return 0
+    stage 644 "$pkcs12_with_library" :
     stage 644 include/pkcs12.h cat "$pkcs12_c/include/pkcs12.h"
     stage 644 lib/libpkcs12.a cat "$pkcs12_made_library/libpkcs12.a"
     stage 644 lib/libpkcs12.so.1 cat "$pkcs12_made_library/libpkcs12.so.1"
@@ -165,11 +174,12 @@ stage_all() {
 
 install() {
     find_prefix "$@"
-    refuse_others
+    refuse_others "$pkcs12_made" "$pkcs12_files"
     refuse_closed
     # These have traps of their own.
     [ -x "$pkcs12_program" ] || build
     find_library
+    [ -z "$pkcs12_archive" ] || refuse_others "$pkcs12_with_library" "$pkcs12_library"
     umask 022
     pkcs12_staged=
     pkcs12_new_folders=
@@ -187,7 +197,7 @@ install() {
     done
     [ -z "$pkcs12_made_library" ] || rm -rf -- "$pkcs12_made_library"
     trap - EXIT HUP INT TERM
-    echo "pkcs12 is installed below $pkcs12_top; ./pkcs12 uninstall removes it"
+    echo "pkcs12 is installed below $pkcs12_top; $pkcs12_top/bin/pkcs12 uninstall removes it"
     case :$PATH: in
         *":$pkcs12_prefix/bin:"*) ;;
         *) echo "$pkcs12_prefix/bin is not among the folders of PATH" ;;
@@ -198,7 +208,8 @@ uninstall() {
     find_prefix "$@"
     [ -f "$pkcs12_top/$pkcs12_made" ] || wrong_use "pkcs12 is not installed below $pkcs12_top"
     pkcs12_new_folders=$(cat -- "$pkcs12_top/$pkcs12_made")
+    [ -f "$pkcs12_top/$pkcs12_with_library" ] || pkcs12_library=
     for pkcs12_each in $pkcs12_files $pkcs12_library "$pkcs12_made"; do rm -f -- "$pkcs12_top/$pkcs12_each"; done
     remove_folders "$pkcs12_new_folders"
-    echo "pkcs12 is no more below $pkcs12_top"
+    echo "pkcs12 is no longer below $pkcs12_top"
 }
