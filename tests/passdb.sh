@@ -105,6 +105,13 @@ by_variable() {
         fails 3 ReadFault 'no environment variable' check "$file" bob --password-env PASSDB_NO_SUCH
 }
 holds takes_a_password_from_the_environment by_variable
+lost_variables() {
+    for variable in my.password MY-PASSWORD 1st '' IFS PWD passdb_file PASSDB_WAITING; do
+        fails 2 Usage 'environment variable by its name' check "$file" bob --password-env "$variable" &&
+            fails 2 Usage 'environment variable by its name' change "$file" bob "--new-password-env=$variable" || return 1
+    done
+}
+holds variables_that_a_shell_loses_are_told lost_variables
 by_input() {
     code=0
     printf 'a longer one\r\nmore\n' | "$PASSDB" check "$file" bob --password-stdin --rounds 1000 >"$work/said" 2>"$work/told" || code=$?
@@ -273,6 +280,50 @@ signalled() {
 }
 holds an_interrupted_run_leaves_nothing signalled TERM run
 holds a_killed_program_leaves_nothing signalled KILL program
+# The file is the second argument, also where it is named like an option, or like a word that this script uses.
+odd_files() {
+    mkdir "$work/odd-files" && for odd_file in -users value variable --rounds; do
+        (
+            cd "$work/odd-files" && ends 0 add --password-file "$work/one" --rounds 1000 -- "$odd_file" bob || exit 1
+            setsid -w "$PASSDB" add --rounds 10000000 --password-file "$work/one" -- "$odd_file" eve >"$work/said" 2>"$work/told" </dev/null &
+            run=$!
+            tries=0
+            until [ -s "./$odd_file.lock" ] || [ "$tries" -ge 100 ]; do
+                sleep 0.1
+                tries=$((tries + 1))
+            done
+            kill -KILL "$(cat "./$odd_file.lock")"
+            wait "$run" && exit 1
+            nothing_beside "./$odd_file"
+        ) || return 1
+    done
+}
+holds a_killed_program_leaves_nothing_of_odd_files odd_files
+# Somebody who may write there has put a pipe in the place of the lock.
+pipe_for_lock() {
+    setsid -w "$PASSDB" add "$file" eve --password-file "$work/one" --rounds 10000000 >"$work/said" 2>"$work/told" </dev/null &
+    run=$!
+    tries=0
+    until [ -s "$file.lock" ] || [ "$tries" -ge 100 ]; do
+        sleep 0.1
+        tries=$((tries + 1))
+    done
+    program=$(cat "$file.lock")
+    script=$(ps -o ppid= -p "$program" | tr -d ' ')
+    rm "$file.lock" && mkfifo "$file.lock" && kill -TERM "$script"
+    tries=0
+    while kill -0 "$script" 2>/dev/null && [ "$tries" -lt 50 ]; do
+        sleep 0.1
+        tries=$((tries + 1))
+    done
+    outcome=0
+    [ "$tries" -lt 50 ] || outcome=1
+    kill -KILL "$script" 2>/dev/null || :
+    wait "$run" || :
+    rm -f "$file.lock"
+    return "$outcome"
+}
+holds a_pipe_for_a_lock_holds_nothing_up pipe_for_lock
 
 # --- what is refused by the system ---
 

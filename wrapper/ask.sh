@@ -13,19 +13,25 @@ pkcs12_in_place=
 pkcs12_place=
 pkcs12_expected=
 for pkcs12_word in "$@"; do
-    if [ -n "$pkcs12_expected" ]; then
-        [ "$pkcs12_expected" != out ] || pkcs12_out=$pkcs12_word
-        pkcs12_expected=
-        continue
-    fi
-    case $pkcs12_word in
-        --) break ;;
-        --force) pkcs12_force=yes ;;
-        --in-place) pkcs12_in_place=yes ;;
-        --out) pkcs12_expected=out ;;
-        --out=*) pkcs12_out=${pkcs12_word#--out=} ;;
-        --*-file | --*-env | --*limit | --rounds | --format | --most-files) pkcs12_expected=value ;;
-        -*) ;;
+    case $pkcs12_expected:$pkcs12_word in
+        out:*)
+            pkcs12_out=$pkcs12_word
+            pkcs12_expected=
+            ;;
+        variable:*)
+            test_variable "$pkcs12_word"
+            pkcs12_expected=
+            ;;
+        value:*) pkcs12_expected= ;;
+        :--) pkcs12_expected=rest ;;
+        :--force) pkcs12_force=yes ;;
+        :--in-place) pkcs12_in_place=yes ;;
+        :--out) pkcs12_expected=out ;;
+        :--out=*) pkcs12_out=${pkcs12_word#--out=} ;;
+        :--password-env | :--new-password-env) pkcs12_expected=variable ;;
+        :--password-env=* | :--new-password-env=*) test_variable "${pkcs12_word#*=}" ;;
+        :--*-file | :--*limit | :--rounds | :--format | :--most-files) pkcs12_expected=value ;;
+        :-*) ;;
         *) pkcs12_place=$pkcs12_word ;;
     esac
 done
