@@ -155,6 +155,16 @@ again() {
     status 0 "$home/pkcs12" install "$work/prefix" && wait "$running" && [ "$(files_and_modes "$work/prefix")" = "$expected" ]
 }
 holds install_again_over_a_running_command again
+two_at_once() {
+    for each in 1 2 3; do
+        "$home/pkcs12" install "$work/at-once" >"$work/running" 2>&1 &
+        running=$!
+        status 0 "$home/pkcs12" install "$work/at-once" && wait "$running" && [ "$(files_and_modes "$work/at-once")" = "$expected" ] &&
+            status 0 "$home/pkcs12" uninstall "$work/at-once" && [ -z "$(find "$work/at-once" -type f 2>/dev/null)" ] &&
+            rm -rf "$work/at-once" || return 1
+    done
+}
+holds two_installations_at_once two_at_once
 for_packagers() {
     status 0 env "DESTDIR=$work/stage" "$home/pkcs12" install /usr && [ "$(files_and_modes "$work/stage/usr")" = "$expected" ] &&
         checks_a_store "$work/stage/usr/bin/pkcs12" && ! grep -rlF "$work" "$work/stage" &&

@@ -86,7 +86,8 @@ make_folder() {
     # first, since a signal may come when it was made
     pkcs12_new_folders="${1:-.}
 $pkcs12_new_folders"
-    mkdir -- "$pkcs12_top${1:+/$1}" || not_installed "the folder $pkcs12_top${1:+/$1} could not be made"
+    # -p, since another run may make it at the same time
+    mkdir -p -- "$pkcs12_top${1:+/$1}" || not_installed "the folder $pkcs12_top${1:+/$1} could not be made"
 }
 
 # Writes what the further words print beside its place $2 below the prefix, with the mode $1.
