@@ -47,14 +47,23 @@ identity() {
 pkcs12_replaced=
 [ -z "$pkcs12_force" ] || [ ! -d "$pkcs12_out" ] || pkcs12_replaced=$(identity "$pkcs12_out")
 
-# Whether $1 is a folder of the user who runs this, and no link to one. Others may have put theirs there, as in /tmp.
+# The number of the user whose folder or store is replaced: root's run gives the new one to that user.
+pkcs12_owner=
+[ -z "$pkcs12_out" ] || [ ! -e "$pkcs12_out" ] || pkcs12_owner=$(stat -c %u -- "$pkcs12_out" 2>/dev/null) || pkcs12_owner=
+
+# Whether $1 is of the user who runs this, or of the one whose folder or store is replaced. Others may have put theirs there, as in /tmp.
+is_own() {
+    [ -O "$1" ] || { [ -n "$pkcs12_owner" ] && [ "$(stat -c %u -- "$1" 2>/dev/null)" = "$pkcs12_owner" ]; }
+}
+
+# Whether $1 is such a folder, and no link to one.
 is_own_folder() {
-    [ -d "$1" ] && [ ! -L "$1" ] && [ -O "$1" ]
+    [ -d "$1" ] && [ ! -L "$1" ] && is_own "$1"
 }
 
 # The same of a file.
 is_own_file() {
-    [ -f "$1" ] && [ ! -L "$1" ] && [ -O "$1" ]
+    [ -f "$1" ] && [ ! -L "$1" ] && is_own "$1"
 }
 
 # Removes what the process $1 left half done, and puts back the folder that it was about to replace. That is known by its identity,
