@@ -181,6 +181,15 @@ relative_folders() {
     )
 }
 holds folders_that_are_relative relative_folders
+# Where the folder that a path begins from was removed, nothing goes to the root in its place.
+removed_folder() {
+    mkdir "$work/removed"
+    (cd "$work/removed" && rmdir "$work/removed" && refused 2 "$home/pkcs12" install relative-prefix) && [ ! -e /relative-prefix ] &&
+        mkdir "$work/removed" &&
+        (cd "$work/removed" && rmdir "$work/removed" && refused 2 env DESTDIR=relative-stage "$home/pkcs12" install /usr) &&
+        [ ! -e /relative-stage ]
+}
+holds a_folder_that_was_removed removed_folder
 without_a_prefix() {
     status 0 env "HOME=$work/a home" "$home/pkcs12" install && [ "$(files_and_modes "$work/a home/.local")" = "$expected" ] &&
         status 0 env "HOME=$work/a home" "$home/pkcs12" uninstall && nothing_at "$work/a home/.local" &&

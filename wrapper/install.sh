@@ -31,6 +31,16 @@ wrong_use() {
     exit 2
 }
 
+# Leaves in $pkcs12_absolute the path $1 from the root. A shell whose folder was removed has none to begin from.
+make_absolute() {
+    pkcs12_absolute=$1
+    case $1 in
+        /* | '') return 0 ;;
+    esac
+    [ -n "${PWD-}" ] && [ -d "$PWD" ] || wrong_use "this folder is not there any more: give a path from the root"
+    pkcs12_absolute=$PWD/$1
+}
+
 # Leaves in $pkcs12_top the folder below which files go for the arguments [PREFIX].
 find_prefix() {
     [ $# -le 1 ] || wrong_use "one folder at most, the prefix: ./pkcs12 install [PREFIX]"
@@ -41,16 +51,13 @@ find_prefix() {
         pkcs12_prefix=$HOME/.local
     fi
     case $pkcs12_prefix in
-        /*) ;;
         -* | '') wrong_use "the prefix is a folder, as in ./pkcs12 install /usr/local" ;;
-        *) pkcs12_prefix=$PWD/$pkcs12_prefix ;;
     esac
+    make_absolute "$pkcs12_prefix"
+    pkcs12_prefix=$pkcs12_absolute
     while [ "${pkcs12_prefix%/}" != "$pkcs12_prefix" ]; do pkcs12_prefix=${pkcs12_prefix%/}; done
-    pkcs12_top=${DESTDIR-}$pkcs12_prefix
-    case $pkcs12_top in
-        /* | '') ;;
-        *) pkcs12_top=$PWD/$pkcs12_top ;;
-    esac
+    make_absolute "${DESTDIR-}"
+    pkcs12_top=$pkcs12_absolute$pkcs12_prefix
     while [ "${pkcs12_top%/}" != "$pkcs12_top" ]; do pkcs12_top=${pkcs12_top%/}; done
 }
 
