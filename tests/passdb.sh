@@ -198,6 +198,8 @@ holds refuses_nul malformed 'a\0000b\n'
 holds refuses_octets_that_are_no_text malformed '\0377\0376\n'
 without_last_feed() { malformed "$(head -n 1 "$file")"; }
 holds refuses_a_last_line_without_line_feed without_last_feed
+with_cr_lf() { malformed "$(head -n 1 "$file")\\r\\n"; }
+holds refuses_lines_that_end_in_cr_lf with_cr_lf
 twice() { malformed "$(head -n 1 "$file")\\n$(head -n 1 "$file")\\n"; }
 holds refuses_a_name_twice twice
 huge() {
@@ -241,6 +243,12 @@ both_kept() {
     [ "$(wc -l <"$work/shared")" -eq 8 ] && nothing_beside "$work/shared"
 }
 holds runs_at_the_same_time_lose_nothing both_kept
+many_names() {
+    awk -F: 'NR == 1 { hash = $2; for (i = 0; i < 100000; i++) printf "m%06d:%s\n", i, hash }' "$file" >"$work/many" &&
+        ends 0 add "$work/many" zed --password-file "$work/one" --rounds 1000 && ends 0 remove "$work/many" m050000 &&
+        ends 0 list "$work/many" && [ "$(wc -l <"$work/said")" -eq 100000 ] && LC_ALL=C sort -c "$work/said" && nothing_beside "$work/many"
+}
+holds a_hundred_thousand_names many_names
 locked() {
     : >"$file.lock"
     cp "$file" "$work/before"
@@ -258,6 +266,21 @@ reads_on() {
     return "$outcome"
 }
 holds a_lock_stops_no_reading reads_on
+# Whatever is in the lock's place is a lock, and stays.
+odd_locks() {
+    for kind in folder pipe link; do
+        case $kind in
+            folder) mkdir "$file.lock" ;;
+            pipe) mkfifo "$file.lock" ;;
+            link) ln -s /nowhere "$file.lock" ;;
+        esac
+        code=0
+        echo s3cret | timeout 10 "$PASSDB" add "$file" eve --password-stdin >"$work/said" 2>"$work/told" || code=$?
+        [ "$code" -eq 5 ] && { [ -e "$file.lock" ] || [ -L "$file.lock" ]; } || return 1
+        rm -rf "$file.lock"
+    done
+}
+holds locks_that_are_no_files odd_locks
 # The signal $1 to the run, or to the program alone where $2 is `program`, while it derives.
 signalled() {
     cp "$file" "$work/before"
