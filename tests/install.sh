@@ -234,6 +234,15 @@ others_library() {
         [ "$(find "$work/header" -type f)" = "$work/header/include/pkcs12.h" ] && grep -qx 'of others' "$work/header/include/pkcs12.h"
 }
 holds a_header_of_others_is_kept others_library
+# Links under the names that files have until they are whole: their process number is that of the shell here.
+planted_links() {
+    mkdir -p "$work/planted/bin" "$work/planted/lib" && echo precious >"$work/precious" || return 1
+    # shellcheck disable=SC2016
+    status 0 sh -c 'for each in bin/pkcs12 lib/libpkcs12.so lib/libpkcs12.a; do ln -s "$1/precious" "$1/planted/$each.new-$$" || exit 9; done
+        exec "$2" install "$1/planted"' sh "$work" "$home/pkcs12" && [ "$(files_and_modes "$work/planted" | grep -v "\.new-")" = "$expected" ] &&
+        grep -qx precious "$work/precious" && checks_a_store "$work/planted/bin/pkcs12" && status 0 "$home/pkcs12" uninstall "$work/planted"
+}
+holds links_that_others_planted planted_links
 no_temporary_folder() {
     [ "${CC-}" != /nowhere/cc ] || {
         echo "skipped $name: the library for C is not built, or there is no compiler"

@@ -105,7 +105,9 @@ stage() {
     make_folder "${pkcs12_target%/*}"
     pkcs12_staged="$pkcs12_staged $pkcs12_target"
     pkcs12_new=$pkcs12_top/$pkcs12_target.new-$$
-    if ! "$@" >"$pkcs12_new" || ! chmod "$pkcs12_mode" "$pkcs12_new"; then
+    rm -f -- "$pkcs12_new"
+    # -C, so that no link is followed that others have put there
+    if ! (set -C && "$@" >"$pkcs12_new") || ! chmod "$pkcs12_mode" "$pkcs12_new"; then
         not_installed "$pkcs12_top/$pkcs12_target could not be written"
     fi
 }
@@ -161,7 +163,7 @@ stage_library() {
     make_folder lib/pkgconfig
     stage 644 lib/pkgconfig/pkcs12.pc cat "$pkcs12_c/link/pkcs12.pc"
     pkcs12_staged="$pkcs12_staged lib/libpkcs12.so"
-    ln -s libpkcs12.so.1 "$pkcs12_top/lib/libpkcs12.so.new-$$" || not_installed "$pkcs12_top/lib/libpkcs12.so could not be made"
+    ln -sfT libpkcs12.so.1 "$pkcs12_top/lib/libpkcs12.so.new-$$" || not_installed "$pkcs12_top/lib/libpkcs12.so could not be made"
 }
 
 # Each file of the installation, from its source.
