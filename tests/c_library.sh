@@ -246,7 +246,11 @@ calls() {
     done
     code=0
     "$@" "$keyed" "$work/new" "$work/new" >"$work/$caller.pem" 2>"$work/told" || code=$?
-    [ "$code" -eq 16 ] && [ ! -s "$work/$caller.pem" ]
+    [ "$code" -eq 16 ] && [ ! -s "$work/$caller.pem" ] || return 1
+    # No more is read than a store may have.
+    code=0
+    (ulimit -v 4000000 && exec timeout 60 "$@" /dev/zero "$work/new" "$work/new") >"$work/$caller.pem" 2>"$work/told" || code=$?
+    [ "$code" -eq 21 ] && [ ! -s "$work/$caller.pem" ]
 }
 has() {
     command -v "$1" >/dev/null || {

@@ -12,6 +12,7 @@ import os
 import sys
 
 DONE, ROOM = 0, 100
+STORE_MAX = 16_777_215
 
 
 class Refused(Exception):
@@ -107,14 +108,14 @@ def rekey(store, password, new_password, limit=100_000_000):
 
 def _first_line(path):
     with open(path, "rb") as file:
-        return file.readline().rstrip(b"\n").removesuffix(b"\r")
+        return file.readline(STORE_MAX).rstrip(b"\n").removesuffix(b"\r")
 
 
 def main():
     if len(sys.argv) != 4:
         sys.exit(__doc__)
     with open(sys.argv[1], "rb") as file:
-        store = file.read()
+        store = file.read(STORE_MAX + 1)
     try:
         sys.stdout.write(transfer_pem(store, _first_line(sys.argv[2]), _first_line(sys.argv[3])))
     except Refused as refused:
