@@ -10,7 +10,12 @@ _pkcs12() {
             return
             ;;
         --out)
-            mapfile -t COMPREPLY < <(compgen -d -- "$word")
+            # a file of rekey, and else a folder
+            if [ "${COMP_WORDS[1]}" = rekey ]; then
+                mapfile -t COMPREPLY < <(compgen -f -- "$word")
+            else
+                mapfile -t COMPREPLY < <(compgen -d -- "$word")
+            fi
             return
             ;;
         --password-env | --new-password-env)

@@ -246,7 +246,11 @@ calls() {
     done
     code=0
     "$@" "$keyed" "$work/new" "$work/new" >"$work/$caller.pem" 2>"$work/told" || code=$?
-    [ "$code" -eq 16 ] && [ ! -s "$work/$caller.pem" ]
+    [ "$code" -eq 16 ] && [ ! -s "$work/$caller.pem" ] || return 1
+    # No more is read than a store may have.
+    code=0
+    (ulimit -v 4000000 && exec timeout 60 "$@" /dev/zero "$work/new" "$work/new") >"$work/$caller.pem" 2>"$work/told" || code=$?
+    [ "$code" -eq 21 ] && [ ! -s "$work/$caller.pem" ]
 }
 has() {
     command -v "$1" >/dev/null || {
@@ -270,6 +274,34 @@ from_python() {
     calls python env "LIBPKCS12=$work/lib/libpkcs12.so.1" "${PYTHON:-python3}" "$crate/examples/python/pkcs12.py"
 }
 holds from_python from_python
+# ctypes would take the lowest bits of a number: 2^32 + 1 rounds would be one.
+wrong_arguments_in_python() {
+    LIBPKCS12=$work/lib/libpkcs12.so.1 PYTHONDONTWRITEBYTECODE=1 PYTHONPATH=$crate/examples/python "${PYTHON:-python3}" - "$keyed" \
+        "$(cat "$keyed_password")" <<'END'
+import sys
+import pkcs12
+
+store, password = open(sys.argv[1], "rb").read(), sys.argv[2].encode()
+for fault, call in (
+    (ValueError, lambda: pkcs12.transfer_pem(store, password, b"new", rounds=2**32 + 1)),
+    (ValueError, lambda: pkcs12.transfer_pem(store, password, b"new", rounds=-1)),
+    (ValueError, lambda: pkcs12.open_pem(store, password, limit=-1)),
+    (ValueError, lambda: pkcs12.list(store, password, limit=2**64)),
+    (ValueError, lambda: pkcs12.rekey(store, password, b"new", limit=-1)),
+    (TypeError, lambda: pkcs12.transfer_pem(store, password.decode(), b"new")),
+    (TypeError, lambda: pkcs12.rekey(store, password, None)),
+    (pkcs12.Refused, lambda: pkcs12.transfer_pem(store, password, b"new", rounds=0)),
+):
+    try:
+        call()
+    except fault as told:
+        assert "password" in str(told) or fault is not TypeError, told
+    else:
+        sys.exit(f"{fault} is due")
+assert pkcs12.list(bytearray(store), memoryview(password)) == pkcs12.list(store, password)
+END
+}
+holds wrong_arguments_in_python wrong_arguments_in_python
 # The initialization vector and the salt of each key are the random octets in their order, none of them twice.
 octets_in_order() {
     LIBPKCS12=$work/lib/libpkcs12.so.1 PYTHONDONTWRITEBYTECODE=1 PYTHONPATH=$crate/examples/python "${PYTHON:-python3}" - "$keyed" \

@@ -39,7 +39,7 @@ share/bash-completion/completions/pkcs12 644
 share/man/man1/pkcs12.1 644'
 if [ -f "$home/crates/pkcs12_c/out/libpkcs12_c.a" ] && command -v "${CC:-cc}" >/dev/null; then
     expected=$(printf '%s\n' "$expected" 'include/pkcs12.h 644' 'lib/libpkcs12.a 644' 'lib/libpkcs12.so 777' 'lib/libpkcs12.so.1 644' \
-        'lib/pkgconfig/pkcs12.pc 644' | sort)
+        'lib/pkgconfig/pkcs12.pc 644' 'lib/pkcs12/with-library 644' | sort)
 else
     # no proof and no build for this test
     CC=/nowhere/cc
@@ -135,6 +135,18 @@ installed_library() {
 }
 holds the_library_is_found_by_pkg_config installed_library
 
+# Where the archive is not built, rt builds it, in its crate.
+library_is_built() {
+    mkdir -p "$work/unbuilt/crates/pkcs12/out" "$work/unbuilt/crates/pkcs12_c" "$work/unbuilt/bin"
+    cp -r "$home/pkcs12" "$home/wrapper" "$home/docs" "$home/crates.txt" "$work/unbuilt" &&
+        cp "$home/crates/pkcs12/out/pkcs12" "$work/unbuilt/crates/pkcs12/out" || return 1
+    # shellcheck disable=SC2016
+    printf '#!/bin/sh\necho "${PWD##*/} $*" >>"%s/calls"\nexit 1\n' "$work/unbuilt" >"$work/unbuilt/bin/rt" && chmod 755 "$work/unbuilt/bin/rt"
+    refused 1 env "PATH=$work/unbuilt/bin:$PATH" CC=sh "$work/unbuilt/pkcs12" install "$work/unbuilt/prefix" &&
+        grep -qxE 'pkcs12_c lib --jobs [0-9]+' "$work/unbuilt/calls" && [ ! -e "$work/unbuilt/prefix" ]
+}
+holds the_library_is_built_where_it_is_not library_is_built
+
 # --- again, and elsewhere ---
 
 again() {
@@ -143,12 +155,41 @@ again() {
     status 0 "$home/pkcs12" install "$work/prefix" && wait "$running" && [ "$(files_and_modes "$work/prefix")" = "$expected" ]
 }
 holds install_again_over_a_running_command again
+two_at_once() {
+    for each in 1 2 3; do
+        "$home/pkcs12" install "$work/at-once" >"$work/running" 2>&1 &
+        running=$!
+        status 0 "$home/pkcs12" install "$work/at-once" && wait "$running" && [ "$(files_and_modes "$work/at-once")" = "$expected" ] &&
+            status 0 "$home/pkcs12" uninstall "$work/at-once" && [ -z "$(find "$work/at-once" -type f 2>/dev/null)" ] &&
+            rm -rf "$work/at-once" || return 1
+    done
+}
+holds two_installations_at_once two_at_once
 for_packagers() {
     status 0 env "DESTDIR=$work/stage" "$home/pkcs12" install /usr && [ "$(files_and_modes "$work/stage/usr")" = "$expected" ] &&
         checks_a_store "$work/stage/usr/bin/pkcs12" && ! grep -rlF "$work" "$work/stage" &&
         status 0 env "DESTDIR=$work/stage" "$home/pkcs12" uninstall /usr && nothing_at "$work/stage/usr"
 }
 holds DESTDIR_for_packagers for_packagers
+relative_folders() {
+    mkdir -p "$work/relative" && (
+        cd "$work/relative" && status 0 env DESTDIR=stage "$home/pkcs12" install /usr && [ "$(files_and_modes stage/usr)" = "$expected" ] &&
+            status 0 env DESTDIR=stage "$home/pkcs12" uninstall /usr && nothing_at stage/usr &&
+            status 0 env "PATH=$work/relative/own/bin:$PATH" "$home/pkcs12" install own/ &&
+            [ "$(cat "$work/said")" = "pkcs12 is installed below $work/relative/own; $work/relative/own/bin/pkcs12 uninstall removes it" ] &&
+            status 0 own/bin/pkcs12 uninstall && nothing_at own
+    )
+}
+holds folders_that_are_relative relative_folders
+# Where the folder that a path begins from was removed, nothing goes to the root in its place.
+removed_folder() {
+    mkdir "$work/removed"
+    (cd "$work/removed" && rmdir "$work/removed" && refused 2 "$home/pkcs12" install relative-prefix) && [ ! -e /relative-prefix ] &&
+        mkdir "$work/removed" &&
+        (cd "$work/removed" && rmdir "$work/removed" && refused 2 env DESTDIR=relative-stage "$home/pkcs12" install /usr) &&
+        [ ! -e /relative-stage ]
+}
+holds a_folder_that_was_removed removed_folder
 without_a_prefix() {
     status 0 env "HOME=$work/a home" "$home/pkcs12" install && [ "$(files_and_modes "$work/a home/.local")" = "$expected" ] &&
         status 0 env "HOME=$work/a home" "$home/pkcs12" uninstall && nothing_at "$work/a home/.local" &&
@@ -182,6 +223,34 @@ others_file() {
         refused 2 "$home/pkcs12" uninstall "$work/others" && [ -e "$work/others/bin/pkcs12" ]
 }
 holds a_file_of_others_is_kept others_file
+# An installation without the library for C is no reason to take the header of others for its own.
+others_library() {
+    status 0 env CC=/nowhere/cc "$home/pkcs12" install "$work/header" && mkdir -p "$work/header/include" &&
+        echo 'of others' >"$work/header/include/pkcs12.h" || return 1
+    if [ "${CC-}" != /nowhere/cc ]; then
+        refused 1 "$home/pkcs12" install "$work/header" && grep -qF "$work/header/include/pkcs12.h is there" "$work/told" || return 1
+    fi
+    status 0 env CC=/nowhere/cc "$home/pkcs12" install "$work/header" && status 0 "$home/pkcs12" uninstall "$work/header" &&
+        [ "$(find "$work/header" -type f)" = "$work/header/include/pkcs12.h" ] && grep -qx 'of others' "$work/header/include/pkcs12.h"
+}
+holds a_header_of_others_is_kept others_library
+# Links under the names that files have until they are whole: their process number is that of the shell here.
+planted_links() {
+    mkdir -p "$work/planted/bin" "$work/planted/lib" && echo precious >"$work/precious" || return 1
+    # shellcheck disable=SC2016
+    status 0 sh -c 'for each in bin/pkcs12 lib/libpkcs12.so lib/libpkcs12.a; do ln -s "$1/precious" "$1/planted/$each.new-$$" || exit 9; done
+        exec "$2" install "$1/planted"' sh "$work" "$home/pkcs12" && [ "$(files_and_modes "$work/planted" | grep -v "\.new-")" = "$expected" ] &&
+        grep -qx precious "$work/precious" && checks_a_store "$work/planted/bin/pkcs12" && status 0 "$home/pkcs12" uninstall "$work/planted"
+}
+holds links_that_others_planted planted_links
+no_temporary_folder() {
+    [ "${CC-}" != /nowhere/cc ] || {
+        echo "skipped $name: the library for C is not built, or there is no compiler"
+        return 0
+    }
+    refused 1 env TMPDIR=/nowhere "$home/pkcs12" install "$work/untemporary" && nothing_at "$work/untemporary"
+}
+holds no_folder_for_temporary_files no_temporary_folder
 folder_in_the_way() {
     mkdir -p "$work/way/lib/pkcs12/pkcs12"
     refused 1 "$home/pkcs12" install "$work/way" && [ "$(ls "$work/way")" = lib ]

@@ -82,15 +82,33 @@ odd_names() {
 }
 holds odd_names_as_openssl_prints_them odd_names
 
-past_and_early() {
-    certificate past /CN=past -not_before 20200101000000Z -not_after 20210101000000Z 2>/dev/null || {
-        echo "skipped past_and_early: this openssl takes no dates"
-        return 0
-    }
-    store past past "$work/past.pem" && ends 0 list "$work/past.p12" --password-file "$work/p" &&
-        grep -qF '(past, by this machine' "$work/said"
+# A store of a certificate that is valid from $2 to $3, which `openssl req` takes in newer versions alone.
+dated() {
+    : >"$work/$1.index" && echo 01 >"$work/$1.serial" && cat >"$work/$1.cnf" <<END && mkdir -p "$work/issued" || return 1
+[ca]
+default_ca = this
+[this]
+database = $work/$1.index
+serial = $work/$1.serial
+new_certs_dir = $work/issued
+default_md = sha256
+policy = any
+[any]
+commonName = supplied
+END
+    openssl req -new -newkey rsa:2048 -nodes -keyout "$work/$1.key" -out "$work/$1.csr" -subj "/CN=$1" 2>"$work/told" &&
+        openssl ca -batch -selfsign -config "$work/$1.cnf" -keyfile "$work/$1.key" -in "$work/$1.csr" -startdate "$2" -enddate "$3" \
+            -notext -out "$work/$1.pem" 2>"$work/told" && store "$1" "$1" "$work/$1.pem"
 }
-holds a_certificate_that_is_past past_and_early
+past_and_early() {
+    dated past 20200101000000Z 20210203040506Z && ends 0 list "$work/past.p12" --password-file "$work/p" &&
+        grep -qF '  valid: 2020-01-01 00:00:00 UTC to 2021-02-03 04:05:06 UTC (past, by this machine' "$work/said" || return 1
+    # times from 2050 on are written in another type
+    dated early 20690101000000Z 20700101000000Z && ends 0 list "$work/early.p12" --password-file "$work/p" &&
+        grep -qE '^  valid: 2069-01-01 00:00:00 UTC to 2070-01-01 00:00:00 UTC \(.*by this machine' "$work/said" &&
+        ends 0 list "$work/early.p12" --password-file "$work/p" --json && grep -qF '"is_valid_now": false' "$work/said"
+}
+holds a_certificate_that_is_past_or_early past_and_early
 
 # A root, an intermediate certificate and a server's; the intermediate one cross-signed by another root.
 make_chain() {

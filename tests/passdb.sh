@@ -105,6 +105,13 @@ by_variable() {
         fails 3 ReadFault 'no environment variable' check "$file" bob --password-env PASSDB_NO_SUCH
 }
 holds takes_a_password_from_the_environment by_variable
+lost_variables() {
+    for variable in my.password MY-PASSWORD 1st '' IFS PWD passdb_file PASSDB_WAITING; do
+        fails 2 Usage 'environment variable by its name' check "$file" bob --password-env "$variable" &&
+            fails 2 Usage 'environment variable by its name' change "$file" bob "--new-password-env=$variable" || return 1
+    done
+}
+holds variables_that_a_shell_loses_are_told lost_variables
 by_input() {
     code=0
     printf 'a longer one\r\nmore\n' | "$PASSDB" check "$file" bob --password-stdin --rounds 1000 >"$work/said" 2>"$work/told" || code=$?
@@ -191,6 +198,8 @@ holds refuses_nul malformed 'a\0000b\n'
 holds refuses_octets_that_are_no_text malformed '\0377\0376\n'
 without_last_feed() { malformed "$(head -n 1 "$file")"; }
 holds refuses_a_last_line_without_line_feed without_last_feed
+with_cr_lf() { malformed "$(head -n 1 "$file")\\r\\n"; }
+holds refuses_lines_that_end_in_cr_lf with_cr_lf
 twice() { malformed "$(head -n 1 "$file")\\n$(head -n 1 "$file")\\n"; }
 holds refuses_a_name_twice twice
 huge() {
@@ -234,6 +243,12 @@ both_kept() {
     [ "$(wc -l <"$work/shared")" -eq 8 ] && nothing_beside "$work/shared"
 }
 holds runs_at_the_same_time_lose_nothing both_kept
+many_names() {
+    awk -F: 'NR == 1 { hash = $2; for (i = 0; i < 100000; i++) printf "m%06d:%s\n", i, hash }' "$file" >"$work/many" &&
+        ends 0 add "$work/many" zed --password-file "$work/one" --rounds 1000 && ends 0 remove "$work/many" m050000 &&
+        ends 0 list "$work/many" && [ "$(wc -l <"$work/said")" -eq 100000 ] && LC_ALL=C sort -c "$work/said" && nothing_beside "$work/many"
+}
+holds a_hundred_thousand_names many_names
 locked() {
     : >"$file.lock"
     cp "$file" "$work/before"
@@ -251,6 +266,21 @@ reads_on() {
     return "$outcome"
 }
 holds a_lock_stops_no_reading reads_on
+# Whatever is in the lock's place is a lock, and stays.
+odd_locks() {
+    for kind in folder pipe link; do
+        case $kind in
+            folder) mkdir "$file.lock" ;;
+            pipe) mkfifo "$file.lock" ;;
+            link) ln -s /nowhere "$file.lock" ;;
+        esac
+        code=0
+        echo s3cret | timeout 10 "$PASSDB" add "$file" eve --password-stdin >"$work/said" 2>"$work/told" || code=$?
+        [ "$code" -eq 5 ] && { [ -e "$file.lock" ] || [ -L "$file.lock" ]; } || return 1
+        rm -rf "$file.lock"
+    done
+}
+holds locks_that_are_no_files odd_locks
 # The signal $1 to the run, or to the program alone where $2 is `program`, while it derives.
 signalled() {
     cp "$file" "$work/before"
@@ -273,6 +303,50 @@ signalled() {
 }
 holds an_interrupted_run_leaves_nothing signalled TERM run
 holds a_killed_program_leaves_nothing signalled KILL program
+# The file is the second argument, also where it is named like an option, or like a word that this script uses.
+odd_files() {
+    mkdir "$work/odd-files" && for odd_file in -users value variable --rounds; do
+        (
+            cd "$work/odd-files" && ends 0 add --password-file "$work/one" --rounds 1000 -- "$odd_file" bob || exit 1
+            setsid -w "$PASSDB" add --rounds 10000000 --password-file "$work/one" -- "$odd_file" eve >"$work/said" 2>"$work/told" </dev/null &
+            run=$!
+            tries=0
+            until [ -s "./$odd_file.lock" ] || [ "$tries" -ge 100 ]; do
+                sleep 0.1
+                tries=$((tries + 1))
+            done
+            kill -KILL "$(cat "./$odd_file.lock")"
+            wait "$run" && exit 1
+            nothing_beside "./$odd_file"
+        ) || return 1
+    done
+}
+holds a_killed_program_leaves_nothing_of_odd_files odd_files
+# Somebody who may write there has put a pipe in the place of the lock.
+pipe_for_lock() {
+    setsid -w "$PASSDB" add "$file" eve --password-file "$work/one" --rounds 10000000 >"$work/said" 2>"$work/told" </dev/null &
+    run=$!
+    tries=0
+    until [ -s "$file.lock" ] || [ "$tries" -ge 100 ]; do
+        sleep 0.1
+        tries=$((tries + 1))
+    done
+    program=$(cat "$file.lock")
+    script=$(ps -o ppid= -p "$program" | tr -d ' ')
+    rm "$file.lock" && mkfifo "$file.lock" && kill -TERM "$script"
+    tries=0
+    while kill -0 "$script" 2>/dev/null && [ "$tries" -lt 50 ]; do
+        sleep 0.1
+        tries=$((tries + 1))
+    done
+    outcome=0
+    [ "$tries" -lt 50 ] || outcome=1
+    kill -KILL "$script" 2>/dev/null || :
+    wait "$run" || :
+    rm -f "$file.lock"
+    return "$outcome"
+}
+holds a_pipe_for_a_lock_holds_nothing_up pipe_for_lock
 
 # --- what is refused by the system ---
 

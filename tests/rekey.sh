@@ -120,6 +120,56 @@ links() {
 }
 holds links_and_folders_are_refused links
 
+# Another hard link has the old store: the new one is another file.
+hard_link() {
+    cp "$keyed" "$work/linked.p12" && ln "$work/linked.p12" "$work/other.p12" &&
+        ends 0 rekey "$work/linked.p12" --in-place --password-file "$keyed_password" --new-password-file "$work/new" &&
+        ends 0 check "$work/linked.p12" --password-file "$work/new" && cmp "$keyed" "$work/other.p12"
+}
+holds a_hard_link_keeps_the_old_store hard_link
+
+devices() {
+    for each in /dev/null /dev/full /dev/stdout .; do
+        fails 23 OutputExists 'no regular file' rekey "$keyed" --out "$each" --force --password-file "$keyed_password" \
+            --new-password-file "$work/new" || return 1
+    done
+    mkfifo "$work/pipe.p12" && fails 23 OutputExists 'no regular file' rekey "$keyed" --out "$work/pipe.p12" --force \
+        --password-file "$keyed_password" --new-password-file "$work/new" && [ -p "$work/pipe.p12" ] && [ -c /dev/null ]
+}
+holds devices_and_pipes_are_refused devices
+
+# Of two runs that make one file the first to end makes it, and the other says so.
+two_runs() {
+    rm -f "$work/one-file.p12"
+    setsid -w "$home/pkcs12" rekey "$keyed" --out "$work/one-file.p12" --password-file "$keyed_password" --new-password-file "$work/new" \
+        2>"$work/told-there" &
+    there=$!
+    first=0 second=0
+    setsid -w "$home/pkcs12" rekey "$keyed" --out "$work/one-file.p12" --password-file "$keyed_password" --new-password-file "$work/p" \
+        2>"$work/told" || first=$?
+    wait "$there" || second=$?
+    case $first,$second in
+        0,23) ends 0 check "$work/one-file.p12" --password-file "$work/p" ;;
+        23,0) ends 0 check "$work/one-file.p12" --password-file "$work/new" ;;
+        *)
+            echo "one ended with $first, the other with $second" >&2
+            return 1
+            ;;
+    esac
+}
+holds two_runs_make_one_file two_runs
+
+closed_descriptors() {
+    for which in '>&-' '2>&-' '<&-' '>&- 2>&- <&-'; do
+        cp "$keyed" "$work/descriptors.p12" || return 1
+        # shellcheck disable=SC2016
+        sh -c 'setsid -w "$1" rekey "$2" --in-place --verbose --password-file "$3" --new-password-file "$4" '"$which" sh "$home/pkcs12" \
+            "$work/descriptors.p12" "$keyed_password" "$work/new" 2>"$work/told" &&
+            ends 0 check "$work/descriptors.p12" --password-file "$work/new" || return 1
+    done
+}
+holds closed_descriptors_are_no_harm closed_descriptors
+
 full_disk() {
     cp "$keyed" "$work/full.p12" && cp "$keyed_password" "$work/full-password" || return 1
     # No file may grow: the changed store cannot be written.
@@ -150,11 +200,10 @@ holds a_store_on_the_standard_input standard_input
 
 others_stay() {
     have_openssl others_stay || return 0
-    openssl pkcs12 -export -inkey "$home/examples/openssl-key/key-0.der" -in "$home/examples/openssl-key/cert-0.der" -keypbe NONE \
-        -out "$work/open.p12" -passout "file:$work/p" 2>"$work/told" || {
-        echo "skipped others_stay: openssl makes no such store"
-        return 0
-    }
+    openssl pkey -inform DER -in "$home/examples/openssl-key/key-0.der" -out "$work/key.pem" &&
+        openssl x509 -inform DER -in "$home/examples/openssl-key/cert-0.der" -out "$work/cert.pem" &&
+        openssl pkcs12 -export -inkey "$work/key.pem" -in "$work/cert.pem" -keypbe NONE -out "$work/open.p12" \
+            -passout "file:$work/p" 2>"$work/told" || return 1
     rekey "$work/open.p12" "$work/p" "$work/open-changed.p12" && taken_out "$work/open.p12" "$work/p" >"$work/one" &&
         taken_out "$work/open-changed.p12" "$work/new" >"$work/two" && cmp "$work/one" "$work/two"
 }

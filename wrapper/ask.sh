@@ -13,19 +13,25 @@ pkcs12_in_place=
 pkcs12_place=
 pkcs12_expected=
 for pkcs12_word in "$@"; do
-    if [ -n "$pkcs12_expected" ]; then
-        [ "$pkcs12_expected" != out ] || pkcs12_out=$pkcs12_word
-        pkcs12_expected=
-        continue
-    fi
-    case $pkcs12_word in
-        --) break ;;
-        --force) pkcs12_force=yes ;;
-        --in-place) pkcs12_in_place=yes ;;
-        --out) pkcs12_expected=out ;;
-        --out=*) pkcs12_out=${pkcs12_word#--out=} ;;
-        --*-file | --*-env | --*limit | --rounds | --format | --most-files) pkcs12_expected=value ;;
-        -*) ;;
+    case $pkcs12_expected:$pkcs12_word in
+        out:*)
+            pkcs12_out=$pkcs12_word
+            pkcs12_expected=
+            ;;
+        variable:*)
+            test_variable "$pkcs12_word"
+            pkcs12_expected=
+            ;;
+        value:*) pkcs12_expected= ;;
+        :--) pkcs12_expected=rest ;;
+        :--force) pkcs12_force=yes ;;
+        :--in-place) pkcs12_in_place=yes ;;
+        :--out) pkcs12_expected=out ;;
+        :--out=*) pkcs12_out=${pkcs12_word#--out=} ;;
+        :--password-env | :--new-password-env) pkcs12_expected=variable ;;
+        :--password-env=* | :--new-password-env=*) test_variable "${pkcs12_word#*=}" ;;
+        :--*-file | :--*limit | :--rounds | :--format | :--most-files) pkcs12_expected=value ;;
+        :-*) ;;
         *) pkcs12_place=$pkcs12_word ;;
     esac
 done
@@ -41,14 +47,23 @@ identity() {
 pkcs12_replaced=
 [ -z "$pkcs12_force" ] || [ ! -d "$pkcs12_out" ] || pkcs12_replaced=$(identity "$pkcs12_out")
 
-# Whether $1 is a folder of the user who runs this, and no link to one. Others may have put theirs there, as in /tmp.
+# The number of the user whose folder or store is replaced: root's run gives the new one to that user.
+pkcs12_owner=
+[ -z "$pkcs12_out" ] || [ ! -e "$pkcs12_out" ] || pkcs12_owner=$(stat -c %u -- "$pkcs12_out" 2>/dev/null) || pkcs12_owner=
+
+# Whether $1 is of the user who runs this, or of the one whose folder or store is replaced. Others may have put theirs there, as in /tmp.
+is_own() {
+    [ -O "$1" ] || { [ -n "$pkcs12_owner" ] && [ "$(stat -c %u -- "$1" 2>/dev/null)" = "$pkcs12_owner" ]; }
+}
+
+# Whether $1 is such a folder, and no link to one.
 is_own_folder() {
-    [ -d "$1" ] && [ ! -L "$1" ] && [ -O "$1" ]
+    [ -d "$1" ] && [ ! -L "$1" ] && is_own "$1"
 }
 
 # The same of a file.
 is_own_file() {
-    [ -f "$1" ] && [ ! -L "$1" ] && [ -O "$1" ]
+    [ -f "$1" ] && [ ! -L "$1" ] && is_own "$1"
 }
 
 # Removes what the process $1 left half done, and puts back the folder that it was about to replace. That is known by its identity,

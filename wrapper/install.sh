@@ -4,6 +4,8 @@
 
 # The folders that `install` made, one a line, so that `uninstall` removes no other.
 pkcs12_made=lib/pkcs12/made
+# That is there where the library for C was installed too.
+pkcs12_with_library=lib/pkcs12/with-library
 # Everything that is installed, below the prefix.
 pkcs12_files='bin/pkcs12
 lib/pkcs12/pkcs12
@@ -17,7 +19,8 @@ pkcs12_library='include/pkcs12.h
 lib/libpkcs12.a
 lib/libpkcs12.so.1
 lib/libpkcs12.so
-lib/pkgconfig/pkcs12.pc'
+lib/pkgconfig/pkcs12.pc
+lib/pkcs12/with-library'
 
 not_installed() {
     printf 'pkcs12: BuildFailed (1): not installed: %s\n' "$1" >&2
@@ -26,6 +29,16 @@ not_installed() {
 wrong_use() {
     printf 'pkcs12: Usage (2): %s\n' "$1" >&2
     exit 2
+}
+
+# Leaves in $pkcs12_absolute the path $1 from the root. A shell whose folder was removed has none to begin from.
+make_absolute() {
+    pkcs12_absolute=$1
+    case $1 in
+        /* | '') return 0 ;;
+    esac
+    [ -n "${PWD-}" ] && [ -d "$PWD" ] || wrong_use "this folder is not there any more: give a path from the root"
+    pkcs12_absolute=$PWD/$1
 }
 
 # Leaves in $pkcs12_top the folder below which files go for the arguments [PREFIX].
@@ -38,20 +51,22 @@ find_prefix() {
         pkcs12_prefix=$HOME/.local
     fi
     case $pkcs12_prefix in
-        /*) ;;
         -* | '') wrong_use "the prefix is a folder, as in ./pkcs12 install /usr/local" ;;
-        *) pkcs12_prefix=$PWD/$pkcs12_prefix ;;
     esac
-    pkcs12_top=${DESTDIR-}$pkcs12_prefix
+    make_absolute "$pkcs12_prefix"
+    pkcs12_prefix=$pkcs12_absolute
+    while [ "${pkcs12_prefix%/}" != "$pkcs12_prefix" ]; do pkcs12_prefix=${pkcs12_prefix%/}; done
+    make_absolute "${DESTDIR-}"
+    pkcs12_top=$pkcs12_absolute$pkcs12_prefix
     while [ "${pkcs12_top%/}" != "$pkcs12_top" ]; do pkcs12_top=${pkcs12_top%/}; done
 }
 
-# Refuses to write over what is not of an earlier installation.
+# Refuses to write over those of the files $2 that are there and not of an earlier installation, which has left the file $1.
 refuse_others() {
-    for pkcs12_each in $pkcs12_files $pkcs12_library; do
+    for pkcs12_each in $2; do
         pkcs12_there=$pkcs12_top/$pkcs12_each
         [ -e "$pkcs12_there" ] || [ -L "$pkcs12_there" ] || continue
-        [ -f "$pkcs12_top/$pkcs12_made" ] || not_installed "$pkcs12_there is there, and is not of this command"
+        [ -f "$pkcs12_top/$1" ] || not_installed "$pkcs12_there is there, and is not of this command"
         [ ! -d "$pkcs12_there" ] || not_installed "$pkcs12_there is a folder"
     done
 }
@@ -78,7 +93,8 @@ make_folder() {
     # first, since a signal may come when it was made
     pkcs12_new_folders="${1:-.}
 $pkcs12_new_folders"
-    mkdir -- "$pkcs12_top${1:+/$1}" || not_installed "the folder $pkcs12_top${1:+/$1} could not be made"
+    # -p, since another run may make it at the same time
+    mkdir -p -- "$pkcs12_top${1:+/$1}" || not_installed "the folder $pkcs12_top${1:+/$1} could not be made"
 }
 
 # Writes what the further words print beside its place $2 below the prefix, with the mode $1.
@@ -89,7 +105,9 @@ stage() {
     make_folder "${pkcs12_target%/*}"
     pkcs12_staged="$pkcs12_staged $pkcs12_target"
     pkcs12_new=$pkcs12_top/$pkcs12_target.new-$$
-    if ! "$@" >"$pkcs12_new" || ! chmod "$pkcs12_mode" "$pkcs12_new"; then
+    rm -f -- "$pkcs12_new"
+    # -C, so that no link is followed that others have put there
+    if ! (set -C && "$@" >"$pkcs12_new") || ! chmod "$pkcs12_mode" "$pkcs12_new"; then
         not_installed "$pkcs12_top/$pkcs12_target could not be written"
     fi
 }
@@ -133,18 +151,19 @@ find_library() {
 # Leaves it linked in $pkcs12_made_library.
 make_library() {
     [ -n "$pkcs12_archive" ] || return 0
-    pkcs12_made_library=$(mktemp -d)
+    pkcs12_made_library=$(mktemp -d) || not_installed "a folder for temporary files could not be made"
     "$pkcs12_c/link/make_library.sh" "$pkcs12_made_library" || not_installed "the library for C could not be linked"
 }
 stage_library() {
     [ -n "$pkcs12_made_library" ] || return 0
+    stage 644 "$pkcs12_with_library" :
     stage 644 include/pkcs12.h cat "$pkcs12_c/include/pkcs12.h"
     stage 644 lib/libpkcs12.a cat "$pkcs12_made_library/libpkcs12.a"
     stage 644 lib/libpkcs12.so.1 cat "$pkcs12_made_library/libpkcs12.so.1"
     make_folder lib/pkgconfig
     stage 644 lib/pkgconfig/pkcs12.pc cat "$pkcs12_c/link/pkcs12.pc"
     pkcs12_staged="$pkcs12_staged lib/libpkcs12.so"
-    ln -s libpkcs12.so.1 "$pkcs12_top/lib/libpkcs12.so.new-$$" || not_installed "$pkcs12_top/lib/libpkcs12.so could not be made"
+    ln -sfT libpkcs12.so.1 "$pkcs12_top/lib/libpkcs12.so.new-$$" || not_installed "$pkcs12_top/lib/libpkcs12.so could not be made"
 }
 
 # Each file of the installation, from its source.
@@ -165,11 +184,12 @@ stage_all() {
 
 install() {
     find_prefix "$@"
-    refuse_others
+    refuse_others "$pkcs12_made" "$pkcs12_files"
     refuse_closed
     # These have traps of their own.
     [ -x "$pkcs12_program" ] || build
     find_library
+    [ -z "$pkcs12_archive" ] || refuse_others "$pkcs12_with_library" "$pkcs12_library"
     umask 022
     pkcs12_staged=
     pkcs12_new_folders=
@@ -187,7 +207,7 @@ install() {
     done
     [ -z "$pkcs12_made_library" ] || rm -rf -- "$pkcs12_made_library"
     trap - EXIT HUP INT TERM
-    echo "pkcs12 is installed below $pkcs12_top; ./pkcs12 uninstall removes it"
+    echo "pkcs12 is installed below $pkcs12_top; $pkcs12_top/bin/pkcs12 uninstall removes it"
     case :$PATH: in
         *":$pkcs12_prefix/bin:"*) ;;
         *) echo "$pkcs12_prefix/bin is not among the folders of PATH" ;;
@@ -198,7 +218,8 @@ uninstall() {
     find_prefix "$@"
     [ -f "$pkcs12_top/$pkcs12_made" ] || wrong_use "pkcs12 is not installed below $pkcs12_top"
     pkcs12_new_folders=$(cat -- "$pkcs12_top/$pkcs12_made")
+    [ -f "$pkcs12_top/$pkcs12_with_library" ] || pkcs12_library=
     for pkcs12_each in $pkcs12_files $pkcs12_library "$pkcs12_made"; do rm -f -- "$pkcs12_top/$pkcs12_each"; done
     remove_folders "$pkcs12_new_folders"
-    echo "pkcs12 is no more below $pkcs12_top"
+    echo "pkcs12 is no longer below $pkcs12_top"
 }

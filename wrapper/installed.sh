@@ -14,7 +14,7 @@ pkcs12_program=$pkcs12_scripts/pkcs12
 if [ "${1-}" = uninstall ]; then
     . "$pkcs12_scripts/install.sh"
     [ $# -eq 1 ] || wrong_use "$0 uninstall removes itself, and takes no arguments"
-    uninstall "$pkcs12_prefix"
+    uninstall "$pkcs12_prefix/"
     exit 0
 fi
 . "$pkcs12_scripts/ask.sh"

@@ -1,5 +1,5 @@
 # shellcheck shell=sh disable=SC2154 # $wrapper_name is the command's name, which the script sets that sources this
-# Asks for a line at the terminal without echo. Sourced by ask.sh and by ./passdb.
+# Asks for a line at the terminal without echo, and tests names of variables. Sourced by ask.sh and by ./passdb.
 
 # The terminal, if there is one: standard input may be the store, or a password.
 wrapper_terminal=
@@ -74,4 +74,18 @@ ask() {
 give_up() {
     printf '%s: PasswordMissing (8): %s\n' "$wrapper_name" "$1" >&2
     exit 8
+}
+
+# Ends where a shell does not hand on the variable $1 as it was: the program would find none, or another value. The name is not shown, since
+# somebody may have given the password itself.
+test_variable() {
+    case $1 in
+        '' | [0-9]* | *[!A-Za-z0-9_]*) wrapper_reason="of letters, digits and underscores: a shell hands on no other" ;;
+        _ | IFS | OLDPWD | OPTIND | PPID | PWD | SHLVL | PKCS12_ASKING | PASSDB_ASKING | PASSDB_WAITING | pkcs12_* | passdb_* | wrapper_*)
+            wrapper_reason="and none that a shell or this script sets itself"
+            ;;
+        *) return 0 ;;
+    esac
+    printf '%s: Usage (2): the password is given in an environment variable by its name, %s\n' "$wrapper_name" "$wrapper_reason" >&2
+    exit 2
 }

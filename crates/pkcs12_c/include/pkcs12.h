@@ -65,7 +65,7 @@ size_t pkcs12_room(size_t store_len);
  *   password      that of the store, in UTF-8
  *   new_password  any octets; the keys are sealed by PBES2: PBKDF2 with HMAC-SHA-256, and AES-256-CBC (RFC 8018)
  *   rounds        of PBKDF2 for each key, 1 to 100,000,000
- *   limit         the most steps of opening; a step is one answer of the hash that the store asks for
+ *   limit         the most steps of opening; a step is one result of the hash that the store asks for
  *   random        32 octets for each key, in order; give the octets of a generator that is made for secrets, and never
  *                 the same octets twice
  *   output        where the text goes; its other octets stay as they are
@@ -156,7 +156,7 @@ static inline int pkcs12_random(uint8_t *at, size_t len)
     return 1;
 }
 
-/* What a call wrote, handed on with a NUL after it and without the room behind, or its output freed. The result is the number
+/* What a call wrote, handed on with a NUL after it and without the room after it, or its output freed. The result is the number
  * that the caller returns. */
 static inline uint32_t pkcs12_handed_on(uint32_t number, uint8_t *output, size_t needed, uint8_t **octets, size_t *len)
 {

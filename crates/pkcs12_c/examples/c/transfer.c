@@ -8,7 +8,7 @@
 #include <stdlib.h>
 #include <string.h>
 
-/* The octets of a file: free them. NULL where it cannot be read. */
+/* The octets of a file, and of one that is longer than a store may be its first ones: free them. NULL where it cannot be read. */
 static uint8_t *octets_of(const char *path, size_t *len)
 {
     FILE *file = fopen(path, "rb");
@@ -17,15 +17,22 @@ static uint8_t *octets_of(const char *path, size_t *len)
     *len = 0;
     if (!file)
         return NULL;
-    while (got > 0) {
+    while (got > 0 && *len <= PKCS12_STORE_MAX) {
         if (*len == room) {
             uint8_t *more = (uint8_t *)realloc(octets, room += 65536);
-            if (!more)
+            if (!more) {
+                free(octets);
+                octets = NULL;
                 break;
+            }
             octets = more;
         }
         got = fread(octets + *len, 1, room - *len, file);
         *len += got;
+    }
+    if (ferror(file)) {
+        free(octets);
+        octets = NULL;
     }
     fclose(file);
     return octets;

@@ -7,7 +7,6 @@
 #include <algorithm>
 #include <fstream>
 #include <iostream>
-#include <iterator>
 #include <memory>
 #include <stdexcept>
 #include <string>
@@ -39,12 +38,16 @@ inline std::string transfer_pem(std::string_view store, std::string_view passwor
 
 } // namespace pkcs12
 
+// The octets of a file, and of one that is longer than a store may be its first ones.
 static std::string contents(const char *path)
 {
     std::ifstream file(path, std::ios::binary);
-    if (!file)
+    std::string octets(PKCS12_STORE_MAX + 1, '\0');
+    file.read(&octets[0], static_cast<std::streamsize>(octets.size()));
+    if (!file.is_open() || file.bad())
         throw std::runtime_error(std::string("cannot read ") + path);
-    return {std::istreambuf_iterator<char>(file), {}};
+    octets.resize(static_cast<std::size_t>(file.gcount()));
+    return octets;
 }
 
 static std::string first_line(const char *path)

@@ -9,6 +9,7 @@ import (
 	"bytes"
 	"crypto/rand"
 	"fmt"
+	"io"
 	"os"
 	"unsafe"
 )
@@ -45,14 +46,24 @@ func TransferPEM(store, password, newPassword []byte, rounds uint32, limit uint6
 	return output[:int(needed)], nil
 }
 
+// contents is the octets of a file, and of one that is longer than a store may be its first ones.
+func contents(path string) ([]byte, error) {
+	file, err := os.Open(path)
+	if err != nil {
+		return nil, err
+	}
+	defer file.Close()
+	return io.ReadAll(io.LimitReader(file, C.PKCS12_STORE_MAX+1))
+}
+
 func firstLine(path string) ([]byte, error) {
-	octets, err := os.ReadFile(path)
+	octets, err := contents(path)
 	line, _, _ := bytes.Cut(octets, []byte("\n"))
 	return bytes.TrimSuffix(line, []byte("\r")), err
 }
 
 func run(words []string) ([]byte, error) {
-	store, err := os.ReadFile(words[0])
+	store, err := contents(words[0])
 	if err != nil {
 		return nil, err
 	}

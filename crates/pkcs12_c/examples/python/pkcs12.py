@@ -3,7 +3,8 @@
 
 usage: pkcs12.py STORE PASSWORD-FILE NEW-PASSWORD-FILE     writes the certificates and the sealed keys as PEM text
 
-LIBPKCS12 names another library than libpkcs12.so.1.
+Stores and passwords are bytes. The library is found as the linker finds others: by LD_LIBRARY_PATH, or where ldconfig has noted it.
+LIBPKCS12 is the path of one that is found in neither way.
 """
 
 import ctypes
@@ -11,6 +12,7 @@ import os
 import sys
 
 DONE, ROOM = 0, 100
+STORE_MAX = 16_777_215
 
 
 class Refused(Exception):
@@ -44,6 +46,19 @@ def _load():
 _library = _load()
 
 
+def _octets(name, value):
+    if not isinstance(value, (bytes, bytearray, memoryview)):
+        raise TypeError(f"{name} is bytes, and not {type(value).__name__}")
+    return bytes(value)
+
+
+def _number(name, value, most):
+    """ctypes takes the lowest bits of a number that does not fit, and refuses none."""
+    if not 0 <= value <= most:
+        raise ValueError(f"{name} is from 0 to {most}, and not {value}")
+    return value
+
+
 def _output(call, store, *arguments):
     """Calls with as much room as the output takes: for the PEM text of a store that is always enough, and for a table of long chains
     or a changed store it is tried first."""
@@ -61,41 +76,46 @@ def _output(call, store, *arguments):
 
 def transfer_pem(store, password, new_password, rounds=600_000, limit=100_000_000):
     """The PEM text of the octets `store`: certificates, then keys sealed under `new_password`."""
+    store, password, new_password = _octets("store", store), _octets("password", password), _octets("new_password", new_password)
     random = os.urandom(len(store))  # always enough
     return _output(
         _library.pkcs12_transfer_pem, store, password, len(password), new_password, len(new_password),
-        rounds, limit, random, len(random),
+        _number("rounds", rounds, 2**32 - 1), _number("limit", limit, 2**64 - 1), random, len(random),
     ).decode("ascii")
 
 
 def open_pem(store, password, limit=100_000_000):
     """The same, with keys that are not sealed."""
-    return _output(_library.pkcs12_open_pem, store, password, len(password), limit).decode("ascii")
+    store, password = _octets("store", store), _octets("password", password)
+    return _output(_library.pkcs12_open_pem, store, password, len(password), _number("limit", limit, 2**64 - 1)).decode("ascii")
 
 
 def list(store, password, limit=100_000_000):
     """A line for each certificate and each encrypted private key of the store, as pkcs12.h says."""
-    return _output(_library.pkcs12_list, store, password, len(password), limit).decode("ascii")
+    store, password = _octets("store", store), _octets("password", password)
+    return _output(_library.pkcs12_list, store, password, len(password), _number("limit", limit, 2**64 - 1)).decode("ascii")
 
 
 def rekey(store, password, new_password, limit=100_000_000):
     """The octets of the store under another password, with all that is in it."""
+    store, password, new_password = _octets("store", store), _octets("password", password), _octets("new_password", new_password)
     random = os.urandom(len(store))  # always enough
     return _output(
-        _library.pkcs12_rekey, store, password, len(password), new_password, len(new_password), limit, random, len(random)
+        _library.pkcs12_rekey, store, password, len(password), new_password, len(new_password),
+        _number("limit", limit, 2**64 - 1), random, len(random),
     )
 
 
 def _first_line(path):
     with open(path, "rb") as file:
-        return file.readline().rstrip(b"\n").removesuffix(b"\r")
+        return file.readline(STORE_MAX).rstrip(b"\n").removesuffix(b"\r")
 
 
 def main():
     if len(sys.argv) != 4:
         sys.exit(__doc__)
     with open(sys.argv[1], "rb") as file:
-        store = file.read()
+        store = file.read(STORE_MAX + 1)
     try:
         sys.stdout.write(transfer_pem(store, _first_line(sys.argv[2]), _first_line(sys.argv[3])))
     except Refused as refused:

@@ -69,14 +69,21 @@ mod pkcs12 {
     }
 }
 
+/// The octets of a file, and of one that is longer than a store may be its first ones.
+fn contents(path: &str) -> std::io::Result<Vec<u8>> {
+    let mut octets = Vec::new();
+    std::fs::File::open(path)?.take(16_777_216).read_to_end(&mut octets)?;
+    Ok(octets)
+}
+
 fn first_line(path: &str) -> std::io::Result<Vec<u8>> {
-    let octets = std::fs::read(path)?;
+    let octets = contents(path)?;
     let line = octets.split(|octet| *octet == b'\n').next().unwrap_or_default();
     Ok(line.strip_suffix(b"\r").unwrap_or(line).to_vec())
 }
 
 fn run(words: &[String]) -> std::io::Result<Result<Vec<u8>, pkcs12::Refused>> {
-    let store = std::fs::read(&words[0])?;
+    let store = contents(&words[0])?;
     let mut random = vec![0; store.len()];
     std::fs::File::open("/dev/urandom")?.read_exact(&mut random)?;
     let (password, new_password) = (first_line(&words[1])?, first_line(&words[2])?);
