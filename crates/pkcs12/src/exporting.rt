@@ -18,7 +18,7 @@ use crate::long_work::{is_long_sealing, sealing_time, tell_long_work};
 use crate::opening::{certificates_alone, sealed_store};
 use crate::origin::{Origin, read_password};
 use crate::others::has_others;
-use crate::password::{NewPassword, Password};
+use crate::password::{NewPassword, Password, without_nul};
 use crate::run::Surroundings;
 use crate::summary::{others, summary, warnings};
 use asn1_core::Items;
@@ -55,6 +55,7 @@ fn new_password<R: Files + Env + Input + AllocGlobal>(
     match asked.new_password {
         Some(origin) => {
             let password = read_password(rt, "new password", origin)?;
+            without_nul(&password)?;
             Ok(Some(NewPassword::new(password, asked.allow_empty)?))
         }
         None => Ok(None),

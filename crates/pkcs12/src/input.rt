@@ -26,7 +26,7 @@ pub fn is_read_once<R: Files>(rt: &R, path: &str) -> bool {
 }
 
 /// Whether both paths lead to one file, pipe or device. Links are followed.
-fn are_one<R: Files>(rt: &R, path: &str, other: &str) -> bool {
+pub fn are_one<R: Files>(rt: &R, path: &str, other: &str) -> bool {
     if path == other {
         return true;
     }
@@ -78,4 +78,20 @@ pub fn inputs_differ<R: Files>(
         )),
         _ => Ok(()),
     }
+}
+
+/// `Usage` where the output would replace the file of a password.
+pub fn output_differs<R: Files>(
+    rt: &R,
+    out: &str,
+    password: Option<Origin<'_>>,
+    new_password: Option<Origin<'_>>,
+) -> Result<(), Failure> {
+    if is_in_store(rt, out, password) || is_in_store(rt, out, new_password) {
+        return Err(Failure::new(
+            Ending::Usage,
+            "the changed store would replace the file of a password",
+        ));
+    }
+    Ok(())
 }

@@ -57,6 +57,17 @@ impl Password {
     }
 }
 
+/// `PasswordUnusable` where a new password has a NUL, which few programs take.
+pub fn without_nul(password: &Password) -> Result<(), Failure> {
+    if password.as_str().as_bytes().contains(&0) {
+        return Err(Failure::new(
+            Ending::PasswordUnusable,
+            "the new password has a NUL, which other programs do not take",
+        ));
+    }
+    Ok(())
+}
+
 /// The password that private keys are sealed under: not empty, unless that was asked for. Only
 /// `NewPassword::new` makes one.
 #[derive(Drop)]

@@ -4,13 +4,13 @@ ghost use Rattle.rekey_core.specs.Rekeyed.{Rekeys};
 
 use crate::ending::{Ending, Failure};
 use crate::given::{Given, is_not_given_again, new_password_missing, opened, read_given};
-use crate::input::inputs_differ;
+use crate::input::{are_one, inputs_differ, output_differs, path_of_store};
 use crate::inspection::listing;
 use crate::listing::Listing;
 use crate::long_work::tell_long_work;
 use crate::opening::{RANDOM, opened_store, refused};
 use crate::origin::read_password;
-use crate::password::{NewPassword, Password};
+use crate::password::{NewPassword, Password, without_nul};
 use crate::refusal::with_detail;
 use crate::rekey::Rekey;
 use crate::run::Surroundings;
@@ -133,16 +133,30 @@ fn compare(
     }
 }
 
-/// Writes the changed store, and puts it in its place once it was read back and compared.
+/// The failure of a store that is another one by the time that it would be replaced.
+fn changed_meanwhile() -> Failure {
+    Failure::new(
+        Ending::WriteFault,
+        "the store was changed by another program meanwhile, and is as that left it",
+    )
+}
+
+/// Writes the changed store, and puts it in its place once it was read back and compared. A store that is replaced has to be
+/// the one that was read.
 fn write_changed<R: Files + AllocGlobal>(
     rt: &R,
     file: &StoreFile<'_>,
     change: &Change<'_>,
     before: &Opened,
+    replaces_store: bool,
 ) -> Result<(), Failure> {
     let text = changed(rt, change)?;
     let found = file.written(rt, text.as_slice())?;
     match compare(rt.alloc(), found.as_slice(), change, before) {
+        Ok(()) if replaces_store && !file.holds(rt, change.given.store.as_slice()) => {
+            file.abandon(rt)?;
+            Err(changed_meanwhile())
+        }
         Ok(()) => file.place(rt),
         Err(failure) => {
             file.abandon(rt)?;
@@ -159,6 +173,7 @@ fn new_password<R: Files + Env + Input + AllocGlobal>(
     match asked.new_password {
         Some(origin) => {
             let password = read_password(rt, "new password", origin)?;
+            without_nul(&password)?;
             NewPassword::new(password, asked.allow_empty)
         }
         None => Err(Failure::new(Ending::NewPasswordMissing, "the new password was not given")),
@@ -191,6 +206,7 @@ pub fn run_rekey<R: Runtime + AllocGlobal>(
     asked: &Rekey<'_>,
 ) -> Result<(), Failure> {
     inputs_differ(rt, asked.store, asked.password, asked.new_password)?;
+    output_differs(rt, asked.out, asked.password, asked.new_password)?;
     let file = StoreFile::find(rt, asked.out, asked.may_replace, around.process)?;
     if asked.new_password.is_none() && is_not_given_again(rt, asked.store, asked.password) {
         return Err(new_password_missing());
@@ -205,6 +221,7 @@ pub fn run_rekey<R: Runtime + AllocGlobal>(
         new_password: &new_password,
         limit: asked.limit,
     };
-    write_changed(rt, &file, &change, &before)?;
+    let replaces_store = are_one(rt, path_of_store(asked.store), asked.out);
+    write_changed(rt, &file, &change, &before, replaces_store)?;
     tell(rt, around, asked, &found)
 }

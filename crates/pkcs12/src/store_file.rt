@@ -124,6 +124,14 @@ impl<'a> StoreFile<'a> {
         }
     }
 
+    /// Whether the file has these octets now.
+    pub fn holds<R: Files + AllocGlobal>(&self, rt: &R, octets: &[u8]) -> bool {
+        match read_back(rt, self.path, octets.len()) {
+            Ok(found) => found.as_slice() == octets,
+            Err(_) => false,
+        }
+    }
+
     /// Removes what was begun.
     pub fn abandon<R: Files + AllocGlobal>(&self, rt: &R) -> Result<(), AllocError> {
         let part = self.part(rt.alloc())?;
