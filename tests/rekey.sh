@@ -215,4 +215,36 @@ told() {
 }
 holds what_is_kept_and_changed_is_told told
 
+password_file_stays() {
+    for option in password-file new-password-file; do
+        cp "$keyed_password" "$work/old" && cp "$work/new" "$work/kept" || return 1
+        case $option in
+            password-file) target=$work/old ;;
+            *) target=$work/kept ;;
+        esac
+        cp "$target" "$work/before"
+        fails 2 Usage 'replace the file of a password' rekey "$keyed" --out "$target" --force --password-file "$work/old" \
+            --new-password-file "$work/kept" && cmp "$target" "$work/before" && ! ls "$target".part-* 2>/dev/null || return 1
+    done
+}
+holds the_file_of_a_password_stays password_file_stays
+# Another program puts another store in the place while the first is opened, which takes a second or more.
+changed_meanwhile() {
+    have_openssl changed_meanwhile || return 0
+    openssl pkcs12 -in "$keyed" -passin "file:$keyed_password" -nodes -out "$work/both.pem" 2>/dev/null &&
+        openssl pkcs12 -export -in "$work/both.pem" -iter 1000000 -passout "file:$keyed_password" -out "$work/slow.p12" || return 1
+    (sleep 0.3 && cp "$keyed" "$work/slow.p12") &
+    fails 4 WriteFault 'changed by another program' rekey "$work/slow.p12" --in-place --password-file "$keyed_password" \
+        --new-password-file "$work/new" && cmp "$keyed" "$work/slow.p12" && ! ls "$work/slow.p12".part-* 2>/dev/null
+}
+holds a_store_that_changes_meanwhile_stays changed_meanwhile
+with_nul() {
+    printf 'a\0b\n' >"$work/nul"
+    fails 22 PasswordUnusable NUL rekey "$keyed" --out "$work/nul.p12" --password-file "$keyed_password" --new-password-file "$work/nul" &&
+        nothing_at "$work/nul.p12" &&
+        fails 22 PasswordUnusable NUL export "$keyed" --out "$work/nul.d" --password-file "$keyed_password" --new-password-file "$work/nul" &&
+        nothing_at "$work/nul.d"
+}
+holds a_new_password_with_a_nul_is_refused with_nul
+
 exit "$failed"

@@ -45,7 +45,7 @@ Exit numbers:
   19  KeyMalformed        a private key opens, but is not a PKCS#8 key
   20  Rng                 the system gave no random octets
   21  TooLong             the store has more than 16,777,215 octets
-  22  PasswordUnusable    a password is not UTF-8, too long, or an empty new one
+  22  PasswordUnusable    a password is not UTF-8 or too long, or a new one is empty or has a NUL
   23  OutputExists        the output folder is there and cannot be replaced
   24  SelfTestFailed      the self-test gave a wrong result
   25  NotExported         the store has something that is not exported; nothing was written
