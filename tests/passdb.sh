@@ -489,6 +489,59 @@ few_descriptors() {
 }
 holds few_descriptors few_descriptors
 
+# --- the file that is replaced ---
+
+keeps_attributes() {
+    ends 0 add "$work/service" ann --password-file "$work/one" --rounds 1000 && [ "$(stat -c %a "$work/service")" = 600 ] || return 1
+    chmod 646 "$work/service" && ends 0 add "$work/service" bob --password-file "$work/one" --rounds 1000 &&
+        [ "$(stat -c %a "$work/service")" = 640 ] || return 1
+    [ "$(id -u)" -eq 0 ] || {
+        echo "skipped $name: only root can give files away"
+        return 0
+    }
+    chown 12345:12346 "$work/service" && ends 0 check "$work/service" ann --password-file "$work/one" --rounds 3000 &&
+        [ "$(stat -c '%u %g %a' "$work/service")" = '12345 12346 640' ] && grep -q '^ann:.*i=3000,' "$work/service" &&
+        nothing_beside "$work/service"
+}
+holds owner_and_group_stay keeps_attributes
+# Of a user who may write in the folder, and not give the file back to its owner.
+keeps_or_fails() {
+    [ "$(id -u)" -eq 0 ] && command -v setpriv >/dev/null || {
+        echo "skipped $name: only root can run as another user"
+        return 0
+    }
+    mkdir "$work/for_all" && chmod 777 "$work/for_all" && chmod 755 "$work" && cp "$work/service" "$work/for_all/users" &&
+        cp "$home/crates/passdb_command/out/passdb_command" "$work/for_all/program" && chmod 644 "$work/for_all/users" &&
+        cp "$work/one" "$work/for_all/one" && chmod 644 "$work/for_all/one" && cp "$work/for_all/users" "$work/before" || return 1
+    code=0
+    setpriv --reuid=65534 --regid=65534 --clear-groups "$work/for_all/program" add "$work/for_all/users" eve --password-file "$work/for_all/one" \
+        --rounds 1000 >"$work/said" 2>"$work/told" </dev/null || code=$?
+    [ "$code" -eq 4 ] && cmp "$work/before" "$work/for_all/users" && nothing_beside "$work/for_all/users"
+}
+holds a_file_of_another_owner_stays keeps_or_fails
+full_disk_leaves_no_lock() {
+    mkdir -p "$work/small" && mount -t tmpfs -o size=16k none "$work/small" 2>/dev/null || {
+        echo "skipped $name: no file system can be mounted here"
+        return 0
+    }
+    full=0
+    ends 0 add "$work/small/users" ann --password-file "$work/one" --rounds 1000 || full=1
+    cat /dev/zero >"$work/small/filler" 2>/dev/null || :
+    ends 4 add "$work/small/users" bob --password-file "$work/one" --rounds 1000 && nothing_beside "$work/small/users" || full=1
+    rm "$work/small/filler"
+    ends 0 add "$work/small/users" bob --password-file "$work/one" --rounds 1000 || full=1
+    umount "$work/small"
+    return "$full"
+}
+holds a_full_disk_leaves_no_lock full_disk_leaves_no_lock
+part_of_others() {
+    code=0
+    sh -c 'echo theirs >"$1.part-$$"; exec "$0" add "$1" hal --password-file "$2" --rounds 1000' \
+        "$home/crates/passdb_command/out/passdb_command" "$work/service" "$work/one" >"$work/said" 2>"$work/told" </dev/null || code=$?
+    [ "$code" -eq 4 ] && grep -qx theirs "$work/service".part-* && rm "$work/service".part-* && nothing_beside "$work/service"
+}
+holds a_part_file_of_others_is_kept part_of_others
+
 # --- builds ---
 
 old_program() {

@@ -10,9 +10,10 @@ at a terminal. Of a file, its first line is the password, without LF or CR LF; /
 
 /// What is under the whole help.
 const AFTER: &str = "\
-A file has a line NAME:HASH for each name, HASH being a PHC string of PBKDF2. It is written anew beside its place, for
-its owner alone (mode 0600), and then renamed: it is never half written. While it is changed FILE.lock is there, so that
-of two runs at the same time both changes are kept.
+A file has a line NAME:HASH for each name, HASH being a PHC string of PBKDF2. It is written anew beside its place and
+then renamed: it is never half written. A new file is for its owner alone (mode 0600); one that is there keeps owner
+and group, and stays readable for the group. While it is changed FILE.lock is there, so that of two runs at the same
+time both changes are kept.
 
 Examples:
   ./passdb add users ann

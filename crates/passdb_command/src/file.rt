@@ -1,6 +1,7 @@
 //! The password file: it is there whole, as it was or as it is to be.
 ghost use Rattle.std.specs.Prelude.{◌≤◌};
 
+use crate::attributes::Attributes;
 use crate::ending::{Ending, Failure};
 use passdb_core::Db;
 use std::alloc::{AllocError, Global};
@@ -13,7 +14,7 @@ use std::{fs, io};
 /// The most octets of a file.
 const MOST_OCTETS: u64 = 67_108_864;
 
-/// The folder that this path is in is.
+/// The folder that this path is in.
 fn parent(path: &str) -> &str {
     match path.rsplit_once('/') {
         Some(("", _)) => "/",
@@ -30,15 +31,13 @@ fn write_fault(alloc: Global, path: &str, error: io::Error) -> Failure {
     Failure::io(alloc, Ending::WriteFault, "the file", path, error)
 }
 
-/// Writes a file that was not there, for its owner alone, and waits until it is on the disk.
-fn write_new<R: Files>(rt: &R, path: &str, octets: &[u8]) -> io::Result<()> {
-    let mut file = OpenOptions::new()
+/// Makes a file that was not there, for its owner alone.
+fn create<R: Files>(rt: &R, path: &str) -> io::Result<R::File> {
+    OpenOptions::new()
         .write(true)
         .create_new(true)
         .mode(0o600)
-        .open(rt, path)?;
-    file.write_all(octets)?;
-    file.sync_all()
+        .open(rt, path)
 }
 
 /// Removes a file. Where that fails, a line on the standard error says so.
@@ -52,6 +51,37 @@ fn remove_or_tell<R: Files + Eprint>(rt: &R, path: &str) {
             }
         }
     }
+}
+
+/// Writes a file that was just made, and waits until it is on the disk.
+fn fill<R: Files>(
+    rt: &R,
+    path: &str,
+    file: R::File,
+    kept: Option<Attributes>,
+    octets: &[u8],
+) -> io::Result<()> {
+    let mut file = file;
+    if let Some(kept) = kept {
+        kept.give_to_file(rt, path, &file)?;
+    }
+    file.write_all(octets)?;
+    file.sync_all()
+}
+
+/// The same. After a failure the file is removed.
+fn fill_or_remove<R: Files + Eprint>(
+    rt: &R,
+    path: &str,
+    file: R::File,
+    kept: Option<Attributes>,
+    octets: &[u8],
+) -> io::Result<()> {
+    let filled = fill(rt, path, file, kept, octets);
+    if filled.is_err() {
+        remove_or_tell(rt, path);
+    }
+    filled
 }
 
 /// The path of the file, links followed, so that a link to it stays one. A file that is not there has its path as given;
@@ -155,7 +185,7 @@ fn not_locked(alloc: Global, path: &str, lock: &str, error: io::Error) -> Failur
 
 impl Locked {
     /// Takes the lock of the file at this path: the file FILE.lock, with the number of this process.
-    pub fn take<R: Files + AllocGlobal>(
+    pub fn take<R: Files + Eprint + AllocGlobal>(
         rt: &R,
         path: &str,
         process: u32,
@@ -167,15 +197,44 @@ impl Locked {
             part: format!(in alloc; "{path}.part-{process}")?,
         };
         let number = format!(in alloc; "{process}\n")?;
-        match write_new(rt, taken.lock.as_str(), number.as_bytes()) {
-            Ok(()) => Ok(taken),
-            Err(error) => Err(not_locked(alloc, path, taken.lock.as_str(), error)),
+        let lock = taken.lock.as_str();
+        let file = match create(rt, lock) {
+            Ok(file) => file,
+            Err(error) => return Err(not_locked(alloc, path, lock, error)),
+        };
+        match fill_or_remove(rt, lock, file, None, number.as_bytes()) {
+            Ok(()) => {}
+            Err(error) => return Err(write_fault(alloc, lock, error)),
         }
+        Ok(taken)
     }
 
     /// Gives the lock back.
     pub fn release<R: Files + Eprint>(&self, rt: &R) {
         remove_or_tell(rt, self.lock.as_str());
+    }
+
+    /// Writes this text beside the file's place, with the mode, owner and group that the file has.
+    fn write_part<R: Files + Eprint + AllocGlobal>(
+        &self,
+        rt: &R,
+        text: &str,
+    ) -> Result<(), Failure> {
+        let alloc = rt.alloc();
+        let part = self.part.as_str();
+        let kept = match fs::metadata(rt, self.path.as_str()) {
+            Ok(there) => Some(Attributes::of_file(&there)),
+            Err(error) if error.kind() == io::ErrorKind::NotFound => None,
+            Err(error) => return Err(write_fault(alloc, self.path.as_str(), error)),
+        };
+        let file = match create(rt, part) {
+            Ok(file) => file,
+            Err(error) => return Err(write_fault(alloc, part, error)),
+        };
+        match fill_or_remove(rt, part, file, kept, text.as_bytes()) {
+            Ok(()) => Ok(()),
+            Err(error) => Err(write_fault(alloc, self.path.as_str(), error)),
+        }
     }
 
     /// Puts this text in the place of the file's. After a failure the file is as it was.
@@ -184,21 +243,15 @@ impl Locked {
         rt: &R,
         text: &str,
     ) -> Result<(), Failure> {
+        self.write_part(rt, text)?;
         let path = self.path.as_str();
-        let part = self.part.as_str();
-        let placed = match write_new(rt, part, text.as_bytes()) {
-            Ok(()) => fs::rename(rt, part, path),
-            Err(error) => Err(error),
-        };
-        match placed {
+        match fs::rename(rt, self.part.as_str(), path) {
             Ok(()) => {
                 sync_folder(rt, parent(path));
                 Ok(())
             }
             Err(error) => {
-                if fs::symlink_metadata(rt, part).is_ok() {
-                    remove_or_tell(rt, part);
-                }
+                remove_or_tell(rt, self.part.as_str());
                 Err(write_fault(rt.alloc(), path, error))
             }
         }

@@ -1,6 +1,7 @@
 //! The command for people: `passdb add`, `check`, `change`, `remove` and `list`.
 #![tactic(auto)]
 
+mod attributes;
 mod command_line;
 mod ending;
 mod file;
