@@ -228,14 +228,21 @@ password_file_stays() {
     done
 }
 holds the_file_of_a_password_stays password_file_stays
-# Another program puts another store in the place while the first is opened, which takes a second or more.
+# Another program puts another store in the place while the changed one is read back and compared, which takes a while.
 changed_meanwhile() {
     have_openssl changed_meanwhile || return 0
     openssl pkcs12 -in "$keyed" -passin "file:$keyed_password" -nodes -out "$work/both.pem" 2>/dev/null &&
         openssl pkcs12 -export -in "$work/both.pem" -iter 1000000 -passout "file:$keyed_password" -out "$work/slow.p12" || return 1
-    (sleep 0.3 && cp "$keyed" "$work/slow.p12") &
+    (
+        while [ -z "$(find "$work" -maxdepth 1 -name 'slow.p12.part-*')" ]; do sleep 0.02; done
+        cp "$keyed" "$work/slow.p12"
+    ) &
+    other=$!
+    changed=0
     fails 4 WriteFault 'changed by another program' rekey "$work/slow.p12" --in-place --password-file "$keyed_password" \
-        --new-password-file "$work/new" && cmp "$keyed" "$work/slow.p12" && ! ls "$work/slow.p12".part-* 2>/dev/null
+        --new-password-file "$work/new" && cmp "$keyed" "$work/slow.p12" && ! ls "$work/slow.p12".part-* 2>/dev/null || changed=1
+    kill "$other" 2>/dev/null || :
+    return "$changed"
 }
 holds a_store_that_changes_meanwhile_stays changed_meanwhile
 with_nul() {
