@@ -20,7 +20,10 @@ trap 'rm -rf "$work"' EXIT
 # shellcheck source=tests/shared/building.sh
 . "$home/tests/shared/building.sh"
 
-(cd "$crate" && rt lib >"$work/lib.log" 2>&1) || {
+# as many processes as processors, and no more than four, each of which takes memory
+jobs=$(nproc 2>/dev/null || echo 1)
+[ "$jobs" -le 4 ] || jobs=4
+(cd "$crate" && rt lib --jobs "$jobs" >"$work/lib.log" 2>&1) || {
     tail -n 20 "$work/lib.log" >&2
     exit 1
 }
