@@ -102,7 +102,7 @@ removes() { ends 0 remove "$file" ann && ends 0 list "$file" && [ "$(cat "$work/
 holds removes_a_name removes
 by_variable() {
     (WORD='a longer one' && export WORD && ends 0 check "$file" bob --password-env WORD --rounds 1000) &&
-        fails 3 ReadFault 'no environment variable' check "$file" bob --password-env PASSDB_NO_SUCH
+        fails 3 ReadFault 'no environment variable' check "$file" bob --password-env PASSDB_NO_SUCH && ! grep -q PASSDB_NO_SUCH "$work/told"
 }
 holds takes_a_password_from_the_environment by_variable
 lost_variables() {
@@ -255,7 +255,8 @@ locked() {
     code=0
     echo s3cret | "$PASSDB" add "$file" eve --password-stdin >"$work/said" 2>"$work/told" || code=$?
     rm -f "$file.lock"
-    [ "$code" -eq 5 ] && grep -q 'passdb: Locked (5): ' "$work/told" && cmp -s "$file" "$work/before"
+    [ "$code" -eq 5 ] && grep -q 'passdb: Locked (5): ' "$work/told" && cmp -s "$file" "$work/before" &&
+        grep -qF "if no run is: rm '$file.lock'" "$work/told"
 }
 holds a_lock_that_stays_is_told locked
 reads_on() {
@@ -541,6 +542,39 @@ part_of_others() {
     [ "$code" -eq 4 ] && grep -qx theirs "$work/service".part-* && rm "$work/service".part-* && nothing_beside "$work/service"
 }
 holds a_part_file_of_others_is_kept part_of_others
+
+# --- what is printed ---
+
+# Nothing that may be a password is printed, and no other user reads one among the arguments of a run that goes on.
+passwords_unseen() {
+    for each in '--password hunter2' '--password=hunter2' '--new-password hunter2' '--passin pass:hunter2' 'hunter2' '--password-stdin=hunter2'; do
+        # shellcheck disable=SC2086 # two words
+        fails 2 Usage '' check "$file" bob $each && ! grep -q hunter2 "$work/told" || return 1
+    done
+}
+holds a_password_among_the_arguments_is_not_printed passwords_unseen
+# Escapes that would clear a terminal, and a mark that turns the direction of text.
+escapes() {
+    odd=$(printf '%s/a\033[2J\342\200\256b' "$work")
+    ends 3 list "$odd" && grep -qF 'a\u{1b}[2J\u{202e}b' "$work/told" && ! LC_ALL=C grep -q '[^ -~]' "$work/told" || return 1
+    echo no >"$odd" && ends 6 list "$odd" && ! LC_ALL=C grep -q '[^ -~]' "$work/told" && rm "$odd" && mkdir "$odd" && ends 3 list "$odd" &&
+        ! LC_ALL=C grep -q '[^ -~]' "$work/told" && rmdir "$odd" && : >"$odd.lock" &&
+        ends 5 add "$odd" bob --password-file "$work/one" --rounds 1000 && ! LC_ALL=C grep -q '[^ -~]' "$work/told" && rm "$odd.lock"
+}
+holds no_control_character_is_printed escapes
+quoted_command() {
+    odd="$work/it's; touch gone"
+    : >"$odd.lock"
+    ends 5 add "$odd" bob --password-file "$work/one" --rounds 1000 || return 1
+    sed -n 's/.*if no run is: //p' "$work/told" >"$work/command.sh" && (cd "$work" && sh ./command.sh) && [ ! -e "$odd.lock" ] && [ ! -e "$work/gone" ]
+}
+holds the_command_to_paste_is_quoted quoted_command
+holds an_empty_path_is_told fails 2 Usage 'not empty' list ''
+helps() {
+    ends 0 list --help && ! grep -q 'A password is never' "$work/said" && ends 0 remove --help && ! grep -q 'A password is never' "$work/said" &&
+        ends 0 check --help && grep -q 'A password is never' "$work/said"
+}
+holds help_speaks_of_passwords_where_one_is_taken helps
 
 # --- builds ---
 

@@ -2,7 +2,7 @@
 use clap::{Arg, ArgAction, Command};
 use std::alloc::{AllocError, Global};
 
-/// What is under the options of each subcommand.
+/// What is under the options of each subcommand that takes a password.
 const NOTES: &str = "\
 A password is never an argument, since other users can read those. Without any of its options, ./passdb asks for it
 at a terminal. Of a file, its first line is the password, without LF or CR LF; /dev/fd/3 and other pipes work;
@@ -205,7 +205,13 @@ fn with_subcommand<'a>(
     about: &'a str,
     arguments: &[Argument],
 ) -> Result<Command<'a>, AllocError> {
-    let subcommand = Command::new(alloc, name).about(about).after_help(NOTES);
+    let subcommand = Command::new(alloc, name).about(about);
+    let takes_password = arguments.iter().any(|argument| argument.group.is_some());
+    let subcommand = if takes_password {
+        subcommand.after_help(NOTES)
+    } else {
+        subcommand
+    };
     command.subcommand(with_arguments(alloc, subcommand, arguments)?)
 }
 

@@ -5,6 +5,7 @@ ghost use Rattle.passdb_command.specs.Ending.{code_of};
 use passdb_core::DbError;
 use std::alloc::{AllocError, AllocFailed, Global};
 use std::io;
+use terminal_text::Printable;
 
 /// The kinds of failure. The text of `--help` has them in a table, with their numbers.
 #[derive(Clone, Copy, PartialEq, Eq, Debug)]
@@ -135,7 +136,8 @@ impl Failure {
         if error.kind() == io::ErrorKind::OutOfMemory {
             return Failure::from(AllocError);
         }
-        Failure::told(ending, format!(in alloc; "{purpose} {path}: {error}"))
+        let shown = Printable(path);
+        Failure::told(ending, format!(in alloc; "{purpose} {shown}: {error}"))
     }
 }
 

@@ -10,6 +10,7 @@ use std::io::Write;
 use std::os::unix::fs::OpenOptionsExt;
 use std::rt::Files;
 use std::{fs, io};
+use terminal_text::{Printable, ShellWord, fits_in_command};
 
 /// The most octets of a file.
 const MOST_OCTETS: u64 = 67_108_864;
@@ -46,7 +47,8 @@ fn remove_or_tell<R: Files + Eprint>(rt: &R, path: &str) {
         Ok(()) => {}
         Err(error) => {
             // A standard error that cannot be written to is no failure of the work.
-            match eprintln!(rt; "passdb: {path} could not be removed: {error}") {
+            let shown = Printable(path);
+            match eprintln!(rt; "passdb: {shown} could not be removed: {error}") {
                 Ok(()) | Err(_) => {}
             }
         }
@@ -85,9 +87,12 @@ fn fill_or_remove<R: Files + Eprint>(
 }
 
 /// The path of the file, links followed, so that a link to it stays one. A file that is not there has its path as given;
-/// `ReadFault` where a link is there that leads to nothing.
+/// `ReadFault` where a link is there that leads to nothing, and `Usage` where the path is empty.
 pub fn real_path<R: Files + AllocGlobal>(rt: &R, path: &str) -> Result<String, Failure> {
     let alloc = rt.alloc();
+    if path.is_empty() {
+        return Err(Failure::new(Ending::Usage, "FILE is the path of a file, and not empty"));
+    }
     match fs::canonicalize(rt, path) {
         Ok(real) => Ok(String::from_str(alloc, real.as_path().as_str())?),
         Err(error) if error.kind() == io::ErrorKind::NotFound => {
@@ -103,14 +108,15 @@ pub fn real_path<R: Files + AllocGlobal>(rt: &R, path: &str) -> Result<String, F
 /// The octets of the file; none where it is not there.
 fn octets_of<R: Files + AllocGlobal>(rt: &R, path: &str) -> Result<Option<Vec<u8>>, Failure> {
     let alloc = rt.alloc();
+    let shown = Printable(path);
     match fs::metadata(rt, path) {
         Ok(there) if !there.is_file() => Err(Failure::told(
             Ending::ReadFault,
-            format!(in alloc; "{path} is not a file"),
+            format!(in alloc; "{shown} is not a file"),
         )),
         Ok(there) if there.len() > MOST_OCTETS => Err(Failure::told(
             Ending::Malformed,
-            format!(in alloc; "{path} has more than 67,108,864 octets"),
+            format!(in alloc; "{shown} has more than 67,108,864 octets"),
         )),
         Ok(_) => match fs::read(rt, path) {
             Ok(octets) => Ok(Some(octets)),
@@ -123,8 +129,9 @@ fn octets_of<R: Files + AllocGlobal>(rt: &R, path: &str) -> Result<Option<Vec<u8
 
 /// The failure of a file that is no password file.
 fn malformed(alloc: Global, path: &str) -> Failure {
+    let shown = Printable(path);
     let text = format!(in alloc;
-        "{path} is not a password file: lines NAME:HASH, with LF after each, names in order"
+        "{shown} is not a password file: lines NAME:HASH, with LF after each, names in order"
     );
     Failure::told(Ending::Malformed, text)
 }
@@ -157,10 +164,13 @@ pub fn read<R: Files + AllocGlobal>(
     match octets_of(rt, path)? {
         Some(octets) => parsed(alloc, path, octets.as_slice(), rounds),
         None if make => parsed(alloc, path, b"", rounds),
-        None => Err(Failure::told(
-            Ending::ReadFault,
-            format!(in alloc; "there is no file {path}; add makes one"),
-        )),
+        None => {
+            let shown = Printable(path);
+            Err(Failure::told(
+                Ending::ReadFault,
+                format!(in alloc; "there is no file {shown}; add makes one"),
+            ))
+        }
     }
 }
 
@@ -175,9 +185,18 @@ pub struct Locked {
 /// The failure of a lock that was not taken.
 fn not_locked(alloc: Global, path: &str, lock: &str, error: io::Error) -> Failure {
     if error.kind() == io::ErrorKind::AlreadyExists {
-        let text = format!(in alloc;
-            "another run is changing {path}, or was killed while it did; if no run is, rm {lock}"
-        );
+        let shown = Printable(path);
+        let text = if fits_in_command(lock) {
+            let word = ShellWord(lock);
+            format!(in alloc;
+                "another run is changing {shown}, or was killed while it did; if no run is: rm {word}"
+            )
+        } else {
+            format!(in alloc;
+                "another run is changing {shown}, or was killed while it did; if no run is, remove \
+                 the file of its name with .lock at the end"
+            )
+        };
         return Failure::told(Ending::Locked, text);
     }
     write_fault(alloc, lock, error)

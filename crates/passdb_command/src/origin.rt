@@ -107,7 +107,10 @@ fn variable<R: Env + AllocGlobal>(
         Err(VarError::OutOfMemory) => Err(Failure::from(AllocError)),
         Err(VarError::NotPresent) => Err(Failure::told(
             Ending::ReadFault,
-            format!(in rt.alloc(); "the {purpose}: there is no environment variable {name}"),
+            format!(in rt.alloc();
+                "the {purpose}: there is no environment variable of the name that was given, which \
+                 is not shown, since it may be a password"
+            ),
         )),
     }
 }

@@ -7,6 +7,7 @@ use clap::ArgMatches;
 use passdb_core::ROUNDS_LIMIT;
 use phc_core::Ident;
 use std::alloc::Global;
+use terminal_text::InQuotes;
 
 /// The fewest rounds of a fresh entry.
 const LEAST_ROUNDS: u32 = 1000;
@@ -55,24 +56,26 @@ fn text_of<'a>(matches: &ArgMatches<'a>, name: &str) -> Result<&'a str, Failure>
 fn rounds_of(alloc: Global, text: &str) -> Result<u32, Failure>
     ensures { IfOk result (λ n. (1000 ≤ n) × (n ≤ 10000000)) }
 {
+    let shown = InQuotes(text);
     match text.parse::<u32>() {
         Ok(rounds) if rounds >= LEAST_ROUNDS && rounds <= ROUNDS_LIMIT => Ok(rounds),
         _ => Err(Failure::told(
             Ending::Usage,
             format!(in alloc;
-                "--rounds takes a whole number from 1000 to 10000000, and not {text:?}"
+                "--rounds takes a whole number from 1000 to 10000000, and not {shown}"
             ),
         )),
     }
 }
 
 fn name_of(alloc: Global, text: &str) -> Result<Ident, Failure> {
+    let shown = InQuotes(text);
     match Ident::new(text) {
         Ok(name) => Ok(name),
         Err(_) => Err(Failure::told(
             Ending::Usage,
             format!(in alloc;
-                "a name is 1 to 32 characters of a to z, 0 to 9 and -, and not {text:?}"
+                "a name is 1 to 32 characters of a to z, 0 to 9 and -, and not {shown}"
             ),
         )),
     }

@@ -17,6 +17,7 @@ use std::rt::{Env, Files, Runtime};
 use std::sync::ledger::{Blank, Ledger};
 use std::{env, fs, io};
 use steps::Steps;
+use terminal_text::{is_password_given, without_values};
 
 /// Where this variable is set, the wrapper asks for a password that is missing and runs the program again, so the program
 /// itself keeps silent.
@@ -248,7 +249,7 @@ fn refused(alloc: Global, error: &clap::Error) -> Result<String, AllocError> {
         Some(rest) => rest,
         None => text,
     };
-    String::from_str(alloc, text)
+    without_values(alloc, text)
 }
 
 /// The failure of arguments that clap refuses; none where it shows help or the version, which is printed.
@@ -287,9 +288,16 @@ fn answer<R: Runtime + AllocGlobal>(
     }
 }
 
+const NO_PASSWORD_ARGUMENT: &str = "\
+a password is not given on the command line, since other users can read that (it is not shown); \
+give --password-file FILE, --password-env NAME or --password-stdin";
+
 /// Does what the arguments ask for.
 pub fn run<R: Runtime + AllocGlobal>(rt: &R, process: u32) -> Result<(), Failure> {
     let arguments = arguments(rt)?;
+    if is_password_given(arguments.as_slice()) {
+        return Err(Failure::new(Ending::Usage, NO_PASSWORD_ARGUMENT));
+    }
     let command = command(rt.alloc())?;
     match command.try_get_matches_from(arguments.as_slice()) {
         Ok(matches) => answer(rt, process, &matches),
