@@ -363,7 +363,8 @@ progress() {
     [ -f "$work/many-keys.p12" ] || return 0
     "$home/tests/shared/at_terminal.py" -- "$home/pkcs12" export "$work/many-keys.p12" --out "$work/progress" --password-file "$work/p" \
         --same-password --rounds 20000 >"$work/told" || return 1
-    says told "pkcs12: sealing 200 private keys, which takes about "
+    says told "pkcs12: sealing 200 private keys, which takes about " && says told "sealing private keys [....................] 0 of 200" &&
+        says told "sealing private keys [##########..........] 100 of 200" && says told "sealing private keys [####################] 200 of 200"
 }
 holds a_terminal_shows_how_far_it_is progress
 # In processor time, the least of three.

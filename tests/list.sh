@@ -110,6 +110,34 @@ past_and_early() {
 }
 holds a_certificate_that_is_past_or_early past_and_early
 
+# What is no time is not compared with the clock: the 30th of February.
+no_time() {
+    dated no_time 20200101000000Z 20210203040506Z && openssl x509 -in "$work/no_time.pem" -outform DER -out "$work/no_time.der" &&
+        "${PYTHON:-python3}" -c '
+import sys
+octets = open(sys.argv[1], "rb").read()
+assert octets.count(b"210203040506Z") == 1
+open(sys.argv[1], "wb").write(octets.replace(b"210203040506Z", b"210230040506Z"))' "$work/no_time.der" &&
+        openssl x509 -inform DER -in "$work/no_time.der" -out "$work/no_time.pem" 2>"$work/told" && store no_time no_time "$work/no_time.pem" &&
+        ends 0 list "$work/no_time.p12" --password-file "$work/p" || return 1
+    grep -qxF '  valid: 2020-01-01 00:00:00 UTC to 2021-02-30 04:05:06 UTC (not both are times of the calendar)' "$work/said" &&
+        ends 0 list "$work/no_time.p12" --password-file "$work/p" --json && grep -qF '"is_valid_now": null' "$work/said"
+}
+holds a_time_that_is_none_is_not_judged no_time
+
+# A private key that is not encrypted is not passed over in silence.
+key_in_the_clear() {
+    certificate clear /CN=clear && openssl pkcs12 -export -keypbe NONE -inkey "$work/clear.key" -in "$work/clear.pem" -out "$work/clear.p12" \
+        -passout "file:$work/p" 2>"$work/told" && ends 0 list "$work/clear.p12" --password-file "$work/p" || return 1
+    grep -qxF 'not listed: 1, a private key that is not encrypted (keyBag)' "$work/said" && ! grep -q '^key-' "$work/said" &&
+        ends 0 list "$work/clear.p12" --password-file "$work/p" --json && "${PYTHON:-python3}" -c '
+import json, sys
+found = json.load(open(sys.argv[1]))
+assert list(found) == ["certificates", "private_keys", "not_listed"]
+assert found["private_keys"] == [] and found["not_listed"] == ["a private key that is not encrypted (keyBag)"]' "$work/said"
+}
+holds what_is_not_listed_is_named key_in_the_clear
+
 # A root, an intermediate certificate and a server's; the intermediate one cross-signed by another root.
 make_chain() {
     certificate root /CN=root && certificate other /CN=other &&

@@ -47,7 +47,8 @@ by one of these:
 const NEW_PASSWORD: &str = "\
 This program does not ask for it; the script ./pkcs12 beside it does, at a terminal. Or give it \
 by one of these:
-    --new-password-file FILE    --new-password-env NAME    --new-password-stdin    --same-password";
+    --new-password-file FILE    --new-password-env NAME    --new-password-stdin
+export also takes --same-password, which keeps the store's.";
 
 const WRONG_PASSWORD: &str = "\
 Try the password again. Of a file the first line counts, with its spaces; a byte order mark \
@@ -72,7 +73,7 @@ Give --skip-others to export the rest. OpenSSL writes out a private key that is 
 /// The next command to type, or what to look at.
 pub fn advice(ending: Ending) -> &'static str {
     match ending {
-        Ending::Usage => "See pkcs12 --help, pkcs12 export --help and pkcs12 check --help.",
+        Ending::Usage => "See pkcs12 --help, and pkcs12 SUBCOMMAND --help.",
         Ending::ReadFault => "Look whether the file is there and can be read.",
         Ending::WriteFault => "Look at the folder above it.",
         Ending::Memory =>
@@ -80,7 +81,7 @@ pub fn advice(ending: Ending) -> &'static str {
         Ending::PasswordMissing => PASSWORD,
         Ending::NewPasswordMissing => NEW_PASSWORD,
         Ending::PasswordUnusable => UNUSABLE,
-        Ending::OutputExists => "Give the name of a new folder.",
+        Ending::OutputExists => "Give another name.",
         Ending::SelfTestFailed => SELF_TEST,
         Ending::NotExported => NOT_EXPORTED,
         Ending::SealLimit =>

@@ -3,9 +3,9 @@ ghost use Rattle.std.specs.Prelude.{◌≡◌};
 ghost use Rattle.pkcs12.specs.Ending.{code_of};
 
 use crate::io_advice::advice_on_io;
-use crate::printable::Printable;
 use std::alloc::{AllocError, AllocFailed, Global};
 use std::io;
+use terminal_text::Printable;
 use transfer::{Status, TransferError};
 
 /// The kinds of failure. The text of `--help` has them in a table, with their numbers.

@@ -6,10 +6,10 @@ use crate::command_line::{
 };
 use crate::ending::{Ending, Failure};
 use crate::origin::Origin;
-use crate::printable::InQuotes;
 use crate::request::{new_password_of, number_of, password_of, rounds_of, text_of};
 use clap::ArgMatches;
 use std::alloc::Global;
+use terminal_text::InQuotes;
 
 pub const NAME: &str = "export";
 

@@ -6,13 +6,13 @@ use crate::file_name::is_exported_name;
 use crate::listing::Listing;
 use crate::output_exists::{Kept, replaceable};
 use crate::paths::{name, parent};
-use crate::printable::{Printable, ShellWord, fits_in_command};
 use crate::written_files::fill;
 use std::alloc::{AllocError, Global};
 use std::fs::{DirBuilder, Metadata, OpenFile};
 use std::os::unix::fs::{DirBuilderExt, MetadataExt};
 use std::rt::Files;
 use std::{fs, io};
+use terminal_text::{Printable, ShellWord, fits_in_command};
 use transfer::Transferred;
 
 /// Where the output goes: a folder that is not there yet, or is to be replaced.
@@ -60,15 +60,13 @@ fn left_over(alloc: Global, part: &str) -> Failure {
     failure.advised_by(format!(in alloc; "Remove it:\n    rm -r {word}"))
 }
 
-/// The failure where the attributes of a folder that is there cannot be kept.
-fn not_kept(alloc: Global, path: &str, error: io::Error) -> Failure {
+/// The failure where the attributes of a folder or file that is there cannot be kept.
+pub fn not_kept(alloc: Global, path: &str, error: io::Error) -> Failure {
     let shown = Printable(path);
     let text = format!(in alloc;
         "{shown} is there already, and its mode, owner and group cannot be kept: {error}"
     );
-    Failure::told(Ending::WriteFault, text).advised(
-        "Run as its owner, or give the name of a new folder.",
-    )
+    Failure::told(Ending::WriteFault, text).advised("Run as its owner, or give another name.")
 }
 
 /// The failure where the folder that was at the path could not be given its name back.
@@ -95,8 +93,11 @@ fn not_placed(alloc: Global, path: &str, error: io::Error) -> Failure {
     write_fault(alloc, "the output folder", path, error)
 }
 
+/// What is told of an output whose name could not be brought to the disk.
+pub const MAY_BE_LOST: &str = "is written, and may not be on the disk yet";
+
 /// Says on the standard error that something was not done which does not make the output wrong.
-fn tell<R: Eprint>(rt: &R, path: &str, what: &str, error: &io::Error) {
+pub fn tell<R: Eprint>(rt: &R, path: &str, what: &str, error: &io::Error) {
     let shown = Printable(path);
     // A standard error that cannot be written to is no failure of the work.
     match eprintln!(rt; "pkcs12: {shown}, {what}: {error}") {
@@ -344,12 +345,7 @@ impl<'a> Folder<'a> {
         match sync_folder(rt, parent(self.path)) {
             Ok(()) => true,
             Err(error) => {
-                tell(
-                    rt,
-                    self.path,
-                    "is written, and may not be on the disk yet",
-                    &error,
-                );
+                tell(rt, self.path, MAY_BE_LOST, &error);
                 false
             }
         }

@@ -73,8 +73,8 @@ pub fn inputs_differ<R: Files>(
             "both passwords come from one input, which gives only one of them",
         )
         .advised(
-            "Give the new password by another file or variable, or --same-password to keep the \
-             store's.",
+            "Give the new password by another file or variable. To keep the store's, export has \
+             --same-password.",
         )),
         _ => Ok(()),
     }

@@ -1,10 +1,10 @@
 //! What to do where a call on the system failed.
 use crate::ending::Ending;
 use crate::paths::parent;
-use crate::printable::{ShellWord, fits_in_command};
 use std::alloc::{AllocError, Global};
 use std::io;
 use std::io::ErrorKind;
+use terminal_text::{ShellWord, fits_in_command};
 
 /// The causes that call for different advice.
 #[derive(Clone, Copy)]

@@ -1,10 +1,10 @@
 //! What the command says that it found, in JSON (RFC 8259).
 use crate::listing::{Label, Listing};
 use crate::other_bag::OtherBag;
-use crate::printable::is_printable;
 use std::alloc::{AllocError, Global};
 use std::fmt;
 use std::fmt::Write;
+use terminal_text::is_printable;
 
 /// A string of JSON. Characters that are not printable are escaped by the units of their UTF-16.
 #[derive(Clone, Copy)]
@@ -84,7 +84,8 @@ fn add_keys(alloc: Global, text: &mut String, found: &Listing) -> Result<(), All
     Ok(())
 }
 
-fn add_others(text: &mut String, others: &[OtherBag]) -> Result<(), AllocError> {
+/// Adds a string for each of these bags.
+pub fn add_others(text: &mut String, others: &[OtherBag]) -> Result<(), AllocError> {
     for (place, kind) in others.iter().enumerate() {
         add_comma(text, place)?;
         write!(text, "\"{kind}\"")?;

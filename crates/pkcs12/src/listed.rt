@@ -4,7 +4,7 @@ use inventory_core::{CertificateView, Parent, SubjectIndex};
 use p12::{CertBag, SafeBag, SafeBagKind};
 use sha2::{Digest, Sha256};
 use std::alloc::{AllocError, Global};
-use x509_names::{Parts, name_text, time_text};
+use x509_names::{Parts, is_time, name_text, time_text};
 
 /// The certificates of a store, in its order, and what could be read of each.
 #[derive(Drop)]
@@ -41,6 +41,8 @@ pub struct Certificate<'a> {
 pub struct Validity {
     pub not_before: Text,
     pub not_after: Text,
+    /// Whether both are times of the calendar, which their texts have in order.
+    pub are_times: bool,
 }
 
 /// Whether a certificate is valid at a time.
@@ -52,14 +54,16 @@ pub enum When {
 }
 
 impl Validity {
-    /// Whether the certificate is valid at this time, which is written as the two are.
-    pub fn at(&self, now: &str) -> When {
-        if now < self.not_before.as_str() {
-            When::Early
+    /// Whether the certificate is valid at this time, which is written as the two are; None where one of them is no time.
+    pub fn at(&self, now: &str) -> Option<When> {
+        if !self.are_times {
+            None
+        } else if now < self.not_before.as_str() {
+            Some(When::Early)
         } else if self.not_after.as_str() < now {
-            When::Past
+            Some(When::Past)
         } else {
-            When::Valid
+            Some(When::Valid)
         }
     }
 }
@@ -105,6 +109,7 @@ fn validity_of(
         Some((not_before, not_after)) => Ok(Some(Validity {
             not_before: time_text(alloc, not_before)?,
             not_after: time_text(alloc, not_after)?,
+            are_times: is_time(not_before) && is_time(not_after),
         })),
         None => Ok(None),
     }

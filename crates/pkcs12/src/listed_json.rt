@@ -1,6 +1,6 @@
 //! What `list` says, in JSON (RFC 8259).
 use crate::chains::is_whole;
-use crate::json::{JsonOctets, JsonText, add_comma};
+use crate::json::{JsonOctets, JsonText, add_comma, add_others};
 use crate::listed::{Certificate, Certificates, Validity, When};
 use crate::listed_text::SerialNumber;
 use crate::listing::{Label, Listing};
@@ -40,12 +40,16 @@ fn add_validity(
         "not_after",
         validity.map(|validity| validity.not_after.as_str()),
     )?;
-    match (validity, now) {
-        (Some(validity), Some(now)) => {
-            let is_valid = validity.at(now) == When::Valid;
+    let when = match (validity, now) {
+        (Some(validity), Some(now)) => validity.at(now),
+        _ => None,
+    };
+    match when {
+        Some(when) => {
+            let is_valid = when == When::Valid;
             write!(text, ", \"is_valid_now\": {is_valid}")
         }
-        _ => text.push_str(", \"is_valid_now\": null"),
+        None => text.push_str(", \"is_valid_now\": null"),
     }
 }
 
@@ -142,7 +146,7 @@ fn add_private_key(
     write!(text, "], \"is_whole\": {whole}}}")
 }
 
-/// The certificates and private keys of a store, as one object.
+/// The certificates and private keys of a store and the kinds of what else it holds, as one object.
 pub fn listed_json(
     alloc: Global,
     certificates: &Certificates<'_>,
@@ -159,6 +163,8 @@ pub fn listed_json(
         let start = pairs.get(place).copied().unwrap_or(None);
         add_private_key(alloc, &mut text, certificates, label, start)?;
     }
+    text.push_str("],\n  \"not_listed\": [")?;
+    add_others(&mut text, labels.others.as_slice())?;
     text.push_str("]\n}\n")?;
     Ok(text)
 }

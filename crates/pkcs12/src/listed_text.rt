@@ -2,12 +2,13 @@
 use crate::chains::is_whole;
 use crate::listed::{Certificate, Certificates, Validity, When};
 use crate::listing::{Label, Listing};
-use crate::printable::{Hexadecimal, InQuotes, Printable};
 use crate::public_key::PublicKey;
+use crate::summary::add_others;
 use inventory_core::Parent;
 use std::alloc::{AllocError, Global};
 use std::fmt;
 use std::fmt::Write;
+use terminal_text::{Hexadecimal, InQuotes, Printable};
 
 /// The digits of a serial number, given by its value octets: without the octet that keeps it from being negative.
 #[derive(Clone, Copy)]
@@ -35,7 +36,10 @@ fn add_validity(
     let from = Printable(validity.not_before.as_str());
     let to = Printable(validity.not_after.as_str());
     write!(text, "  valid: {from} to {to}")?;
-    match now.map(|now| validity.at(now)) {
+    if !validity.are_times {
+        text.push_str(" (not both are times of the calendar)")?;
+    }
+    match now.and_then(|now| validity.at(now)) {
         Some(When::Past) => text.push_str(" (past, by this machine's clock)")?,
         Some(When::Early) => text.push_str(" (not yet, by this machine's clock)")?,
         Some(When::Valid) | None => {}
@@ -112,7 +116,7 @@ fn add_chain(
     }
 }
 
-/// The certificates of a store with what they say, and its private keys with their chains.
+/// The certificates of a store with what they say, its private keys with their chains, and the kinds of what else it holds.
 pub fn listed_text(
     alloc: Global,
     certificates: &Certificates<'_>,
@@ -135,5 +139,6 @@ pub fn listed_text(
         let start = pairs.get(place).copied().unwrap_or(None);
         add_chain(alloc, &mut text, certificates, start)?;
     }
+    add_others(&mut text, "not listed", labels.others.as_slice())?;
     Ok(text)
 }

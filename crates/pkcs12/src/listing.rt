@@ -9,12 +9,12 @@ ghost use Rattle.pkcs12.specs.Pairs.{first_of, has_key_id, pair_of};
 use crate::certificate_shape::has_certificate_shape;
 use crate::export::Part;
 use crate::other_bag::OtherBag;
-use crate::printable::{Hexadecimal, InQuotes};
 use asn1_core::{Items, Octets, Text};
 use p12::{CertBag, Error, SafeBag, SafeBagKind};
 use std::alloc::{AllocError, Global};
 use std::collections::BTreeMap;
 use std::fmt;
+use terminal_text::{Hexadecimal, InQuotes};
 
 /// What the attributes of a certificate or private key say of it (RFC 2985 section 5.5). Writers
 /// give a private key and its certificate the same local key id.

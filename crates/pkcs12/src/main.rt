@@ -39,7 +39,7 @@ mod output;
 mod output_exists;
 mod password;
 mod paths;
-mod printable;
+mod progress;
 mod public_key;
 mod refusal;
 mod rekey;

@@ -1,10 +1,10 @@
 //! What a file is that is not a store in DER.
 use crate::not_der::not_der;
-use crate::printable::Printable;
 use asn1_core::{Reader, SliceReader};
 use p12::StoreView;
 use std::alloc::{AllocError, Global};
 use std::str::from_utf8;
+use terminal_text::Printable;
 
 /// How PEM text begins (RFC 7468).
 const PEM: [u8; 11] = *b"-----BEGIN ";

@@ -7,6 +7,7 @@ ghost use Rattle.transfer.specs.Verdicts.{StoreOpens};
 use crate::ending::{Ending, Failure};
 use crate::long_work::tell_sealing;
 use crate::password::{NewPassword, Password};
+use crate::progress::{Progress, end_progress};
 use asn1_core::Octets;
 use mac_modes::{DrawnBytes, ReadDraw};
 use std::alloc::Global;
@@ -85,8 +86,8 @@ pub fn opened_store(
 }
 
 /// Seals the keys of an opened store under the new password, in so many rounds, over the system's
-/// random octets. Where `is_shown` is set, the standard error says how many there are, and about
-/// how long they take.
+/// random octets. Where `is_shown` is set, the standard error says how many there are and about how
+/// long they take, and shows how much is done.
 pub fn sealed_store<R: Files + Eprint + AllocGlobal + Drop>(
     rt: &R,
     opened: &Opened,
@@ -113,9 +114,14 @@ pub fn sealed_store<R: Files + Eprint + AllocGlobal + Drop>(
     if is_shown {
         tell_sealing(rt, opened.keys.len(), rounds);
     }
-    let mut draw = ReadDraw::new(random);
+    let keys = opened.keys.len();
+    let mut draw = Progress::new(rt, ReadDraw::new(random), keys, is_shown);
     let new_password = new_password.as_str().as_bytes();
-    match seal_opened(rt.alloc(), opened, new_password, rounds, &mut draw) {
+    let sealed = seal_opened(rt.alloc(), opened, new_password, rounds, &mut draw);
+    if is_shown {
+        end_progress(rt, keys, sealed.is_ok());
+    }
+    match sealed {
         Ok(transferred) => Ok(transferred),
         Err(refusal) => Err(refused(refusal)),
     }

@@ -3,11 +3,11 @@ use crate::attributes::Attributes;
 use crate::ending::{Ending, Failure};
 use crate::file_name::{Kind, is_exported_name, kind_of};
 use crate::mounts::is_mount_point;
-use crate::printable::{Printable, ShellWord, fits_in_command};
 use std::alloc::{AllocError, Global};
 use std::fs::{DirEntry, Metadata};
 use std::rt::Files;
 use std::{fs, io};
+use terminal_text::{Printable, ShellWord, fits_in_command};
 
 /// What is kept of a folder that is replaced.
 #[derive(Clone, Copy)]

@@ -143,7 +143,7 @@ fn changed_meanwhile() -> Failure {
 
 /// Writes the changed store, and puts it in its place once it was read back and compared. A store that is replaced has to be
 /// the one that was read.
-fn write_changed<R: Files + AllocGlobal>(
+fn write_changed<R: Files + Eprint + AllocGlobal>(
     rt: &R,
     file: &StoreFile<'_>,
     change: &Change<'_>,

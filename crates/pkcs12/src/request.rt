@@ -7,10 +7,10 @@ use crate::ending::{Ending, Failure};
 use crate::export::Export;
 use crate::list::List;
 use crate::origin::Origin;
-use crate::printable::InQuotes;
 use crate::rekey::Rekey;
 use clap::ArgMatches;
 use std::alloc::Global;
+use terminal_text::InQuotes;
 
 /// The most rounds of PBKDF2.
 const MOST_ROUNDS: u32 = 100_000_000;

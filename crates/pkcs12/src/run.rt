@@ -10,12 +10,13 @@ use crate::output::printed;
 use crate::rekeying::run_rekey;
 use crate::request::{Request, request_of};
 use crate::self_test::self_test;
-use crate::words::{password_word, without_values};
+use crate::words::password_word;
 use clap::ArgMatches;
 use clap::error::ErrorKind;
 use std::alloc::{AllocError, Global};
 use std::rt::{Env, Runtime};
 use std::{env, io};
+use terminal_text::without_values;
 
 /// What the process tells: its number, and whether its standard error is a terminal.
 #[derive(Clone, Copy)]

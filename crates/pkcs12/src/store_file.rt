@@ -1,15 +1,15 @@
 //! The file of a store: it is there whole, or not at all.
 use crate::attributes::Attributes;
 use crate::ending::{Ending, Failure};
-use crate::folder::{rename_whole, sync_folder};
+use crate::folder::{MAY_BE_LOST, not_kept, rename_whole, sync_folder, tell};
 use crate::paths::{name, parent};
-use crate::printable::Printable;
 use std::alloc::{AllocError, Global};
 use std::fs::{OpenFile, OpenOptions};
 use std::io::{Read, Write};
 use std::os::unix::fs::OpenOptionsExt;
 use std::rt::Files;
 use std::{fs, io};
+use terminal_text::Printable;
 
 /// Where a store is written: a file that is not there yet, or is to be replaced.
 #[derive(Clone, Copy)]
@@ -19,6 +19,17 @@ pub struct StoreFile<'a> {
     process: u32,
     /// The mode, owner and group of the file that is there now, which stay.
     kept: Option<Attributes>,
+}
+
+/// Why a file could not be written whole, by what is there of it.
+#[derive(Drop)]
+enum Begun {
+    /// It could not be made.
+    Nothing(io::Error),
+    /// It could not be written, or brought to the disk.
+    Unwritten(io::Error),
+    /// It could not be given the mode, owner and group of the file that is there.
+    NotKept(io::Error),
 }
 
 fn write_fault(alloc: Global, path: &str, error: io::Error) -> Failure {
@@ -89,17 +100,52 @@ impl<'a> StoreFile<'a> {
     }
 
     /// Writes the octets into a file beside this one, which only its owner may read unless more is kept, and brings it to the disk.
-    fn begin<R: Files + AllocGlobal>(&self, rt: &R, part: &str, octets: &[u8]) -> io::Result<()> {
-        let mut file = OpenOptions::new()
+    fn begin<R: Files + AllocGlobal>(
+        &self,
+        rt: &R,
+        part: &str,
+        octets: &[u8],
+    ) -> Result<(), Begun> {
+        let opened = OpenOptions::new()
             .write(true)
             .create_new(true)
             .mode(0o600)
-            .open(rt, part)?;
-        file.write_all(octets)?;
-        if let Some(kept) = self.kept {
-            kept.give_to_file(rt, part, &file)?;
+            .open(rt, part);
+        let mut file = match opened {
+            Ok(file) => file,
+            Err(error) => return Err(Begun::Nothing(error)),
+        };
+        if let Err(error) = file.write_all(octets) {
+            return Err(Begun::Unwritten(error));
         }
-        file.sync_all()
+        if let Some(kept) = self.kept
+            && let Err(error) = kept.give_to_file(rt, part, &file)
+        {
+            return Err(Begun::NotKept(error));
+        }
+        match file.sync_all() {
+            Ok(()) => Ok(()),
+            Err(error) => Err(Begun::Unwritten(error)),
+        }
+    }
+
+    /// The failure of a file that could not be written whole. What is begun is removed.
+    fn not_begun<R: Files + AllocGlobal>(
+        &self,
+        rt: &R,
+        begun: Begun,
+    ) -> Result<Failure, AllocError> {
+        match begun {
+            Begun::Nothing(error) => Ok(write_fault(rt.alloc(), self.path, error)),
+            Begun::Unwritten(error) => {
+                self.abandon(rt)?;
+                Ok(write_fault(rt.alloc(), self.path, error))
+            }
+            Begun::NotKept(error) => {
+                self.abandon(rt)?;
+                Ok(not_kept(rt.alloc(), self.path, error))
+            }
+        }
     }
 
     /// Writes the octets beside this file, and reads them back. What is begun is removed after a failure.
@@ -109,11 +155,8 @@ impl<'a> StoreFile<'a> {
         octets: &[u8],
     ) -> Result<Vec<u8>, Failure> {
         let part = self.part(rt.alloc())?;
-        if let Err(error) = self.begin(rt, part.as_str(), octets) {
-            if error.kind() != io::ErrorKind::AlreadyExists {
-                self.abandon(rt)?;
-            }
-            return Err(write_fault(rt.alloc(), self.path, error));
+        if let Err(begun) = self.begin(rt, part.as_str(), octets) {
+            return Err(self.not_begun(rt, begun)?);
         }
         match read_back(rt, part.as_str(), octets.len()) {
             Ok(found) => Ok(found),
@@ -156,8 +199,9 @@ impl<'a> StoreFile<'a> {
         }
     }
 
-    /// Gives what was begun the name of this file, and brings that to the disk.
-    pub fn place<R: Files + AllocGlobal>(&self, rt: &R) -> Result<(), Failure> {
+    /// Gives what was begun the name of this file, and brings that to the disk; where the name is there and cannot be brought
+    /// to the disk, that is told.
+    pub fn place<R: Files + Eprint + AllocGlobal>(&self, rt: &R) -> Result<(), Failure> {
         let part = self.part(rt.alloc())?;
         match self.name_it(rt, part.as_str()) {
             Ok(()) => {}
@@ -175,10 +219,10 @@ impl<'a> StoreFile<'a> {
                 return Err(write_fault(rt.alloc(), self.path, error));
             }
         }
-        match sync_folder(rt, parent(self.path)) {
-            Ok(()) => Ok(()),
-            Err(error) => Err(write_fault(rt.alloc(), self.path, error)),
+        if let Err(error) = sync_folder(rt, parent(self.path)) {
+            tell(rt, self.path, MAY_BE_LOST, &error);
         }
+        Ok(())
     }
 }
 

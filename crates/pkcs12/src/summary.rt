@@ -13,6 +13,9 @@ const COUNTED: [OtherBag; 5] = [
     OtherBag::SdsiCertificate,
 ];
 
+/// What is said of a bag that `export` does not write.
+const NOT_EXPORTED: &str = "not exported";
+
 /// Adds a line for each certificate that has a name or a key id.
 fn add_certificates(text: &mut String, certificates: &[Label]) -> Result<(), AllocError> {
     for (place, label) in certificates.iter().enumerate() {
@@ -60,17 +63,21 @@ fn add_no_certificates(text: &mut String, certificates: &[Label]) -> Result<(), 
     Ok(())
 }
 
-/// Adds a line for each kind of bag that is not exported, with the number of these.
-fn add_others(text: &mut String, others: &[OtherBag]) -> Result<(), AllocError> {
+/// Adds a line for each kind of these bags, with the number of these after what is not done with them.
+pub fn add_others(
+    text: &mut String,
+    not_done: &str,
+    others: &[OtherBag],
+) -> Result<(), AllocError> {
     for kind in COUNTED {
         let count = others.iter().filter(|each| **each == kind).count();
         if count > 0 {
-            writeln!(text, "not exported: {count}, {kind}")?;
+            writeln!(text, "{not_done}: {count}, {kind}")?;
         }
     }
     for kind in others {
         if let OtherBag::Unnamed(_) = kind {
-            writeln!(text, "not exported: 1, {kind}")?;
+            writeln!(text, "{not_done}: 1, {kind}")?;
         }
     }
     Ok(())
@@ -90,7 +97,7 @@ pub fn summary(alloc: Global, found: &Listing) -> Result<String, AllocError> {
     add_certificates(&mut text, found.certificates.as_slice())?;
     add_keys(alloc, &mut text, found)?;
     add_no_certificates(&mut text, found.certificates.as_slice())?;
-    add_others(&mut text, found.others.as_slice())?;
+    add_others(&mut text, NOT_EXPORTED, found.others.as_slice())?;
     Ok(text)
 }
 
@@ -104,6 +111,6 @@ pub fn warnings(alloc: Global, found: &Listing) -> Result<String, AllocError> {
 /// Why a store with these bags is not exported.
 pub fn others(alloc: Global, others: &[OtherBag]) -> Result<String, AllocError> {
     let mut text = String::from_str(alloc, "nothing was written, since the store has more:\n")?;
-    add_others(&mut text, others)?;
+    add_others(&mut text, NOT_EXPORTED, others)?;
     String::from_str(alloc, text.as_str().trim_end())
 }
