@@ -19,6 +19,8 @@ use Rattle.std.proofs.lemmas.List.Elements.{All-head, All-tail}
 use Rattle.transfer.specs.Sealing.{AreDrawn, AreOf16, IsDrawn, SealsAll, document_keys, octets_of}
 use Rattle.transfer.specs.InPlace.{texts_of}
 use Rattle.transfer.proofs.Faults.{take_one}
+use Rattle.octet_core.specs.Draw.{Lacks}
+use Rattle.octet_core.specs.Faults.{Rose}
 use Rattle.transfer.proofs.Overwriting.{map_more}
 
 pub consumes_more : (a b c : Option (List ℕ)) (xs ys : List ℕ) → Consumes a b xs → Consumes b c ys → Consumes a c (xs ++ ys)
@@ -35,14 +37,41 @@ pub sealed_as : (par pas : Parameters) (q m n b c : List ℕ) → par ≡ pas �
 sealed_as par pas q m n b c same text is s =
     subst (λ x. IsSealed pas q n x) (sym is) (subst (λ x. IsSealed pas q x b) text (subst (λ x. IsSealed x q m b) same s))
 
+-- Further keys after those that are sealed.
+drawn_both : (rounds : ℕ) (q : List ℕ) (ks bs : List (List ℕ)) (d : List ℕ) (js cs : List (List ℕ)) (e : List ℕ)
+    → AreDrawn rounds q ks bs d → AreDrawn rounds q js cs e → AreDrawn rounds q (ks ++ js) (bs ++ cs) (d ++ e)
+drawn_both rounds q [] [] d js cs e a f = subst (λ t. AreDrawn rounds q js cs (t ++ e)) (sym a) f
+drawn_both rounds q [] (c ∷ bs) d js cs e a f = absurd a
+drawn_both rounds q (j ∷ ks) [] d js cs e a f = absurd a
+drawn_both rounds q (j ∷ ks) (c ∷ bs) d js cs e a f =
+    (a.0, a.1 ++ e, ap (λ t. t ++ e) a.2 ∙ append_assoc a.0 a.1 e, a.3, drawn_both rounds q ks bs a.1 js cs e a.4 f)
+
 -- One more key after those that are sealed.
 pub sealed_append : (rounds : ℕ) (q : List ℕ) (ks : List (List ℕ)) (bs : List (List ℕ)) (k : List ℕ) (b d drawn : List ℕ)
     → AreDrawn rounds q ks bs d → IsDrawn rounds q drawn k b → AreDrawn rounds q (ks ++ k ∷ []) (bs ++ b ∷ []) (d ++ drawn)
-sealed_append rounds q [] [] k b d drawn a s = (drawn, [], ap (λ t. t ++ drawn) a ∙ sym (append-nil drawn), s, refl)
-sealed_append rounds q [] (c ∷ bs) k b d drawn a s = absurd a
-sealed_append rounds q (j ∷ ks) [] k b d drawn a s = absurd a
-sealed_append rounds q (j ∷ ks) (c ∷ bs) k b d drawn a s =
-    (a.0, a.1 ++ drawn, ap (λ t. t ++ drawn) a.2 ∙ append_assoc a.0 a.1 drawn, a.3, sealed_append rounds q ks bs k b a.1 drawn a.4 s)
+sealed_append rounds q ks bs k b d drawn a s = drawn_both rounds q ks bs d (k ∷ []) (b ∷ []) drawn a (drawn, [], sym (append-nil drawn), s, refl)
+
+-- A group of keys after those that are sealed.
+pub seals_both : (rounds : ℕ) (q : List ℕ) (old mid new : Option (List ℕ)) (keys group more : List OpenedKey) (bs cs ds : List (List ℕ))
+    → SealsAll rounds q old mid (texts_of keys) bs → SealsAll rounds q mid new (texts_of group) cs → more ≡ keys ++ group → ds ≡ bs ++ cs
+    → SealsAll rounds q old new (texts_of more) ds
+seals_both rounds q old mid new keys group more bs cs ds a b is are =
+    let texts : texts_of more ≡ texts_of keys ++ texts_of group = ap texts_of is ∙ map-append (λ (k : OpenedKey). k.text.now) keys group in
+    record {
+      drawn = a.drawn ++ b.drawn;
+      by = rw (texts, are) (drawn_both rounds q (texts_of keys) bs a.drawn (texts_of group) cs b.drawn a.by b.by);
+      took = consumes_more old mid new a.drawn b.drawn a.took b.took;
+      each_one = omega (arith, ap length texts, ap length are, length-append (texts_of keys) (texts_of group), length-append bs cs, a.each_one, b.each_one);
+      each_32 = omega (arith, ap length texts, length-append (texts_of keys) (texts_of group), length-append a.drawn b.drawn, a.each_32, b.each_32);
+    }
+
+-- What a draw lacks for a group it lacks for all keys.
+pub lacks_all : (before mid now : ℕ) (old left : Option (List ℕ)) (drawn : List ℕ) (n all : ℕ) → mid ≡ before → Consumes old left drawn
+    → length drawn + n ≤ all → Lacks mid now left n → Lacks before now old all
+lacks_all before mid now None left drawn n all same took most h = (subst (λ m. Rose m now) same h.0, tt)
+lacks_all before mid now (Some o) None drawn n all same took most h = absurd took
+lacks_all before mid now (Some o) (Some l) drawn n all same took most h =
+    (subst (λ m. Rose m now) same h.0, omega (arith, ap length took, length-append drawn l, most, h.1))
 
 -- The octets of one more IV and salt come after the others.
 octets_more : (ds : List IvAndSalt) (d : IvAndSalt) → octets_of (ds ++ d ∷ []) ≡ octets_of ds ++ (d.iv ++ d.salt)

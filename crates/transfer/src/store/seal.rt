@@ -182,9 +182,8 @@ fn seal_each(
     Ok(documents)
 }
 
-/// Seals the keys, in order, under the octets of a draw, 32 for each. All of these are drawn first, so that the keys of
-/// the documents are derived several at once.
-pub(crate) fn seal_all<D: Draw>(
+/// Seals these keys, in order, under the octets of a draw, 32 for each. All of these are drawn before a key is sealed.
+fn seal_group<D: Draw>(
     alloc: Global,
     keys: &[OpenedKey<'_>],
     new_password: &[u8],
@@ -205,4 +204,46 @@ pub(crate) fn seal_all<D: Draw>(
     let drawn = draw_all(alloc, keys.len(), draw)?;
     let derived = derive_keys(alloc, new_password, rounds, drawn.as_slice())?;
     seal_each(alloc, keys, rounds, drawn.as_slice(), derived.as_slice())
+}
+
+/// Adds documents after others. The only refusal is `Memory`.
+fn add_documents(documents: &mut Items<Octets>, more: Items<Octets>) -> Result<(), TransferError>
+    ensures ok { OnOk result (documents.new ≡ documents.old ++ more) }
+    ensures err { IfErr result (λ e. e ≡ TransferError.Memory) }
+{
+    for document in more.into_vec() {
+        documents.push(document)?;
+    }
+    Ok(())
+}
+
+/// How many keys are sealed at once: as many as are derived at once.
+const GROUP: usize = 4;
+
+/// Seals the keys, in order, under the octets of a draw, 32 for each. The octets of each group of keys are drawn just before it is
+/// sealed, so a draw can tell how far the work is.
+pub(crate) fn seal_all<D: Draw>(
+    alloc: Global,
+    keys: &[OpenedKey<'_>],
+    new_password: &[u8],
+    rounds: u32,
+    draw: &mut D,
+) -> Result<Items<Octets>, TransferError>
+    requires keys { All IsOpenedKey keys.now }
+    requires rounds { (1 ≤ rounds) × (rounds ≤ rounds_limit) }
+    ensures count { D.faults draw.old ≤ D.faults draw.new }
+    ensures no_fault { OnOk result (D.faults draw.new ≡ D.faults draw.old) }
+    ensures last { D.faults draw.old < D.faults draw.new → IsErrOf result TransferError.Rng }
+    ensures sealed { IfOk result (λ documents. SealsAll rounds new_password.now (D.left draw.old)
+        (D.left draw.new) (texts_of keys.now) documents) }
+    ensures cause { IfErr result
+        (RefusedBy (λ e. ⊥) (Lacks (D.faults draw.old) (D.faults draw.new) (D.left draw.old)
+        (32 * length keys.now))) }
+{
+    let mut documents = Items::new(alloc);
+    for group in keys.chunks(GROUP) {
+        let sealed = seal_group(alloc, group, new_password, rounds, draw)?;
+        add_documents(&mut documents, sealed)?;
+    }
+    Ok(documents)
 }

@@ -3,7 +3,7 @@ use Rattle.std.specs.Io.KnownBytes.{Consumes}
 use Rattle.std.specs.Prelude.{All}
 use Rattle.transfer.proofs.Drawn.{sealed_if}
 use Rattle.transfer.specs.Sealing.{AreOf16, document_keys, octets_of}
-use Rattle.transfer.proofs.store.seal.seal_all.Goals as goal
+use Rattle.transfer.proofs.store.seal.seal_group.Goals as goal
 
 pub returns-clause-sealed : goal.returns-clause-sealed
 returns-clause-sealed g c =
