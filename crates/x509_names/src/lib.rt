@@ -16,4 +16,4 @@ mod value;
 pub use name::name_text;
 pub use parts::Parts;
 pub use printed::hex_text;
-pub use time::time_text;
+pub use time::{is_time, time_text};

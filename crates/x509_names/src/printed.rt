@@ -1,7 +1,8 @@
 //! Printable text.
-ghost use Rattle.std.specs.Prelude.{◌≡◌, ◌≤◌, ◌<◌, All, IfOk};
+ghost use Rattle.std.specs.Prelude.{◌≡◌, ◌≤◌, ◌<◌, ◌++◌, ◌∷◌, [], All, IfOk, OnOk};
 ghost use Rattle.std.specs.String.{string_bytes};
-ghost use Rattle.x509_names.specs.Printable.{ArePrintable, IsPrintable};
+ghost use Rattle.x509_names.specs.HexText.{hex_digit, hex_text, two_digits};
+ghost use Rattle.x509_names.specs.Printable.{ArePrintable, IsPrintable, shown};
 
 use octet_core::Text;
 use std::alloc::{AllocError, Global};
@@ -28,7 +29,8 @@ impl Model for Printed {
 /// The upper-case hexadecimal digit of a number.
 fn digit_of(number: u8) -> u8
     requires { number < 16 }
-    ensures { IsPrintable result }
+    ensures digit { result ≡ hex_digit number }
+    ensures printable { IsPrintable result }
 {
     if number < 10 {
         b'0' + number
@@ -39,27 +41,47 @@ fn digit_of(number: u8) -> u8
 
 impl Printed {
     /// No text yet.
-    pub(crate) fn new(alloc: Global) -> Printed {
+    pub(crate) fn new(alloc: Global) -> Printed
+        ensures { result ≡ [] }
+    {
         Printed {
             text: String::new(alloc),
         }
     }
 
     /// Adds a printable character.
-    fn push(&mut self, octet: u8) -> Result<(), AllocError>
+    pub(crate) fn push(&mut self, octet: u8) -> Result<(), AllocError>
         requires { IsPrintable octet }
+        ensures { OnOk result (self.new ≡ self.old ++ octet ∷ []) }
     {
         self.text.push(char::from(octet))
     }
 
+    /// Adds printable characters.
+    pub(crate) fn push_printable(&mut self, octets: &[u8]) -> Result<(), AllocError>
+        requires { ArePrintable octets.now }
+        ensures { OnOk result (self.new ≡ self.old ++ octets.now) }
+    {
+        for octet in octets {
+            self.push(*octet)?;
+        }
+        Ok(())
+    }
+
     /// Adds the two hexadecimal digits of an octet.
-    pub(crate) fn push_digits(&mut self, octet: u8) -> Result<(), AllocError> {
+    #[tactic(auto, unfolding(crate::specs::HexText::two_digits))]
+    fn push_digits(&mut self, octet: u8) -> Result<(), AllocError>
+        ensures { OnOk result (self.new ≡ self.old ++ two_digits octet) }
+    {
         self.push(digit_of(octet / 16))?;
         self.push(digit_of(octet % 16))
     }
 
     /// Adds an octet: as it is where it is printable, else as a backslash and its digits.
-    pub(crate) fn push_octet(&mut self, octet: u8) -> Result<(), AllocError> {
+    #[tactic(auto, unfolding(crate::specs::Printable::shown))]
+    pub(crate) fn push_octet(&mut self, octet: u8) -> Result<(), AllocError>
+        ensures { OnOk result (self.new ≡ self.old ++ shown octet) }
+    {
         if octet >= 32 && octet <= 126 {
             return self.push(octet);
         }
@@ -67,22 +89,10 @@ impl Printed {
         self.push_digits(octet)
     }
 
-    /// Adds octets, each as `push_octet` does.
-    pub(crate) fn push_octets(&mut self, octets: &[u8]) -> Result<(), AllocError> {
-        for octet in octets {
-            self.push_octet(*octet)?;
-        }
-        Ok(())
-    }
-
-    /// Adds a backslash and a character.
-    pub(crate) fn push_escaped(&mut self, octet: u8) -> Result<(), AllocError> {
-        self.push(b'\\')?;
-        self.push_octet(octet)
-    }
-
     /// Adds `#` and the digits of the octets.
-    pub(crate) fn push_hex(&mut self, octets: &[u8]) -> Result<(), AllocError> {
+    pub(crate) fn push_hex(&mut self, octets: &[u8]) -> Result<(), AllocError>
+        ensures { OnOk result (self.new ≡ self.old ++ hex_text octets.now) }
+    {
         self.push(b'#')?;
         for octet in octets {
             self.push_digits(*octet)?;
@@ -92,7 +102,8 @@ impl Printed {
 
     /// The text.
     pub(crate) fn into_text(self) -> Text
-        ensures { ArePrintable result }
+        ensures text { result ≡ self }
+        ensures printable { ArePrintable result }
     {
         Text::from_string(self.text)
     }
@@ -100,7 +111,8 @@ impl Printed {
 
 /// Octets as upper-case hexadecimal digits after a `#`. The only error is out of memory.
 pub fn hex_text(alloc: Global, octets: &[u8]) -> Result<Text, AllocError>
-    ensures { IfOk result ArePrintable }
+    ensures text { IfOk result (λ t. t ≡ hex_text octets.now) }
+    ensures printable { IfOk result ArePrintable }
 {
     let mut printed = Printed::new(alloc);
     printed.push_hex(octets)?;

@@ -1,0 +1,5 @@
+pub mod CertificateFronts
+pub mod Times
+pub mod Strings
+pub mod NameTexts
+pub mod Numbers
