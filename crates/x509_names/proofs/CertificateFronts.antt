@@ -51,7 +51,8 @@ or_none-exact R p exact = record {
   again = λ b v holds short. none_again R p exact b v (p b) refl holds short;
 }
 
-two_read : ExactAll TwoElements two_elements
+-- two elements are read exactly
+pub two_read : ExactAll TwoElements two_elements
 unfolding two_elements
 two_read = on-exact Raw _ raw_at _ raw-exact (λ f. on-exact Raw _ raw_at _ raw-exact (λ s. ended-exact (f, s)))
 

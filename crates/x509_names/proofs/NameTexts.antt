@@ -1,7 +1,6 @@
 -- Names are read exactly, and written from their last part to the first.
-use Rattle.std.proofs.Common.{◌≡◌, ◌≢◌, ℕ, zero, suc, ◌<◌, true, false, List, [], ◌∷◌, ◌++◌, Some, None, ◌≤◌, Ok, Err, Result, add-one, drop, subst, get_or, length, map, reverse, take, ◌+◌, refl, sym, ap, ◌∙◌, arith, inl, inr, append_assoc, append-nil}
-use Rattle.std.proofs.lemmas.List.{map-append, length-reverse, length-take, reverse-append, take_more}
-use Rattle.std.specs.List.{join_with_byte}
+use Rattle.std.proofs.Common.{◌≡◌, ◌≢◌, ℕ, zero, suc, ◌<◌, true, false, List, [], ◌∷◌, ◌++◌, Some, None, ◌≤◌, Ok, Err, Result, add-one, drop, get_or, length, map, ◌+◌, refl, sym, ap, ◌∙◌, arith, inl, inr}
+use Rattle.std.proofs.lemmas.List.{map-append}
 use Rattle.std.specs.Str.{bytes_eq}
 use Rattle.asn1_core.specs.Reading.{Bad, Fault, Front, UnknownOid, ◌>>=◌, inside_at, many, many_in, raw_at, whole}
 use Rattle.asn1_core.specs.Gives.{GivesIn, ParsesIn}
@@ -15,7 +14,7 @@ use Rattle.asn1_core.specs.ExactLaws.{ended-exact, many-exact, on-exact}
 use Rattle.asn1_core.specs.ElementLaws.{inside-exact, raw-exact, within-exact}
 use Rattle.asn1_core.specs.FaultLaws.{OnlyBad, ended_bad, on_bad, where_bad, whole_bad, within_bad}
 use Rattle.asn1_core.specs.StandLaws.{whole_found, whole_none}
-use Rattle.x509_names.specs.Names.{AttributeText, IsName, NameAttribute, RelativeText, has_some, last_first, name_attribute, name_in}
+use Rattle.x509_names.specs.Names.{AttributeText, IsName, NameAttribute, RelativeText, has_some, name_attribute, name_in}
 use Rattle.x509_names.specs.NamesReading.{attribute_all, attribute_at, name_at, relative_at}
 use Rattle.x509_names.proofs.CertificateFronts.{inside_bad, raw_bad}
 
@@ -95,40 +94,6 @@ nothing_left g (x ∷ xs) (suc i) h = nothing_left g xs i (omega arith)
 
 pub map_more : {A B : Type 0} (f : A → B) (xs : List A) (x : A) → map f (xs ++ x ∷ []) ≡ map f xs ++ f x ∷ []
 map_more f xs x = map-append f xs (x ∷ [])
-
-join_more : (c : ℕ) (x : List ℕ) (ys : List (List ℕ)) → 0 < length ys → join_with_byte c (x ∷ ys) ≡ x ++ (c ∷ join_with_byte c ys)
-join_more c x [] h = absurd (omega arith)
-join_more c x (y ∷ ys) h = refl
-
-some_mapped : {A B : Type 0} (f : A → B) (xs : List A) → 0 < length xs → 0 < length (map f xs)
-some_mapped f [] h = absurd (omega arith)
-some_mapped f (x ∷ xs) h = omega arith
-
-last_more : {A : Type 0} (c : ℕ) (f : A → List ℕ) (before : List A) (last : A) → 0 < length before → last_first c f (before ++ last ∷ []) ≡ f last ++ (c ∷ last_first c f before)
-last_more c f before last h =
-    ap (λ xs. join_with_byte c (map f xs)) (reverse-append before (last ∷ []))
-    ∙ join_more c (f last) (map f (reverse before)) (some_mapped f (reverse before) (omega (arith, length-reverse before)))
-
--- the last of what is left is written, and an octet after it where more is left
-pub writes_last : {A B : Type 0} (c : ℕ) (f : B → List ℕ) (g : A → B) (xs : List A) (x : A) (n : ℕ) (out mid whole : List ℕ) → n < length xs → x ≡ get_or xs n x
-    → out ++ last_first c f (map g (take (n + 1) xs)) ≡ whole → mid ≡ out ++ f (g x)
-    → ((n ≡ 0) → mid ++ last_first c f (map g (take n xs)) ≡ whole) × (0 < n → (mid ++ c ∷ []) ++ last_first c f (map g (take n xs)) ≡ whole)
-writes_last c f g xs x n out mid whole h is so_far wrote =
-    let before = map g (take n xs) in
-    let cut : map g (take (n + 1) xs) ≡ before ++ g x ∷ [] =
-    ap (map g) (take_more xs n x h ∙ ap (λ y. take n xs ++ y ∷ []) (sym is)) ∙ map_more g (take n xs) x in
-    let now : out ++ last_first c f (before ++ g x ∷ []) ≡ whole = ap (λ ys. out ++ last_first c f ys) (sym cut) ∙ so_far in (
-      λ none.
-          let nothing : before ≡ [] = ap (λ k. map g (take k xs)) none in
-          ap (λ ys. mid ++ last_first c f ys) nothing ∙ append-nil mid ∙ wrote ∙ subst (λ ys. out ++ last_first c f (ys ++ g x ∷ []) ≡ whole) nothing now,
-      λ some.
-          let many : 0 < length before = some_mapped g (take n xs) (omega (arith, length-take n xs)) in
-          append_assoc mid (c ∷ []) (last_first c f before)
-          ∙ ap (λ y. y ++ (c ∷ last_first c f before)) wrote
-          ∙ append_assoc out (f (g x)) (c ∷ last_first c f before)
-          ∙ ap (λ y. out ++ y) (sym (last_more c f before (g x) many))
-          ∙ now,
-    )
 
 -- ---- The table of names
 

@@ -18,6 +18,7 @@ pub record NameAttribute : Type 0 where
   pub kind : List ℕ
   pub value : List ℕ
 
+-- an attribute of this type and value
 abbrev pub name_attribute : List ℕ → List ℕ → NameAttribute
 name_attribute kind value = record { kind = kind; value = value }
 
@@ -25,6 +26,7 @@ name_attribute kind value = record { kind = kind; value = value }
 abbrev pub AttributeText : List ℕ → NameAttribute → Type 0
 AttributeText = Sequence (On (Inside 0x06) (λ kind. On Raw (λ value. Ended (name_attribute kind value))))
 
+-- there is an attribute
 abbrev pub has_some : List NameAttribute → Bool
 has_some attributes = nat_lt 0 (length attributes)
 
@@ -50,6 +52,7 @@ type_names =
     ∷ (0x09 ∷ 0x92 ∷ 0x26 ∷ 0x89 ∷ 0x93 ∷ 0xf2 ∷ 0x2c ∷ 0x64 ∷ 1 ∷ 25 ∷ [], codes "DC")
     ∷ (0x2a ∷ 0x86 ∷ 0x48 ∷ 0x86 ∷ 0xf7 ∷ 0x0d ∷ 1 ∷ 9 ∷ 1 ∷ [], codes "emailAddress") ∷ []
 
+-- the name that the first row with this kind has
 abbrev pub name_in : List (List ℕ × List ℕ) → List ℕ → Option (List ℕ)
 name_in [] kind = None
 name_in (row ∷ rows) kind = cond (bytes_eq kind row.0) (Some row.1) (name_in rows kind)
@@ -58,6 +61,7 @@ name_in (row ∷ rows) kind = cond (bytes_eq kind row.0) (Some row.1) (name_in r
 unfoldable pub type_name : List ℕ → Option (List ℕ)
 type_name kind = name_in type_names kind
 
+-- the text of a kind, and the identifier that it is
 abbrev pub numbers_of : List ℕ → Option ObjectIdentifier → List ℕ
 numbers_of kind (Some o) = arcs_text (arcs kind)
 numbers_of kind None = hex_text kind
@@ -66,6 +70,7 @@ numbers_of kind None = hex_text kind
 unfoldable pub numbers_text : List ℕ → List ℕ
 numbers_text kind = numbers_of kind (as_oid kind)
 
+-- the text of an attribute, by the name of its type
 abbrev pub attribute_as : NameAttribute → Option (List ℕ) → List ℕ
 attribute_as a (Some name) = name ++ 61 ∷ value_text a.value
 attribute_as a None = numbers_text a.kind ++ 61 ∷ hex_text a.value
@@ -98,5 +103,6 @@ IsNameText b t = ((names : List (List NameAttribute)) × IsName b names × (t �
 abbrev pub seen_attribute : Attribute → NameAttribute
 seen_attribute a = name_attribute a.kind.now a.value.now
 
+-- what is seen of a row of the table
 abbrev pub seen_row : TypeName → List ℕ × List ℕ
 seen_row row = (row.octets.now, row.name.now)

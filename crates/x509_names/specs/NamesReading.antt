@@ -1,4 +1,4 @@
--- Reading names from left to right. Nothing to believe here: it is proved to read exactly the relation.
+-- Reading names from left to right. Nothing to believe here: it reads exactly the relation.
 use Rattle.std.specs.Prelude.{List}
 use Rattle.asn1_core.specs.Reading.{All, Front, ended, inside_at, many, on, raw_at, within}
 use Rattle.asn1_core.specs.Fields.{checked}

@@ -12,6 +12,7 @@ pub record CertificateParts : Type 0 where
   pub validity : Option (List ℕ × List ℕ)
   pub subject : List ℕ
 
+-- these parts
 abbrev pub certificate_parts : List ℕ → List ℕ → Option (List ℕ × List ℕ) → List ℕ → CertificateParts
 certificate_parts serial issuer validity subject = record { serial_number = serial; issuer = issuer; validity = validity; subject = subject }
 

@@ -1,4 +1,4 @@
--- Reading the parts of a certificate from left to right. Nothing to believe here: it is proved to read exactly the relation.
+-- Reading the parts of a certificate from left to right. Nothing to believe here: it reads exactly the relation.
 use Rattle.std.specs.Prelude.{ℕ, ◌==◌, List, Option, Some, None, Result, Ok, Err}
 use Rattle.asn1_core.specs.Reading.{All, Fault, Front, ended, inside_at, on, option_at, raw_at, within}
 use Rattle.x509_names.specs.Parts.{CertificateParts, certificate_parts}

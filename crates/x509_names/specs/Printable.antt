@@ -7,9 +7,11 @@ use Rattle.x509_names.specs.HexText.{two_digits}
 abbrev pub IsPrintable : ℕ → Type 0
 IsPrintable b = IsInRange 32 126 b
 
+-- each octet of a text is
 abbrev pub ArePrintable : List ℕ → Type 0
 ArePrintable t = All IsPrintable t
 
+-- the same as a test
 abbrev pub is_printable : ℕ → Bool
 is_printable b = nat_lt 31 b && nat_lt b 127
 

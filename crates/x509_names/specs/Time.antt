@@ -46,6 +46,7 @@ IsTimeText e t = ((d : List ℕ) × HasTime e d × (t ≡ written d)) ⊎ (NoTim
 
 -- ---- times that exist
 
+-- a year with a 29th of February
 abbrev pub is_leap : ℕ → Bool
 is_leap year = year % 4 == 0 && (not (year % 100 == 0) || year % 400 == 0)
 

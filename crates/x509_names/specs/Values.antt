@@ -18,6 +18,7 @@ has_backslash first last b = is_special b || (first && (b == 35 || b == 32)) || 
 unfoldable pub escaped_octet : Bool → Bool → ℕ → List ℕ
 escaped_octet first last b = cond (has_backslash first last b) (92 ∷ shown b) (shown b)
 
+-- the rest of a text, by whether it is all of it
 abbrev pub escaped_from : Bool → List ℕ → List ℕ
 escaped_from first [] = []
 escaped_from first (b ∷ t) = escaped_octet first (length t == 0) b ++ escaped_from false t
@@ -28,9 +29,11 @@ escaped t = escaped_from true t
 
 -- ---- strings
 
+-- octets that are UTF-8
 abbrev pub utf8_of : All (List ℕ)
 utf8_of b = where_ok (is_utf8 b) b
 
+-- UTF8String
 abbrev pub utf8_at : Front (List ℕ)
 utf8_at = within 0x0c utf8_of
 
@@ -38,6 +41,7 @@ utf8_at = within 0x0c utf8_of
 abbrev pub latin_of : All (List ℕ)
 latin_of b = Ok (encode_utf8_all b)
 
+-- an element of this tag, of such octets
 abbrev pub latin_at : ℕ → Front (List ℕ)
 latin_at tag = within tag latin_of
 
@@ -50,9 +54,11 @@ abbrev pub string_of : ℕ → All (List ℕ)
 string_of tag b =
     cond (tag == 0x0c) (whole utf8_at b) (cond (tag == 0x1e) (whole bmp_at b) (cond (is_latin tag) (whole (latin_at tag) b) (Err Bad)))
 
+-- the same of an element of any tag
 unfoldable pub characters : All (List ℕ)
 characters b = string_of (slice_index b 0) b
 
+-- the characters, or the octets b where there are none
 abbrev pub or_hex : List ℕ → Result (List ℕ) Fault → List ℕ
 or_hex b (Ok t) = escaped t
 or_hex b (Err f) = hex_text b

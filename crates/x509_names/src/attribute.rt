@@ -124,7 +124,8 @@ fn name_of(kind: &[u8]) -> Option<&'static str>
     name_among(&NAMES, kind)
 }
 
-/// Adds the numbers of an identifier, with points between them; where the octets are no identifier, `#` and their digits.
+/// Adds the numbers of an identifier, with points between them. Where the octets are no identifier, `#` and their
+/// digits.
 #[tactic(auto, using(crate::proofs::Numbers::arcs_printable), unfolding(crate::specs::Names::numbers_text))]
 fn push_numbers(alloc: Global, printed: &mut Printed, kind: &[u8]) -> Result<(), AllocError>
     ensures { OnOk result (printed.new ≡ printed.old ++ numbers_text kind.now) }

@@ -1,7 +1,8 @@
 //! Text of what certificates hold (RFC 5280): names (RFC 4514), times and serial numbers, for people to read.
 //!
-//! Every call takes any octets, and fails only where out of memory. What cannot be read is written as `#` and its octets in
-//! hexadecimal digits. Every character that is written is printable, from the space to the tilde, whatever the octets are.
+//! `name_text`, `time_text` and `hex_text` take any octets, and fail only where out of memory. What cannot be read is
+//! written as `#` and its octets in hexadecimal digits. Every character that is written is printable, from the space to
+//! the tilde, whatever the octets are.
 #![tactic(auto)]
 
 mod attribute;

@@ -56,6 +56,7 @@ fn relative_names<'a>(
     Ok(items)
 }
 
+/// The relative names of a name, to the end of the octets.
 #[tactic(auto, using(crate::proofs::Strings::ended_fails_in), unfolding(crate::specs::NamesReading::name_at))]
 fn read_whole<'a>(alloc: Global, name: &'a [u8]) -> Result<Items<Items<Attribute<'a>>>, Error>
     ensures { GivesIn (map (map seen_attribute)) result (whole name_at name.now) }
@@ -117,10 +118,10 @@ fn push_name(
     Ok(())
 }
 
-/// The text of a name (RFC 4514), its last relative name first, as `openssl x509 -nameopt RFC2253` prints it: common types
-/// by their names, others by the numbers of their identifiers with `#` and the digits of the value, and every character
-/// that is not printable as a backslash and its digits. `name` is a whole DER element; where it is not a name, `#` and its
-/// digits are returned. The only error is out of memory.
+/// The text of a name (RFC 4514), its last relative name first, in the form of `openssl x509 -nameopt RFC2253`: common
+/// types by their names, others by the numbers of their identifiers with `#` and the digits of the value, and every octet
+/// that is not printable as a backslash and its digits. `name` is a whole DER element; where it is not a name, `#` and
+/// its digits are returned. The only error is out of memory.
 pub fn name_text(alloc: Global, name: &[u8]) -> Result<Text, AllocError>
     ensures text { IfOk result (λ t. IsNameText name.now t) }
     ensures printable { IfOk result ArePrintable }

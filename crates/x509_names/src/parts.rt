@@ -8,8 +8,8 @@ ghost use Rattle.x509_names.specs.PartsReading.{certificate_at, signed_all, sign
 
 use asn1_core::{Error, Reader, SliceReader, Tag, read_inner, read_raw};
 
-/// The parts of a certificate (RFC 5280 section 4.1) that people ask for. Each is a whole DER element of its octets, but
-/// `serial_number`, the value of the INTEGER.
+/// The parts of a certificate (RFC 5280 section 4.1) that people ask for. Each is a whole DER element of its octets,
+/// but `serial_number`, the value of the INTEGER.
 #[derive(Clone, Copy, Drop)]
 pub struct Parts<'a> {
     pub serial_number: &'a [u8],

@@ -1,5 +1,5 @@
 //! Names as `openssl x509 -nameopt RFC2253` of OpenSSL 3.0.19 prints them, and what is no name.
-use crate::{Parts, hex_text, name_text, time_text};
+use crate::{Parts, hex_text, is_time, name_text, time_text};
 use std::alloc::Global;
 
 /// Names in hexadecimal digits, and their texts.
@@ -70,6 +70,19 @@ static TIMES: [(&[u8], &str); 6] = [
     ),
 ];
 
+/// Times, and whether they exist: as GNU `date` has it for those in the form of DER, and the last one is not.
+static EXISTING: [(&[u8], bool); 9] = [
+    (b"\x17\x0d000229235959Z", true),
+    (b"\x17\x0d500229000000Z", false),
+    (b"\x17\x0d260631000000Z", false),
+    (b"\x17\x0d260630240000Z", false),
+    (b"\x17\x0d260630006000Z", false),
+    (b"\x17\x0d260001000000Z", false),
+    (b"\x18\x0f21000229000000Z", false),
+    (b"\x18\x0f24000229000000Z", true),
+    (b"\x17\x0b2606300000Z", false),
+];
+
 /// Whether the name of these digits has this text.
 fn is_named(alloc: Global, digits: &str, text: &str) -> bool {
     let Ok(name) = hex::decode(alloc, digits) else {
@@ -93,6 +106,13 @@ fn times_are_written_with_their_century(rt: HostRuntime) {
     for (time, text) in &TIMES {
         let found = time_text(rt.alloc(), time).expect(&rt, "a text");
         assert!(rt; found.as_str() == *text, "{text}");
+    }
+}
+
+#[test]
+fn times_that_exist_are_told(rt: HostRuntime) {
+    for (time, exists) in &EXISTING {
+        assert!(rt; is_time(time) == *exists);
     }
 }
 

@@ -11,6 +11,7 @@ const UTC_TIME: u8 = 0x17;
 
 const GENERALIZED_TIME: u8 = 0x18;
 
+/// Whether each octet is one of the digits `0` to `9`.
 fn are_digits(octets: &[u8]) -> bool
     ensures { IsTrue result ↔ All IsDigit octets.now }
 {
@@ -111,8 +112,8 @@ fn push_time(printed: &mut Printed, digits: &[u8]) -> Result<(), AllocError>
     printed.push_printable(b" UTC")
 }
 
-/// The text `YYYY-MM-DD HH:MM:SS UTC` of a time (RFC 5280 section 4.1.2.5), a whole DER element: of a UTCTime of 13 octets
-/// or a GeneralizedTime of 15, digits and a `Z` after them. Where it is no such time, `#` and its digits. Whether there is
+/// The text `YYYY-MM-DD HH:MM:SS UTC` of a time (RFC 5280 section 4.1.2.5), a whole DER element: a UTCTime of 13 octets or
+/// a GeneralizedTime of 15, digits and a `Z` after them. Where it is no such time, `#` and its digits. Whether there is
 /// such a day is not tested: `is_time` tells. The only error is out of memory.
 pub fn time_text(alloc: Global, time: &[u8]) -> Result<Text, AllocError>
     ensures text { IfOk result (λ t. IsTimeText time.now t) }
@@ -126,6 +127,7 @@ pub fn time_text(alloc: Global, time: &[u8]) -> Result<Text, AllocError>
     Ok(printed.into_text())
 }
 
+/// Whether the year has a 29th of February.
 fn is_leap(year: u32) -> bool
     ensures { result ≡ is_leap year }
 {
@@ -144,6 +146,7 @@ fn days_in(year: u32, month: u32) -> u32
     }
 }
 
+/// Whether the day of `YYYYMMDDHHMMSS` is one of the calendar.
 fn is_date(digits: &[u8]) -> bool
     requires digits { All IsDigit digits.now }
     requires all { length digits.now ≡ 14 }
@@ -155,6 +158,7 @@ fn is_date(digits: &[u8]) -> bool
     month >= 1 && month <= 12 && day >= 1 && day <= days_in(year, month)
 }
 
+/// Whether the hour, minute and second of `YYYYMMDDHHMMSS` are ones of a day.
 fn is_clock(digits: &[u8]) -> bool
     requires digits { All IsDigit digits.now }
     requires all { length digits.now ≡ 14 }
@@ -163,9 +167,9 @@ fn is_clock(digits: &[u8]) -> bool
     number_at(digits, 8) < 24 && number_at(digits, 10) < 60 && number_at(digits, 12) < 60
 }
 
-/// Whether this whole DER element is a time that exists: a UTCTime of 13 octets or a GeneralizedTime of 15, digits and a
-/// `Z` after them, whose month is 1 to 12, whose day is one of that month, and whose hour is below 24, minute and second
-/// below 60. `time_text` writes such a time as `YYYY-MM-DD HH:MM:SS UTC`.
+/// Whether this whole DER element is a time that exists: a UTCTime of 13 octets or a GeneralizedTime of 15, digits and
+/// a `Z` after them, whose month is 1 to 12, whose day is one of that month in the Gregorian calendar, and whose hour is
+/// below 24, minute and second below 60. `time_text` writes such a time as `YYYY-MM-DD HH:MM:SS UTC`.
 pub fn is_time(time: &[u8]) -> bool
     ensures { IsTrue result ↔ IsTime time.now }
 {

@@ -20,7 +20,7 @@ fn is_special(octet: u8) -> bool
     matches!(octet, b',' | b'+' | b'"' | b'\\' | b'<' | b'>' | b';')
 }
 
-/// Whether this character is written after a backslash where it is the first or the last one.
+/// Whether this octet of a text is written after a backslash, by whether it is the first one and whether it is the last.
 fn has_backslash(first: bool, last: bool, octet: u8) -> bool
     ensures { result ≡ has_backslash first last octet }
 {
@@ -43,7 +43,8 @@ fn push_escaped_octet(
     printed.push_octet(octet)
 }
 
-/// Adds the octets of a text in UTF-8: special ones after a backslash, and those that are not printable as their digits.
+/// Adds the octets of a text in UTF-8: special ones after a backslash, and those that are not printable as a backslash
+/// and their digits.
 fn push_escaped(printed: &mut Printed, text: &[u8]) -> Result<(), AllocError>
     ensures { OnOk result (printed.new ≡ printed.old ++ escaped text.now) }
 {
