@@ -10,7 +10,7 @@ ghost use Rattle.rekey_core.specs.Resealing.{EachDrawn};
 ghost use Rattle.rekey_core.specs.Sealing.{ContentSealed, ContentsSealed, LongOnly, Supplies, SuppliesAll, bags_draw};
 ghost use Rattle.rekey_core.specs.Size.{blank_content, blank_contents};
 
-use crate::algorithm::{Sealed, drawn_for, seal};
+use crate::algorithm::{Sealed, seal};
 use crate::bags::{seal_bags, text_of};
 use crate::supply::Supply;
 use asn1_core::Items;
@@ -54,7 +54,7 @@ fn seal_content(
         }
         ContentInfo::EncryptedData(data) => {
             let algorithm = &data.encrypted_content_info.content_encryption_algorithm;
-            let drawn = supply.next_drawn(drawn_for(algorithm));
+            let part = supply.next_part(algorithm);
             let bags = match seal_bags(alloc, bags, supply, new) {
                 Ok(bags) => bags,
                 Err(e) => return Err(e),
@@ -63,7 +63,7 @@ fn seal_content(
                 Ok(text) => text,
                 Err(e) => return Err(e),
             };
-            let sealed = match seal(alloc, algorithm, drawn, text.as_slice(), new) {
+            let sealed = match seal(alloc, algorithm, &part, text.as_slice(), new) {
                 Ok(sealed) => sealed,
                 Err(e) => return Err(e),
             };

@@ -10,5 +10,5 @@ seal-requires-clause-rounds c = (bag_opens c.args.bag.now c.in-Pkcs8ShroudedKeyB
 
 pub returns-in-Err-seal-clause-err : goal.returns-in-Err-seal-clause-err
 returns-in-Err-seal-clause-err c = long_map _ _ c.in-Err-seal.e
-    (λ h p more s. key_long p c.args.bag.now c.in-Pkcs8ShroudedKeyBag.key c.as_slice.result.now c.args.supply.now.keys.now c.next_key-text.new.self.keys.now more c.in-Pkcs8ShroudedKeyBag.is (sym c.next_drawn-drawn.ensures.keys ∙ c.next_key-text.ensures.front ∙ ap (λ t. t ∷ c.next_key-text.new.self.keys.now) (sym c.as_slice.ensures)) s h)
+    (λ h p more s. key_long p c.args.bag.now c.in-Pkcs8ShroudedKeyBag.key c.as_slice.result.now c.args.supply.now.keys.now c.next_key-text.new.self.keys.now more c.in-Pkcs8ShroudedKeyBag.is (sym c.next_part-part.ensures.keys ∙ c.next_key-text.ensures.front ∙ ap (λ t. t ∷ c.next_key-text.new.self.keys.now) (sym c.as_slice.ensures)) s h)
     c.in-Err-seal.ensures.err
