@@ -42,16 +42,13 @@ fn seal_bag(
     };
     let part = supply.next_part(&key.encryption_algorithm);
     let text = supply.next_key();
-    let sealed = match seal(
+    let sealed = seal(
         alloc,
         &key.encryption_algorithm,
         &part,
         text.as_slice(),
         new,
-    ) {
-        Ok(sealed) => sealed,
-        Err(e) => return Err(e),
-    };
+    )?;
     let SafeBag { attributes, .. } = copy;
     let Sealed { algorithm, text } = sealed;
     Ok(SafeBag {
@@ -87,10 +84,8 @@ pub(crate) fn seal_bags(
     let mut made = Items::new(alloc);
     let mut rest = bags;
     while let Some((bag, back)) = rest.split_first() {
-        match seal_bag(alloc, bag, supply, new) {
-            Ok(sealed) => made.push(sealed)?,
-            Err(e) => return Err(e),
-        }
+        let sealed = seal_bag(alloc, bag, supply, new)?;
+        made.push(sealed)?;
         rest = back;
     }
     Ok(made)

@@ -92,10 +92,7 @@ fn sealed_text(
         run: 0,
         place: 0,
     };
-    let contents = match seal_contents(alloc, contents, bags, &mut supply, new) {
-        Ok(contents) => contents,
-        Err(e) => return Err(e),
-    };
+    let contents = seal_contents(alloc, contents, bags, &mut supply, new)?;
     let salt = supply.next_drawn(MAC_SALT);
     match store_text(
         alloc,
