@@ -14,6 +14,7 @@ writes the store to STORE and its hexadecimal line to STORE.hex. The kinds:
     sealed-aes NUMBER     a certificate of NUMBER octets under AES-256 (PBES2, HMAC-SHA256), counts 1
     keys NUMBER           NUMBER private keys under Triple DES, counts 1
     keys-aes NUMBER       ten private keys under AES-256 (PBES2, HMAC-SHA256) with NUMBER rounds, count 1 of the MAC
+    hundred-keys-aes NUMBER   a hundred of them
 """
 
 import os
@@ -84,11 +85,11 @@ def keys_store(number):
     return with_mac(make.sequence(make.data(make.sequence(*bags))))
 
 
-def aes_keys_store(rounds):
+def aes_keys_store(number, rounds):
     with open(os.path.join(HOME, "examples", "openssl-key", "key-0.der"), "rb") as file:
         key = make.padded(file.read(), 16)
     bags = []
-    for at in range(10):
+    for at in range(number):
         parameters = at.to_bytes(8, "big"), rounds, None, HMAC_SHA256, AES_256_CBC, bytes(16)
         bags.append(make.key_bag(make.pbes2(parameters), make.encrypt_pbes2(PASSWORD, parameters, key)))
     return with_mac(make.sequence(make.data(make.sequence(*bags))))
@@ -112,7 +113,9 @@ def store_of(kind, number):
     if kind == "keys":
         return keys_store(number)
     if kind == "keys-aes":
-        return aes_keys_store(number)
+        return aes_keys_store(10, number)
+    if kind == "hundred-keys-aes":
+        return aes_keys_store(100, number)
     sys.exit(__doc__)
 
 

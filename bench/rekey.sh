@@ -9,12 +9,19 @@ rekey=$home/crates/rekey/out/rekey
     exit 1
 }
 
-printf '%-40s %12s %12s %8s\n' "ten keys under AES-256, by their rounds" rekey transfer ratio
-for rounds in 2048 100000; do
-    make_store keys-aes "$rounds" store
+# A row for a store of the kind $1 with $2 rounds, under the label $3.
+beside_transfer() {
+    make_store "$1" "$2" store
     "$home/bench/compare.py" "$runs" "$work/store.hex" "$rekey" rekey 100000000 p q -- "$work/store.hex" \
-        "$program" transfer p q "$rounds" 100000000 >"$work/both"
-    awk -v rounds="$rounds" '{ cpu[NR] = $2 } END { printf "%-40s %12s %12s %8.2f\n", rounds, cpu[1], cpu[2], cpu[1] / cpu[2] }' "$work/both"
+        "$program" transfer p q "$2" 100000000 >"$work/both"
+    awk -v label="$3" '{ cpu[NR] = $2 } END { printf "%-40s %12s %12s %8.2f\n", label, cpu[1], cpu[2], cpu[1] / cpu[2] }' "$work/both"
+}
+printf '%-40s %12s %12s %8s\n' "keys under AES-256, and their rounds" rekey transfer ratio
+for rounds in 2048 100000; do
+    beside_transfer keys-aes "$rounds" "10, $rounds"
+done
+for rounds in 2048 100000; do
+    beside_transfer hundred-keys-aes "$rounds" "100, $rounds"
 done
 printf '\n%-40s %10s %22s %10s\n' "keys under Triple DES, counts 1" seconds "microseconds per key" MiB
 for keys in 500 1000 2000 4000 8000; do

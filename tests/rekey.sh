@@ -77,6 +77,26 @@ differ() {
 }
 holds two_changes_differ_in_their_salts differ
 
+# The count of each part of the store $1 under the password in the file $2, in order.
+counts() {
+    openssl pkcs12 -in "$1" -passin "file:$2" -info -nodes 2>&1 >/dev/null | grep Iteration
+}
+
+keeps_counts() {
+    [ -f "$work/counts.p12" ] || {
+        echo "skipped keeps_counts: there is no cryptography for Python"
+        return 0
+    }
+    rm -f "$work/counts-new.p12"
+    rekey "$work/counts.p12" "$work/p" "$work/counts-new.p12" || return 1
+    have_openssl keeps_counts || return 0
+    counts "$work/counts.p12" "$work/p" >"$work/one" && counts "$work/counts-new.p12" "$work/new" >"$work/two" &&
+        [ "$(grep -c Iteration "$work/one")" -eq 16 ] && cmp "$work/one" "$work/two" || return 1
+    taken_out "$work/counts.p12" "$work/p" >"$work/one" && taken_out "$work/counts-new.p12" "$work/new" >"$work/two" &&
+        cmp "$work/one" "$work/two"
+}
+holds keys_of_unlike_counts_keep_them keeps_counts
+
 # --- files ---
 
 is_there() {

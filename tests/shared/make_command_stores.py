@@ -95,8 +95,30 @@ def without_password():
 write("null-password.p12", without_password())
 
 
+def counts_store(triple_des_key):
+    """A store of keys under AES-256 whose counts are alike in runs of 1 to 6, one of them after the content that it is in, and one key
+    under Triple DES."""
+    from make_store import encrypt_pbes2, encrypted_data, key_bag, padded, pbes2
+
+    def parameters(at, rounds):
+        return at.to_bytes(8, "big"), rounds, None, "1.2.840.113549.2.9", "2.16.840.1.101.3.4.1.42", bytes(16)
+
+    def sealed(at, rounds):
+        under = parameters(at, rounds)
+        return key_bag(pbes2(under), encrypt_pbes2(PASSWORD, under, padded(KEY, 16)))
+
+    of_content = parameters(0, 2000)
+    bags = padded(sequence(certificate_bag(CERTIFICATE), sealed(1, 2000), sealed(2, 7)), 16)
+    counts = [1000, 1000, 2000, 2000, 2000, 2000, 2000, 2000, 1000]
+    keys_of_counts = [sealed(3 + at, rounds) for at, rounds in enumerate(counts)]
+    keys_of_counts.insert(4, triple_des_key)
+    contents = [encrypted_data(pbes2(of_content), encrypt_pbes2(PASSWORD, of_content, bags)), data(sequence(*keys_of_counts)),
+                data(sequence(sealed(20, 7), sealed(21, 7)))]
+    return store_with_mac(sequence(*contents), PASSWORD, b"saltsalt", 1)
+
+
 def keys():
-    """Stores of many private keys, all encrypted alike in one round; they need the package `cryptography`."""
+    """Stores of many private keys, all but those of one encrypted alike in one round; they need the package `cryptography`."""
     from make_store import sealed_key
 
     sealed = sealed_key(KEY, PASSWORD, b"saltsalt", 1)
@@ -105,6 +127,7 @@ def keys():
     header = 2 if small[1] < 128 else 2 + small[1] % 128
     ids = [each.to_bytes(3, "big") for each in range(30000)]
     certificates = [certificate_bag(b"", attributes(None, each)) for each in ids]
+    write("counts.p12", counts_store(sealed))
     write("pairs.p12", plain_store(certificates + [sequence(small[header:], attributes(None, each)) for each in reversed(ids)]))
 
 

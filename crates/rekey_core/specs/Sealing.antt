@@ -1,6 +1,9 @@
 -- Parts that are sealed anew.
-use Rattle.std.specs.Prelude.{ℕ, ◌≡◌, List, ◌++◌, Some, ⊤}
+use Rattle.std.specs.Prelude.{ℕ, ◌≡◌, List, ◌++◌, drop, Some, ⊤}
 use Rattle.std.specs.List.{sum_by}
+use Rattle.pkcs5.specs.Kinds.{rounds_of}
+use Rattle.pkcs5.specs.Opening.{sha256_key}
+use Rattle.pkcs5.specs.declared.pbes2.parameters.Parameters.{Parameters}
 use Rattle.p12.specs.Canonical.{bags_canon}
 use Rattle.p12.specs.Collected.{HoldsBags, plain_text}
 use Rattle.p12.specs.declared.content_info.ContentInfo.{ContentInfo}
@@ -26,6 +29,10 @@ bag_draws g = sum_by key_draws (shrouded_in g.bag)
 
 abbrev pub bags_draw : List SafeBag → ℕ
 bags_draw gs = sum_by bag_draws gs
+
+-- the key under the password q of what takes the place of PBES2 under these parameters: its salt was drawn after the IV
+abbrev pub IsKeyAnew : Parameters → List ℕ → List ℕ → List ℕ → Type 0
+IsKeyAnew par z q key = key ≡ sha256_key (rounds_of par.kdf) q (drop 16 z)
 
 -- the bag g sealed anew is h
 pub record BagSealed (p q z : List ℕ) (g h : SafeBag) : Type 0 where

@@ -4,7 +4,7 @@ ghost use Rattle.p12.specs.Canonical.{WritableBag, bag_canon, bags_canon};
 ghost use Rattle.rekey_core.specs.Sealing.{BagSealed, BagsSealed, LongOnly, Supplies, bag_draws, bags_draw};
 ghost use Rattle.rekey_core.specs.Size.{blank_bag, blank_text};
 
-use crate::algorithm::{Sealed, drawn_for, seal};
+use crate::algorithm::{Sealed, seal};
 use crate::supply::Supply;
 use asn1_core::{Items, Octets};
 use p12::{EncryptedPrivateKeyInfo, Error, SafeBag, SafeBagKind};
@@ -40,18 +40,15 @@ fn seal_bag(
     let SafeBagKind::Pkcs8ShroudedKeyBag(key) = &bag.bag else {
         return Ok(copy);
     };
-    let drawn = supply.next_drawn(drawn_for(&key.encryption_algorithm));
+    let part = supply.next_part(&key.encryption_algorithm);
     let text = supply.next_key();
-    let sealed = match seal(
+    let sealed = seal(
         alloc,
         &key.encryption_algorithm,
-        drawn,
+        &part,
         text.as_slice(),
         new,
-    ) {
-        Ok(sealed) => sealed,
-        Err(e) => return Err(e),
-    };
+    )?;
     let SafeBag { attributes, .. } = copy;
     let Sealed { algorithm, text } = sealed;
     Ok(SafeBag {
@@ -87,10 +84,8 @@ pub(crate) fn seal_bags(
     let mut made = Items::new(alloc);
     let mut rest = bags;
     while let Some((bag, back)) = rest.split_first() {
-        match seal_bag(alloc, bag, supply, new) {
-            Ok(sealed) => made.push(sealed)?,
-            Err(e) => return Err(e),
-        }
+        let sealed = seal_bag(alloc, bag, supply, new)?;
+        made.push(sealed)?;
         rest = back;
     }
     Ok(made)

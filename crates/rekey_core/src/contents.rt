@@ -10,7 +10,7 @@ ghost use Rattle.rekey_core.specs.Resealing.{EachDrawn};
 ghost use Rattle.rekey_core.specs.Sealing.{ContentSealed, ContentsSealed, LongOnly, Supplies, SuppliesAll, bags_draw};
 ghost use Rattle.rekey_core.specs.Size.{blank_content, blank_contents};
 
-use crate::algorithm::{Sealed, drawn_for, seal};
+use crate::algorithm::{Sealed, seal};
 use crate::bags::{seal_bags, text_of};
 use crate::supply::Supply;
 use asn1_core::Items;
@@ -43,30 +43,16 @@ fn seal_content(
 {
     match content {
         ContentInfo::Data(_) => {
-            let bags = match seal_bags(alloc, bags, supply, new) {
-                Ok(bags) => bags,
-                Err(e) => return Err(e),
-            };
-            match text_of(alloc, bags.as_slice()) {
-                Ok(text) => Ok(ContentInfo::Data(text)),
-                Err(e) => Err(e),
-            }
+            let bags = seal_bags(alloc, bags, supply, new)?;
+            let text = text_of(alloc, bags.as_slice())?;
+            Ok(ContentInfo::Data(text))
         }
         ContentInfo::EncryptedData(data) => {
             let algorithm = &data.encrypted_content_info.content_encryption_algorithm;
-            let drawn = supply.next_drawn(drawn_for(algorithm));
-            let bags = match seal_bags(alloc, bags, supply, new) {
-                Ok(bags) => bags,
-                Err(e) => return Err(e),
-            };
-            let text = match text_of(alloc, bags.as_slice()) {
-                Ok(text) => text,
-                Err(e) => return Err(e),
-            };
-            let sealed = match seal(alloc, algorithm, drawn, text.as_slice(), new) {
-                Ok(sealed) => sealed,
-                Err(e) => return Err(e),
-            };
+            let part = supply.next_part(algorithm);
+            let bags = seal_bags(alloc, bags, supply, new)?;
+            let text = text_of(alloc, bags.as_slice())?;
+            let sealed = seal(alloc, algorithm, &part, text.as_slice(), new)?;
             let Sealed { algorithm, text } = sealed;
             Ok(ContentInfo::EncryptedData(EncryptedData {
                 encrypted_content_info: EncryptedContentInfo {
@@ -110,10 +96,8 @@ pub(crate) fn seal_contents(
         let Some((held, held_after)) = rest_bags.split_first() else {
             unreachable!()
         };
-        match seal_content(alloc, content, held.as_slice(), supply, new) {
-            Ok(sealed) => made.push(sealed)?,
-            Err(e) => return Err(e),
-        }
+        let sealed = seal_content(alloc, content, held.as_slice(), supply, new)?;
+        made.push(sealed)?;
         rest = back;
         rest_bags = held_after;
     }

@@ -13,10 +13,15 @@ use steps::Steps;
 use transfer::TransferError;
 
 /// Changes the password of a store from the first of `passwords` to the second, from that to the
-/// third, and so on, and returns the text of the last changed store. Each change draws its own
-/// octets, and may take `limit` steps.
+/// third, and so on, and returns the text of the last changed store.
 ///
-/// The error is that of the first change that has one, as `rekey` returns it.
+/// `limit` is the most steps of opening a store in each change by itself: a change has all of it, whatever those
+/// before it took. `steps` then counts the openings of all changes, so it rises by at most `limit` for each. `draw`
+/// gives the octets of each change when its turn comes, as `rekey` says: 8 for each part under Triple DES, 32 for each
+/// under PBES2 and 8 for the MAC, as many in every change (`laws::changes_are_alike`).
+///
+/// The error is that of the first change that has one, as `rekey` returns it. The steps of the changes before it stay
+/// counted, and what they drew is gone from `draw`.
 ///
 /// Caller: at least two passwords, of fewer than 2^57 octets each.
 #[tactic(auto, using(crate::proofs::Listing::memory_first))]

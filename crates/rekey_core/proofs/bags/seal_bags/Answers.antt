@@ -1,4 +1,5 @@
 use Rattle.std.proofs.Common.{◌≡◌, ◌∷◌, [], rules}
+use Rattle.std.proofs.lemmas.Result.{err_from_is_err_and}
 use Rattle.rekey_core.proofs.Supplying.{bags_end, bags_long, bags_next, bags_step, empty_is}
 use Rattle.rekey_core.proofs.bags.seal_bags.Goals as goal
 
@@ -8,17 +9,18 @@ seal_bag-requires-clause-open c =
     bags_next c.args.new.now c.args.bags.now c.loop-bag.rest.now c.in-Some.bag.now c.in-Some.back.now c.args.supply.now.keys.now c.loop-bag.supply.keys.now c.args.supply.now.drawn.now c.loop-bag.supply.drawn.now c.loop-bag.made
     c.loop-bag.invariant rest c.requires.open
 
-pub returns-in-Err-clause-err : goal.returns-in-Err-clause-err
-returns-in-Err-clause-err c =
+pub returns-in_err-sealed-clause-err : goal.returns-in_err-sealed-clause-err
+returns-in_err-sealed-clause-err c =
+    let p = err_from_is_err_and c.from_residual.result c.from_residual.ensures.1 in
     let rest : c.loop-bag.rest.now ≡ c.in-Some.bag.now ∷ c.in-Some.back.now = search rules in
-    bags_long c.args.new.now c.args.bags.now c.loop-bag.rest.now c.in-Some.bag.now c.in-Some.back.now c.args.supply.now.keys.now c.loop-bag.supply.keys.now c.args.supply.now.drawn.now c.loop-bag.supply.drawn.now c.loop-bag.made
-    c.in-Err.e c.loop-bag.invariant rest c.in-Err.ensures.err
+    rw (p.1, p.2) (bags_long c.args.new.now c.args.bags.now c.loop-bag.rest.now c.in-Some.bag.now c.in-Some.back.now c.args.supply.now.keys.now c.loop-bag.supply.keys.now c.args.supply.now.drawn.now c.loop-bag.supply.drawn.now c.loop-bag.made
+    c.in_err-sealed.field-0.0 c.loop-bag.invariant rest c.in_err-sealed.ensures.err)
 
 pub loop-bag-preserved : goal.loop-bag-preserved
 loop-bag-preserved c =
     let rest : c.loop-bag.rest.now ≡ c.in-Some.bag.now ∷ c.in-Some.back.now = search rules in
-    rw (c.in_ok-push-in-Ok.ensures.ok) (bags_step c.args.new.now c.args.bags.now c.loop-bag.rest.now c.in-Some.bag.now c.in-Some.back.now c.args.supply.now.keys.now c.loop-bag.supply.keys.now c.seal_bag.new.supply.keys.now
-    c.args.supply.now.drawn.now c.loop-bag.supply.drawn.now c.seal_bag.new.supply.drawn.now c.loop-bag.made c.in-Ok.sealed c.loop-bag.invariant rest c.in-Ok.ensures.sealed c.in-Ok.ensures.used)
+    rw (c.in_ok-push.ensures.ok) (bags_step c.args.new.now c.args.bags.now c.loop-bag.rest.now c.in-Some.bag.now c.in-Some.back.now c.args.supply.now.keys.now c.loop-bag.supply.keys.now c.seal_bag.new.supply.keys.now
+    c.args.supply.now.drawn.now c.loop-bag.supply.drawn.now c.seal_bag.new.supply.drawn.now c.loop-bag.made c.in_ok-sealed.sealed c.loop-bag.invariant rest c.in_ok-sealed.ensures.sealed c.in_ok-sealed.ensures.used)
 
 pub returns-clause-sealed : goal.returns-clause-sealed
 returns-clause-sealed c =

@@ -1,5 +1,5 @@
 use Rattle.rekey_core.proofs.Writing.{sealed_long, sealed_size_is}
-use Rattle.rekey_core.proofs.algorithm.seal.Goals as goal
+use Rattle.rekey_core.proofs.algorithm.seal_by_password.Goals as goal
 
 pub returns-in-Ok-clause-size : goal.returns-in-Ok-clause-size
 returns-in-Ok-clause-size c = sealed_size_is c.args.algorithm.now _ c.args.drawn.now c.args.new.now c.in-Ok.text c.args.text.now c.requires.opens c.in_ok-algorithm.ensures.ok c.in-Ok.ensures.ok.0

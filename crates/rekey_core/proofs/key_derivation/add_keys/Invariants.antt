@@ -1,0 +1,9 @@
+use Rattle.std.proofs.Common.{◌≡◌, ◌≤◌, ◌+◌, length}
+use Rattle.rekey_core.specs.Sealing.{bags_draw}
+use Rattle.rekey_core.proofs.key_derivation.add_keys.Given as goal
+
+abbrev pub invariant-loop-bag : goal.invariant-loop-bag
+invariant-loop-bag l = (bags_draw l.rest ≤ length l.left) × (length l.drawn + bags_draw l.rest ≡ bags_draw l.bags + length l.left)
+
+abbrev pub decreases-loop-bag : goal.decreases-loop-bag
+decreases-loop-bag l = length l.rest
