@@ -49,20 +49,16 @@ impl<'a> Reader<&'a [u8]> for SliceReader<'a> {
     }
 
     fn header(&mut self) -> Result<Header, Error> {
-        match element::header(self.rest) {
-            Ok((first, value, rest)) => {
-                let taken = self.rest.len() - rest.len();
-                *self = SliceReader {
-                    rest,
-                    read: self.read + taken,
-                };
-                Ok(Header {
-                    tag: Tag { first },
-                    length: Length { value },
-                })
-            }
-            Err(e) => Err(e),
-        }
+        let (first, value, rest) = element::header(self.rest)?;
+        let taken = self.rest.len() - rest.len();
+        *self = SliceReader {
+            rest,
+            read: self.read + taken,
+        };
+        Ok(Header {
+            tag: Tag { first },
+            length: Length { value },
+        })
     }
 
     fn read_slice(&mut self, len: Length) -> Result<&'a [u8], Error> {

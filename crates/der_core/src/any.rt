@@ -63,10 +63,7 @@ impl Any {
     pub fn from_der(alloc: Global, bytes: &[u8]) -> Result<Any, Error>
         ensures { GivesIn (λ a. seen_any a.tag.first a.value) result (whole any_at bytes.now) }
     {
-        match AnyRef::from_der(bytes) {
-            Ok(borrowed) => borrowed.ref_to_owned(alloc),
-            Err(e) => Err(e),
-        }
+        AnyRef::from_der(bytes)?.ref_to_owned(alloc)
     }
 
     /// The tag.

@@ -34,10 +34,8 @@ impl<'a> AnyRef<'a> {
         ensures { MatchResult result (λ a. (a.tag ≡ tag) × (a.value.now ≡ value.now))
             (λ e. (e ≡ Overlength) × (¬ (IsHeader (length value.now)))) }
     {
-        match checked_len(value.len()) {
-            Ok(_) => Ok(AnyRef { tag, value }),
-            Err(e) => Err(e),
-        }
+        checked_len(value.len())?;
+        Ok(AnyRef { tag, value })
     }
 
     /// The element of this tag and these value octets. Caller: it has at most 2^32 - 1 octets.
@@ -69,7 +67,8 @@ impl<'a> AnyRef<'a> {
         self.tag == Tag::NULL && self.value.is_empty()
     }
 
-    /// What decoding the whole element returns.
+    /// The value of `T` whose text this element is: what `T::from_der` returns for the octets of the whole element,
+    /// its tag and its length included.
     pub fn decode_as<T: WholeElement<&'a [u8]>>(&self) -> Result<T, Error>
         ensures { Gives T.Decode.seen result
             (whole T.at (el self.now.tag.first self.now.value.now)) }
@@ -103,13 +102,11 @@ impl<'a> DecodeValue<&'a [u8]> for AnyRef<'a> {
     ghost text = { AnyOf };
 
     fn decode_value<R: Reader<&'a [u8]>>(r: &mut R, header: Header) -> Result<AnyRef<'a>, Error> {
-        match r.read_slice(header.length) {
-            Ok(value) => Ok(AnyRef {
-                tag: header.tag,
-                value,
-            }),
-            Err(e) => Err(e),
-        }
+        let value = r.read_slice(header.length)?;
+        Ok(AnyRef {
+            tag: header.tag,
+            value,
+        })
     }
 
     ghost exact = { any_of-exact };
@@ -127,27 +124,19 @@ impl<'a> Decode<&'a [u8]> for AnyRef<'a> {
     fn decode<R: Reader<&'a [u8]>>(r: &mut R) -> Result<AnyRef<'a>, Error> {
         let mut ahead = *r;
         let header = ahead.header()?;
-        match ahead.read_slice(header.length) {
-            Ok(value) => {
-                *r = ahead;
-                Ok(AnyRef {
-                    tag: header.tag,
-                    value,
-                })
-            }
-            Err(e) => Err(e),
-        }
+        let value = ahead.read_slice(header.length)?;
+        *r = ahead;
+        Ok(AnyRef {
+            tag: header.tag,
+            value,
+        })
     }
 
     fn from_der(bytes: &'a [u8]) -> Result<AnyRef<'a>, Error> {
         let mut r = SliceReader::new(bytes);
-        match Self::decode(&mut r) {
-            Ok(v) => match r.finish() {
-                Ok(()) => Ok(v),
-                Err(e) => Err(e),
-            },
-            Err(e) => Err(e),
-        }
+        let v = Self::decode(&mut r)?;
+        r.finish()?;
+        Ok(v)
     }
 }
 

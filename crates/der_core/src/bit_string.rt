@@ -51,13 +51,11 @@ impl<'a> BitStringRef<'a> {
         if unused_bits > 7 || (unused_bits != 0 && octets.is_empty()) {
             return Err(Error::Malformed);
         }
-        match checked_len(1 + octets.len()) {
-            Ok(_) => Ok(BitStringOf {
-                unused_bits,
-                octets,
-            }),
-            Err(e) => Err(e),
-        }
+        checked_len(1 + octets.len())?;
+        Ok(BitStringOf {
+            unused_bits,
+            octets,
+        })
     }
 
     /// How many bits of the last octet are unused.
@@ -100,10 +98,7 @@ impl BitString {
             ⊎ ((e ≡ Memory) × IsTrue (is_bits unused_bits octets.now)
             × IsHeader (1 + length octets.now))) }
     {
-        match BitStringRef::new(unused_bits, octets) {
-            Ok(borrowed) => borrowed.ref_to_owned(alloc),
-            Err(e) => Err(e),
-        }
+        BitStringRef::new(unused_bits, octets)?.ref_to_owned(alloc)
     }
 
     /// The string whose text these octets are. `Malformed` exactly where they are none, and `Memory`.
@@ -185,22 +180,20 @@ impl<'a> DecodeValue<&'a [u8]> for BitStringRef<'a> {
         header: Header,
     ) -> Result<BitStringRef<'a>, Error> {
         let mut ahead = *r;
-        match ahead.read_slice(header.length) {
-            Ok(value) => match value.split_first() {
-                None => Err(Error::Malformed),
-                Some((unused, octets)) => {
-                    let unused_bits = *unused;
-                    if unused_bits > 7 || (unused_bits != 0 && octets.is_empty()) {
-                        return Err(Error::Malformed);
-                    }
-                    *r = ahead;
-                    Ok(BitStringOf {
-                        unused_bits,
-                        octets,
-                    })
+        let value = ahead.read_slice(header.length)?;
+        match value.split_first() {
+            None => Err(Error::Malformed),
+            Some((unused, octets)) => {
+                let unused_bits = *unused;
+                if unused_bits > 7 || (unused_bits != 0 && octets.is_empty()) {
+                    return Err(Error::Malformed);
                 }
-            },
-            Err(e) => Err(e),
+                *r = ahead;
+                Ok(BitStringOf {
+                    unused_bits,
+                    octets,
+                })
+            }
         }
     }
 

@@ -59,10 +59,8 @@ pub trait Encode {
             (Unit {0}) None 0 0 0 e) }
     {
         let mut w = VecWriter::new(alloc);
-        match self.encode(&mut w) {
-            Ok(()) => Ok(w.into_octets()),
-            Err(e) => Err(e),
-        }
+        self.encode(&mut w)?;
+        Ok(w.into_octets())
     }
 }
 

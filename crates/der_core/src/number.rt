@@ -154,10 +154,7 @@ impl<'a, N: Number> DecodeValue<&'a [u8]> for N {
     ghost text = { λ t. UintOf N.MAX };
 
     fn decode_value<R: Reader<&'a [u8]>>(r: &mut R, header: Header) -> Result<N, Error> {
-        match number_value(r, header, N::MAX) {
-            Ok(n) => Ok(N::narrowed(n)),
-            Err(e) => Err(e),
-        }
+        Ok(N::narrowed(number_value(r, header, N::MAX)?))
     }
 
     ghost exact = { λ t. uint_of-exact N.MAX };

@@ -43,10 +43,8 @@ impl<'a> OctetStringRef<'a> {
         ensures { MatchResult result (λ s. s.octets.now ≡ octets.now) (λ e. (e ≡ Overlength)
             × (¬ (IsHeader (length octets.now)))) }
     {
-        match checked_len(octets.len()) {
-            Ok(_) => Ok(OctetStringOf { octets }),
-            Err(e) => Err(e),
-        }
+        checked_len(octets.len())?;
+        Ok(OctetStringOf { octets })
     }
 
     /// The octets.
@@ -143,10 +141,8 @@ impl<'a> DecodeValue<&'a [u8]> for OctetStringRef<'a> {
         r: &mut R,
         header: Header,
     ) -> Result<OctetStringRef<'a>, Error> {
-        match r.read_slice(header.length) {
-            Ok(octets) => Ok(OctetStringOf { octets }),
-            Err(e) => Err(e),
-        }
+        let octets = r.read_slice(header.length)?;
+        Ok(OctetStringOf { octets })
     }
 
     ghost exact = { λ t. left-exact };

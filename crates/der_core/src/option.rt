@@ -29,10 +29,7 @@ impl<'a, T: Choice<&'a [u8]>> Decode<&'a [u8]> for Option<T> {
         if !T::can_decode(tag) {
             return Ok(None);
         }
-        match T::decode(r) {
-            Ok(x) => Ok(Some(x)),
-            Err(e) => Err(e),
-        }
+        Ok(Some(T::decode(r)?))
     }
 
     fn from_der(bytes: &'a [u8]) -> Result<Option<T>, Error> {

@@ -28,10 +28,8 @@ impl SecretDocument {
             (λ e. ((e ≡ Memory) × IsSequence bytes.now)
             ⊎ ((e ≡ Malformed) × (¬ (IsSequence bytes.now)))) }
     {
-        match Document::from_der(alloc, bytes) {
-            Ok(document) => Ok(SecretDocument { document }),
-            Err(e) => Err(e),
-        }
+        let document = Document::from_der(alloc, bytes)?;
+        Ok(SecretDocument { document })
     }
 
     /// The text of a value. `Malformed` exactly where the value has none or it is not a SEQUENCE, `Overlength` only where it would
@@ -44,10 +42,8 @@ impl SecretDocument {
             ⊎ (IsShort (T.canon v.now) × (¬ (IsSequence (T.canon v.now)))))
             (IsOverlong (length (T.canon v.now))) (Unit {0}) None 0 0 0 e) }
     {
-        match Document::encode_msg(alloc, v) {
-            Ok(document) => Ok(SecretDocument { document }),
-            Err(e) => Err(e),
-        }
+        let document = Document::encode_msg(alloc, v)?;
+        Ok(SecretDocument { document })
     }
 
     /// The value whose text this is. Refusals are those of `from_der` of the type.
@@ -75,10 +71,8 @@ impl SecretDocument {
         ensures { IfErr result (λ e. (e ≡ File) ⊎ (e ≡ Overlength) ⊎ (e ≡ Malformed)
             ⊎ (e ≡ Memory)) }
     {
-        match Document::read_der_file(rt, alloc, path) {
-            Ok(document) => Ok(SecretDocument { document }),
-            Err(e) => Err(e),
-        }
+        let document = Document::read_der_file(rt, alloc, path)?;
+        Ok(SecretDocument { document })
     }
 
     /// Writes the octets into this file, which is made where it is missing, and cut before where it is not. The only refusal is
@@ -94,10 +88,8 @@ impl SecretDocument {
         ensures ok { IfOk result (λ d. d.document.octets ≡ self.now.document.octets) }
         ensures err { IfErr result (λ e. e ≡ Memory) }
     {
-        match self.document.try_clone(alloc) {
-            Ok(document) => Ok(SecretDocument { document }),
-            Err(e) => Err(e),
-        }
+        let document = self.document.try_clone(alloc)?;
+        Ok(SecretDocument { document })
     }
 }
 

@@ -14,8 +14,6 @@ pub(crate) fn checked_len(n: usize) -> Result<Length, Error>
         return Err(Error::Overlength);
     }
     let length = Length::new(n as u32);
-    match element_len(length) {
-        Ok(_) => Ok(length),
-        Err(e) => Err(e),
-    }
+    element_len(length)?;
+    Ok(length)
 }

@@ -1,5 +1,5 @@
 -- Lines in a buffer, and hexadecimal text by its parts.
-use Rattle.std.proofs.Common.{◌≡◌, ℕ, ◌+◌, ◌*◌, ◌<◌, ◌≤◌, List, [], ◌∷◌, ◌++◌, length, set, take, drop, slice_index, refl, sym, ap, arith, ◌∙◌, Bool, true, false, ◌&&◌, Some, Ok, subst, zero, suc, get_or, ◌/◌}
+use Rattle.std.proofs.Common.{◌≡◌, ℕ, ◌+◌, ◌*◌, ◌<◌, ◌≤◌, List, [], ◌∷◌, ◌++◌, length, set, take, drop, slice_index, refl, sym, ap, arith, ◌∙◌, Bool, true, false, ◌&&◌, Some, Ok, subst, zero, suc, get_or}
 use Rattle.std.specs.Prelude.{codes}
 use Rattle.std.proofs.Math.Seq.{take-append_seam}
 use Rattle.std.proofs.lemmas.List.{append_assoc, drop-drop, drop_at, drop_more, get_or-drop, get_or-replicate, get_or-take, length-append, length-set, take_all, take_at, take_more_set}

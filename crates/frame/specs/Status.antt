@@ -1,4 +1,4 @@
--- The outputs of a program: their names, their numbers, and of what kind each is.
+-- The statuses with which a program ends: the name, the number and the kind of each.
 use Rattle.std.specs.Prelude.{ℕ, List, ◌++◌, Result, Ok, Err, codes, ⊤}
 use Rattle.frame.specs.declared.status.Status.{Status}
 use Rattle.frame.specs.declared.status.Status.TheVariants.{Done, Usage, ReadFault, WriteFault, InputTooLong, InputMalformed, Memory, Malformed, Unsupported, MacMissing, MacUnsupported, ZeroIterations, WorkLimit, MacMismatch, ContentMalformed, DecryptFailed, KeyMalformed, Rng, TooLong}

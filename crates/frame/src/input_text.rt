@@ -95,21 +95,17 @@ pub fn read_text(alloc: Global, text: Vec<u8>) -> Result<Spelled, TextError>
     match split_line(held) {
         None => {
             let count = digits_of(held).len();
-            match octets_in_front(text, count) {
-                Ok(store) => Ok(Spelled { store, line: None }),
-                Err(e) => Err(e),
-            }
+            let store = octets_in_front(text, count)?;
+            Ok(Spelled { store, line: None })
         }
         Some((first, second)) => {
             let count = first.len();
-            let line = match octets_of(alloc, digits_of(second)) {
-                Ok(line) => Some(line),
-                Err(e) => return Err(e),
-            };
-            match octets_in_front(text, count) {
-                Ok(store) => Ok(Spelled { store, line }),
-                Err(e) => Err(e),
-            }
+            let line = octets_of(alloc, digits_of(second))?;
+            let store = octets_in_front(text, count)?;
+            Ok(Spelled {
+                store,
+                line: Some(line),
+            })
         }
     }
 }

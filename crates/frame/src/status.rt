@@ -4,8 +4,9 @@ ghost use Rattle.frame.specs.Status.{status_code, status_name};
 
 use std::fmt;
 
-/// What a program returns. `Done`, `Usage`, `ReadFault`, `WriteFault`, `InputTooLong` and `Memory` are outputs of every
-/// program; the others are refusals of a program's own, and each says which of them it returns, and when.
+/// How a run of a program ended. Every program can end with `Done`, `Usage`, `ReadFault`, `WriteFault`,
+/// `InputTooLong` and `Memory`. The others are refusals of some programs alone: each program says which of them it
+/// returns, and when.
 #[derive(Clone, Copy, Debug, PartialEq, Eq)]
 pub enum Status {
     /// The work is done, and its text was written.

@@ -1,4 +1,5 @@
--- Which certificates of a store stand above which. They are numbered from 0; none stands for one that could not be read.
+-- The parents and the chains of the certificates of a store. Certificates are numbered from 0, in store order; None is one
+-- that could not be read.
 use Rattle.std.specs.Prelude.{ℕ, ◌≡◌, ◌≢◌, ◌<◌, List, [], ◌∷◌, ◌++◌, Option, Some, None, Bool, true, false, ◌==◌, MatchOption}
 use Rattle.std.specs.List.{list_any, slice_get}
 use Rattle.std.specs.Str.{bytes_eq}
@@ -21,8 +22,8 @@ Subject cs name k = has_subject (slice_get cs k) name ≡ true
 abbrev pub IsLeast : (ℕ → Type 0) → Option ℕ → Type 0
 IsLeast P o = MatchOption o ((k : ℕ) → P k → ⊥) (λ k. P k × ((i : ℕ) → i < k → P i → ⊥))
 
--- What is above the j-th certificate: itself, where its issuer is its subject; else the least other one whose subject is its issuer;
--- else none that is known.
+-- The parent of the j-th certificate: itself, where its issuer is its subject; else the least other one whose subject is its
+-- issuer; else none that is known.
 abbrev pub IsParent : List (Option Certificate) → ℕ → Certificate → Parent → Type 0
 IsParent cs j c parent.Itself = c.issuer ≡ c.subject
 IsParent cs j c (parent.Of k) = (c.issuer ≢ c.subject) × IsLeast (λ i. (i ≢ j) × Subject cs c.issuer i) (Some k)

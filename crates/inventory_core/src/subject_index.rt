@@ -36,7 +36,8 @@ pub struct SubjectIndex<'a> {
 }
 
 impl<'a> SubjectIndex<'a> {
-    /// The index of these certificates. The only error is out of memory.
+    /// An index of the certificates of a store, in their order; `None` is for one that could not be read.
+    /// `AllocError` where there is no memory.
     pub fn new(
         alloc: Global,
         certificates: &'a [Option<CertificateView<'a>>],
@@ -115,10 +116,10 @@ impl<'a> SubjectIndex<'a> {
         }
     }
 
-    /// The chain that begins with the certificate of number `start`: after each comes the first
-    /// certificate not yet in the chain whose subject is the issuer of the one before. It ends
-    /// where there is none, or after a certificate that was not read or is its own issuer. The only
-    /// error is out of memory.
+    /// The chain of certificates from the one with the number `start`, as numbers in the order of the
+    /// chain. Each certificate is followed by its issuer's: the first certificate whose subject is its
+    /// issuer and that is not yet in the chain. The chain ends where there is no such certificate, and
+    /// at one that could not be read or is its own issuer. `AllocError` where there is no memory.
     pub fn chain_from(&self, alloc: Global, start: usize) -> Result<Items<usize>, AllocError>
         ensures { IfOk result (λ ks. IsChain (seen_all self.now.certificates.now) start ks) }
     {

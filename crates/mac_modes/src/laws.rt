@@ -15,14 +15,14 @@ pub fn ciphertext_is_unique<C: BlockCipher>()
         → uncbc (C.decryption s) C.BLOCK iv c ≡ uncbc (C.decryption s) C.BLOCK iv d → c ≡ d }
 {}
 
-/// Two texts that are the same with their padding are the same: so what `cbc_decrypt_padded` answers is the only text
+/// Two texts that are the same with their padding are the same: so what `cbc_decrypt_padded` returns is the only text
 /// of its ciphertext.
 pub fn padded_text_is_unique()
     ensures { (n : ℕ) (m k : List ℕ) → 1 ≤ n → padded m n ≡ padded k n → m ≡ k }
 {}
 
-/// Two texts that GCM seals to the same are the same: so what `gcm_decrypt` answers is the only text of its ciphertext
-/// and tag.
+/// Two texts that GCM seals to the same are the same: so what `gcm_decrypt` returns is the only text of its
+/// ciphertext and tag.
 pub fn sealed_text_is_unique<C: BlockCipher>()
     ensures { C.BLOCK ≡ 16 → (s : C) (nonce m k : List ℕ) → length nonce ≡ 12
         → All (λ octet. octet < 256) nonce

@@ -11,7 +11,8 @@ use crate::items::{Items, copied_numbers};
 use std::alloc::{AllocError, Global};
 use std::marker::Model;
 
-/// A draw that fails at chosen calls of `fill`, and else returns as the draw behind it. It does not tell its octets.
+/// A draw that fails at chosen calls of `fill`, and passes the other calls on to another draw. It does not tell its
+/// octets.
 #[derive(Debug, Drop)]
 pub struct FailingDraw<D> {
     inner: D,
@@ -32,7 +33,7 @@ impl<D> Model for FailingDraw<D> {
 }
 
 impl<D: Draw> FailingDraw<D> {
-    /// The draw `inner` after calls that fail. `failing` holds their numbers, counted from 0; the number of a call
+    /// A draw over `inner`. `failing` has the numbers of the calls that fail, counted from 0; the number of a call
     /// stays at `u64::MAX` once it is there.
     pub fn new(inner: D, failing: Items<u64>) -> FailingDraw<D>
         ensures { result ≡ record { inner = inner; failing = failing; call = 0; faults = 0 } }
@@ -65,8 +66,8 @@ impl<D: Draw> Draw for FailingDraw<D> {
 
     ghost faults = { λ d. d.faults };
 
-    /// Fills `out`. `Failed` exactly at a listed call, which does not reach the draw behind, and where the draw
-    /// after fails.
+    /// Fills `out`. `Failed` exactly at a listed call, which does not reach the other draw, and where that draw
+    /// fails.
     fn fill(&mut self, out: &mut [u8]) -> Result<(), Failed>
         ensures drawn { Fills None None result out.new }
         ensures short { FailsShort None result out.old }

@@ -61,15 +61,11 @@ impl Db {
         ensures err { IfErr result (MalformedOnly (IsNoFile text.now)) }
     {
         let mut db = Db::empty(alloc, rounds);
-        match read_front(&mut db, text.as_bytes()) {
-            Ok(rest) => {
-                if !rest.is_empty() {
-                    return Err(DbError::Malformed);
-                }
-                Ok(db)
-            }
-            Err(e) => Err(e),
+        let rest = read_front(&mut db, text.as_bytes())?;
+        if !rest.is_empty() {
+            return Err(DbError::Malformed);
         }
+        Ok(db)
     }
 
     /// A file with no entries. Caller: the rounds are 1,000 to `ROUNDS_LIMIT`.
@@ -285,10 +281,7 @@ impl Db {
     {
         let mut replies = Items::new(alloc);
         for command in commands {
-            let reply = match self.obey(draw, command, steps) {
-                Ok(reply) => reply,
-                Err(e) => return Err(e),
-            };
+            let reply = self.obey(draw, command, steps)?;
             match replies.push(reply) {
                 Ok(()) => {}
                 Err(_) => return Err(DbError::Memory),

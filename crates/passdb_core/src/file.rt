@@ -44,10 +44,8 @@ fn read_line<'a>(db: &mut Db, text: &'a [u8]) -> Result<&'a [u8], DbError>
     let Some((line, rest)) = cut(text, b'\n') else {
         return Err(DbError::Malformed);
     };
-    match put_line(db, line) {
-        Ok(()) => Ok(rest),
-        Err(e) => Err(e),
-    }
+    put_line(db, line)?;
+    Ok(rest)
 }
 
 /// Whether the text has ended, or a line feed comes.
@@ -71,10 +69,7 @@ pub(crate) fn read_front<'a>(db: &mut Db, text: &'a [u8]) -> Result<&'a [u8], Db
 {
     let mut rest = text;
     while !stops(rest) {
-        match read_line(db, rest) {
-            Ok(more) => rest = more,
-            Err(e) => return Err(e),
-        }
+        rest = read_line(db, rest)?;
     }
     Ok(rest)
 }

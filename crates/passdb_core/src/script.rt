@@ -52,10 +52,7 @@ pub(crate) fn read_input<'a>(
     ensures few { IfOk result (λ cs. length cs ≤ length input.now) }
     ensures refused { IfErr result (MalformedOnly (IsNoInput input.now)) }
 {
-    let rest = match read_front(db, input) {
-        Ok(rest) => rest,
-        Err(e) => return Err(e),
-    };
+    let rest = read_front(db, input)?;
     let Some((_, lines)) = rest.split_first() else {
         return Err(DbError::Malformed);
     };

@@ -65,7 +65,8 @@ size_t pkcs12_room(size_t store_len);
  *   password      that of the store, in UTF-8
  *   new_password  any octets; the keys are sealed by PBES2: PBKDF2 with HMAC-SHA-256, and AES-256-CBC (RFC 8018)
  *   rounds        of PBKDF2 for each key, 1 to 100,000,000
- *   limit         the most steps of opening; a step is one result of the hash that the store asks for
+ *   limit         the most steps that opening may take; a step is one hash of the derivation of RFC 7292, or one HMAC of
+ *                 PBKDF2
  *   random        32 octets for each key, in order; give the octets of a generator that is made for secrets, and never
  *                 the same octets twice
  *   output        where the text goes; its other octets stay as they are

@@ -104,15 +104,11 @@ fn scheme_with(oid: ObjectIdentifier, parameters: &AnyRef<'_>) -> Result<Encrypt
     ensures { Gives (λ s. s) result (scheme_with oid (borrowed_any parameters.now)) }
 {
     if oid == PBES2_OID {
-        return match pbes2::Parameters::try_from(*parameters) {
-            Ok(parameters) => Ok(EncryptionScheme::Pbes2(parameters)),
-            Err(e) => Err(e),
-        };
+        let parameters = pbes2::Parameters::try_from(*parameters)?;
+        return Ok(EncryptionScheme::Pbes2(parameters));
     }
-    match pbes1::algorithm_with(oid, parameters) {
-        Ok(algorithm) => Ok(EncryptionScheme::Pbes1(algorithm)),
-        Err(e) => Err(e),
-    }
+    let algorithm = pbes1::algorithm_with(oid, parameters)?;
+    Ok(EncryptionScheme::Pbes1(algorithm))
 }
 
 impl TryFrom<AlgorithmIdentifierRef<'_>> for EncryptionScheme {

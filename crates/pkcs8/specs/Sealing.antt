@@ -1,10 +1,13 @@
 -- Sealed documents (RFC 5958 section 3, RFC 8018 section 6.2): a private key under a password, as a text.
 use Rattle.std.specs.Prelude.{◌≡◌, ◌⊎◌, ℕ, List, length, ⊤}
+use Rattle.asn1_core.specs.Oid.{oid_octets}
 use Rattle.asn1_core.specs.Writing.{IsOverlong}
 use Rattle.asn1_core.specs.declared.error.Error.TheVariants as asn1
 use Rattle.der_core.specs.Document.{IsSequence}
 use Rattle.pkcs5.specs.Generation.{recommended}
-use Rattle.pkcs5.specs.Opening.{Opens}
+use Rattle.pkcs5.specs.Identifiers.{des_cbc_oid}
+use Rattle.pkcs5.specs.Kinds.{IsDes}
+use Rattle.pkcs5.specs.Opening.{Opens, OpensBy}
 use Rattle.pkcs5.specs.Refusals.{RefusesToEncrypt}
 use Rattle.pkcs5.specs.SchemeOpening.{SchemeOpens, SchemeRefusesToOpen}
 use Rattle.pkcs5.specs.declared.encryption_scheme.EncryptionScheme.{EncryptionScheme}
@@ -36,6 +39,26 @@ RefusesToSeal par q m (errors.EncryptedPrivateKey e) = RefusesToEncrypt par e
 RefusesToSeal par q m (errors.Asn1 asn1.Overlength) = IsTooLong par q m
 RefusesToSeal par q m errors.Memory = ⊤
 RefusesToSeal par q m e = ⊥
+
+-- the document of the text m under the key k would be too long
+abbrev pub IsTooLongUnder : Parameters → List ℕ → List ℕ → Type 0
+IsTooLongUnder par k m = (c : List ℕ) × OpensBy par.encryption k c m × IsOverlong (length (encrypted_key_text (Pbes2 par) c))
+
+-- why a text m is not sealed under the key k: the cipher is DES; the document is too long; or there is no memory
+abbrev pub RefusesToSealUnder : Parameters → List ℕ → List ℕ → Error → Type 0
+RefusesToSealUnder par k m (errors.EncryptedPrivateKey (pkcs5.UnsupportedAlgorithm o)) = (oid_octets o ≡ des_cbc_oid) × IsDes par.encryption
+RefusesToSealUnder par k m (errors.Asn1 asn1.Overlength) = IsTooLongUnder par k m
+RefusesToSealUnder par k m errors.Memory = ⊤
+RefusesToSealUnder par k m e = ⊥
+
+-- why a private key is not encrypted under the key k: it has no text, which `writable` says that it has; and then as its text m is not
+-- sealed, or that is too long itself
+abbrev pub RefusesToEncryptUnder : Type 0 → Parameters → List ℕ → List ℕ → Error → Type 0
+RefusesToEncryptUnder writable par k m (errors.EncryptedPrivateKey e) = writable × RefusesToSealUnder par k m (errors.EncryptedPrivateKey e)
+RefusesToEncryptUnder writable par k m (errors.Asn1 asn1.Malformed) = ¬ writable
+RefusesToEncryptUnder writable par k m (errors.Asn1 asn1.Overlength) = IsOverlong (length m) ⊎ IsTooLongUnder par k m
+RefusesToEncryptUnder writable par k m errors.Memory = ⊤
+RefusesToEncryptUnder writable par k m e = ⊥
 
 -- why a key is not encrypted: it has no text, which `writable` says that it has; and then as its text m is not sealed, or that is too
 -- long itself

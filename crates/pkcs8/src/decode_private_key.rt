@@ -50,10 +50,11 @@ pub trait DecodePrivateKey: Sized {
         ensures err { IfErr result (λ e. IsLocked refuses bytes.now password.now e) }
     {
         match EncryptedPrivateKeyInfoRef::try_from(bytes) {
-            Ok(info) => match info.decrypt(alloc, password) {
-                Ok(text) => Self::from_pkcs8_der(alloc, text.as_bytes()),
-                Err(e) => Err(e),
-            },
+            Ok(info) => {
+                let text = info.decrypt(alloc, password)?;
+                Self::from_pkcs8_der(alloc, text.as_bytes())
+            }
+            // No `?` here: the prover has no rule for it where the value borrows the octets.
             Err(e) => Err(e),
         }
     }

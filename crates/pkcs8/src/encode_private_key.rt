@@ -50,10 +50,8 @@ pub trait EncodePrivateKey {
             (D.left draw.old) 32) password.now m e)) }
         ensures count { D.faults draw.old ≤ D.faults draw.new }
     {
-        match self.to_pkcs8_der(alloc) {
-            Ok(document) => seal_drawn(alloc, draw, password, document.as_bytes()),
-            Err(e) => Err(e),
-        }
+        let document = self.to_pkcs8_der(alloc)?;
+        seal_drawn(alloc, draw, password, document.as_bytes())
     }
 
     /// Writes the key into this file, as a PrivateKeyInfo in DER. Refusals as in `to_pkcs8_der`, and `Asn1(File)`
@@ -62,13 +60,9 @@ pub trait EncodePrivateKey {
         ensures ok { OnOk result ((b : List ℕ) × text self.now b) }
         ensures err { IfErr result (λ e. refuses self.now e ⊎ (e ≡ Asn1 below.File)) }
     {
-        match self.to_pkcs8_der(alloc) {
-            Ok(document) => match document.write_der_file(rt, path) {
-                Ok(()) => Ok(()),
-                Err(e) => Err(Error::from(e)),
-            },
-            Err(e) => Err(e),
-        }
+        let document = self.to_pkcs8_der(alloc)?;
+        document.write_der_file(rt, path)?;
+        Ok(())
     }
 }
 

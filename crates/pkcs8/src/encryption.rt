@@ -7,7 +7,7 @@ ghost use Rattle.pkcs5.specs.Kinds.{IsDes, key_size};
 ghost use Rattle.pkcs5.specs.Opening.{FitsKey, key_under};
 ghost use Rattle.pkcs5.specs.declared.encryption_scheme.EncryptionScheme.TheVariants.{Pbes2};
 ghost use Rattle.pkcs8.specs.EncryptedPrivateKeyInfo.{encrypted_key_text};
-ghost use Rattle.pkcs8.specs.Sealing.{IsSealed, RefusesToEncryptDrawn, RefusesToEncryptKey, RefusesToSeal, RefusesToSealDrawn};
+ghost use Rattle.pkcs8.specs.Sealing.{IsSealed, RefusesToEncryptDrawn, RefusesToEncryptKey, RefusesToEncryptUnder, RefusesToSeal, RefusesToSealDrawn, RefusesToSealUnder};
 
 use crate::bit_string_like::BitStringLike;
 use crate::encrypted_private_key_info::EncryptedPrivateKeyInfo;
@@ -29,10 +29,7 @@ fn document_of(
     ensures err { IfErr result (λ e. Cause ⊥ (IsOverlong (length (encrypted_key_text
         (Pbes2 parameters) ciphertext.now))) (Unit {0}) None 0 0 0 e) }
 {
-    let encrypted_data = match OctetStringRef::new(ciphertext) {
-        Ok(encrypted_data) => encrypted_data,
-        Err(e) => return Err(e),
-    };
+    let encrypted_data = OctetStringRef::new(ciphertext)?;
     let info = EncryptedPrivateKeyInfo {
         encryption_algorithm: EncryptionScheme::Pbes2(parameters),
         encrypted_data,
@@ -42,6 +39,7 @@ fn document_of(
         Ok(document) => Ok(document),
         // Its text is that of a SEQUENCE, which is none only where it is too long.
         Err(asn1_core::Error::Malformed) => Err(asn1_core::Error::Overlength),
+        // Only the error above changes, so this is no `?`.
         Err(e) => Err(e),
     }
 }
@@ -81,6 +79,7 @@ fn seal_under_key(
     ensures other_than_des { OnOk result (¬ IsDes parameters.encryption) }
     ensures err { IfErr result (λ e. (q : List ℕ) → FitsKey parameters
         → key.now ≡ key_under parameters q → RefusesToSeal parameters q text.now e) }
+    ensures refused { IfErr result (RefusesToSealUnder parameters key.now text.now) }
 {
     let ciphertext = match parameters.encrypt_under_key(alloc, key, text) {
         Ok(ciphertext) => ciphertext,
@@ -199,12 +198,18 @@ impl<Params: Encode, Key: Encode, PubKey: BitStringLike> PrivateKeyInfo<Params, 
         }
     }
 
-    /// `encrypt_with_params` under a key that was derived already, as `pbes2::EncryptionKey::derive_each_pbkdf2_sha256`
-    /// derives several at once: the document is that of the password from which these parameters derive the key.
+    /// The private key as an EncryptedPrivateKeyInfo in DER (RFC 5958 section 3) with these parameters of PBES2,
+    /// encrypted under `key`, which was derived before: `pbes2::EncryptionKey::derive_each_pbkdf2_sha256` derives the
+    /// keys of several documents at once.
     ///
-    /// `Asn1(Malformed)` exactly where a part of the key has no text. Then `EncryptedPrivateKey` only where the cipher
-    /// is DES. `Asn1(Overlength)` only where the key's text or the document would have more than 2^32 - 1 octets. And
-    /// `Memory`. Caller: the derived key has the length of the cipher's keys.
+    /// Pass the key that `params` derive from a password (they derive none where they state another length than that of
+    /// the cipher's keys): the document then opens under that password, as one of `encrypt_with_params` does. Of the
+    /// document under any other key nothing is promised. Caller: `key` has the length of the cipher's keys.
+    ///
+    /// `Asn1(Malformed)` exactly where a part of the private key has no text. Then
+    /// `EncryptedPrivateKey(UnsupportedAlgorithm)` with the cipher's identifier exactly where the cipher is DES.
+    /// `Asn1(Overlength)` only where the text of the private key or the document would have more than 2^32 - 1
+    /// octets. And `Memory`.
     pub fn encrypt_with_key(
         &self,
         alloc: Global,
@@ -222,6 +227,9 @@ impl<Params: Encode, Key: Encode, PubKey: BitStringLike> PrivateKeyInfo<Params, 
             → key.now ≡ key_under params q → RefusesToEncryptKey
             (⟦<PrivateKeyInfo<Params, Key, PubKey> as Encode>⟧.writable self.now) params q
             (⟦<PrivateKeyInfo<Params, Key, PubKey> as Encode>⟧.canon self.now) e) }
+        ensures refused { IfErr result (RefusesToEncryptUnder
+            (⟦<PrivateKeyInfo<Params, Key, PubKey> as Encode>⟧.writable self.now) params key.now
+            (⟦<PrivateKeyInfo<Params, Key, PubKey> as Encode>⟧.canon self.now)) }
     {
         match self.to_der(alloc) {
             Ok(text) => seal_under_key(alloc, params, key, text.as_slice()),

@@ -29,10 +29,8 @@ impl<'a> DecodeValue<&'a [u8]> for Attributes {
     ghost text = { λ t. Skipped };
 
     fn decode_value<R: Reader<&'a [u8]>>(r: &mut R, header: Header) -> Result<Attributes, Error> {
-        match r.read_slice(header.length) {
-            Ok(_) => Ok(Attributes),
-            Err(e) => Err(e),
-        }
+        r.read_slice(header.length)?;
+        Ok(Attributes)
     }
 
     ghost exact = { λ t. skipped-exact };
@@ -63,10 +61,9 @@ impl<'a, PubKey: DecodeValue<&'a [u8]>> DecodeValue<&'a [u8]> for PublicKeyField
         r: &mut R,
         header: Header,
     ) -> Result<PublicKeyField<PubKey>, Error> {
-        match PubKey::decode_value(r, header) {
-            Ok(key) => Ok(PublicKeyField { key }),
-            Err(e) => Err(e),
-        }
+        Ok(PublicKeyField {
+            key: PubKey::decode_value(r, header)?,
+        })
     }
 
     ghost exact = { PubKey.exact };
@@ -94,10 +91,9 @@ pub fn read_public_key<'a, PubKey: DecodeValue<&'a [u8]>>(
     ensures { ReadsAs (option_at (λ t. t == 0x81) (within 0x81 (PubKey.value 0x81)))
         (seen_option PubKey.seen) r.old.rest.now r.new.rest.now result }
 {
-    match Option::<PublicKeyField<PubKey>>::decode(r) {
-        Ok(Some(field)) => Ok(Some(field.key)),
-        Ok(None) => Ok(None),
-        Err(e) => Err(e),
+    match Option::<PublicKeyField<PubKey>>::decode(r)? {
+        Some(field) => Ok(Some(field.key)),
+        None => Ok(None),
     }
 }
 

@@ -60,7 +60,8 @@ pub fn finish_96(state: &[u32x4; 8], words: &[u32x4; 8]) -> [u32x4; 8]
     compress(state, &last_block(words))
 }
 
-/// The xor of four pairs of hash values.
+/// The bitwise exclusive or of two hash values, for each of four messages: of `a` and `b` for message `j`, whose
+/// words are the elements `j` of the eight vectors.
 #[inline(always)]
 pub fn xor_words(a: &[u32x4; 8], b: &[u32x4; 8]) -> [u32x4; 8]
     ensures { (j : ℕ) → j < 4

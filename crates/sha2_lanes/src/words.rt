@@ -66,7 +66,9 @@ fn blocks_are_long(_block: [u8; 64])
     ensures { length _block ≡ 64 }
 {}
 
-/// The hash values after the first block of each of four messages.
+/// The hash values of four messages after their first blocks (FIPS 180-4 section 6.2.2). `blocks[j]` has the first
+/// 64 octets of message `j`. Each of the eight vectors of the result holds a word of the hash value for each
+/// message, that of message `j` as its element `j`.
 pub fn after_block(blocks: &[[u8; 64]; 4]) -> [u32x4; 8]
     ensures { (j : ℕ) → j < 4 → IsAfter (lane j result) (slice_index_or blocks.now j []) }
 {
@@ -96,7 +98,8 @@ fn lane_octets(words: &[u32x4; 8], j: usize) -> [u8; 32]
     ]
 }
 
-/// The octets of four hash values, 32 each.
+/// The octets of four hash values: 32 for each message, the highest octet of a word first. Element `j` is for the
+/// message whose words are the elements `j` of the eight vectors.
 pub fn to_octets(words: &[u32x4; 8]) -> [[u8; 32]; 4]
     ensures { result ≡ map (λ j. octets (lane j words.now)) (0 ∷ 1 ∷ 2 ∷ 3 ∷ []) }
 {
@@ -108,7 +111,8 @@ pub fn to_octets(words: &[u32x4; 8]) -> [[u8; 32]; 4]
     ]
 }
 
-/// Four hash values of these octets.
+/// The hash values that these octets spell, the highest octet of a word first. `texts[j]` has the 32 octets for
+/// message `j`, whose words are the elements `j` of the eight vectors of the result.
 pub fn from_octets(texts: &[[u8; 32]; 4]) -> [u32x4; 8]
     ensures { (j : ℕ) → j < 4 → octets (lane j result) ≡ slice_index_or texts.now j [] }
 {

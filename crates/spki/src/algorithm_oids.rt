@@ -113,10 +113,7 @@ impl<'a> AlgorithmIdentifierRef<'a> {
                 if parameters.is_null() {
                     return Ok((self.oid, None));
                 }
-                match element_oid(parameters) {
-                    Ok(oid) => Ok((self.oid, Some(oid))),
-                    Err(e) => Err(e),
-                }
+                Ok((self.oid, Some(element_oid(parameters)?)))
             }
         }
     }

@@ -32,13 +32,9 @@ pub trait EncodePublicKey {
         ensures ok { OnOk result ((b : List ℕ) × text self.now b) }
         ensures err { IfErr result (λ e. refuses self.now e ⊎ (e ≡ Asn1 below.File)) }
     {
-        match self.to_public_key_der(alloc) {
-            Ok(document) => match document.write_der_file(rt, path) {
-                Ok(()) => Ok(()),
-                Err(e) => Err(Error::from(e)),
-            },
-            Err(e) => Err(e),
-        }
+        let document = self.to_public_key_der(alloc)?;
+        document.write_der_file(rt, path)?;
+        Ok(())
     }
 }
 
@@ -55,9 +51,7 @@ impl SubjectPublicKeyInfoOwned {
             ⊎ ((b : List ℕ) × T.text source.now b × (e ≡ Asn1 below.Malformed)
             × IsNone IsPublicKey b)) }
     {
-        match source.to_public_key_der(alloc) {
-            Ok(document) => SubjectPublicKeyInfoOwned::from_der(alloc, document.as_bytes()),
-            Err(e) => Err(e),
-        }
+        let document = source.to_public_key_der(alloc)?;
+        SubjectPublicKeyInfoOwned::from_der(alloc, document.as_bytes())
     }
 }

@@ -44,10 +44,8 @@ fn digest_of<T: Encode>(value: &T) -> std::result::Result<FingerprintBytes, asn1
         (IsOverlong (length (T.canon value.now))) ⊥ None 0 0 0 e) }
 {
     let mut hasher = Sha256::new();
-    match feed(value, &mut hasher) {
-        Ok(()) => Ok(hasher.finalize()),
-        Err(e) => Err(e),
-    }
+    feed(value, &mut hasher)?;
+    Ok(hasher.finalize())
 }
 
 impl<Params: Encode, Key: Encode> SubjectPublicKeyInfo<Params, Key> {

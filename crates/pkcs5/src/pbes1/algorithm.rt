@@ -48,13 +48,11 @@ pub(crate) fn algorithm_with(
     let Ok(encryption) = EncryptionScheme::try_from(oid) else {
         return Err(Error::Malformed);
     };
-    match Parameters::try_from(*parameters) {
-        Ok(parameters) => Ok(Algorithm {
-            encryption,
-            parameters,
-        }),
-        Err(e) => Err(e),
-    }
+    let parameters = Parameters::try_from(*parameters)?;
+    Ok(Algorithm {
+        encryption,
+        parameters,
+    })
 }
 
 impl TryFrom<AlgorithmIdentifierRef<'_>> for Algorithm {

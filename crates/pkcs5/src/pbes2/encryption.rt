@@ -27,11 +27,13 @@ fn growth(cipher: &EncryptionScheme, len: usize) -> usize
 }
 
 impl Parameters {
-    /// The ciphertext of a text under a key that was derived already (RFC 8018 section 6.2.1), in memory of its own, with
-    /// the length that it has in `encrypt`.
+    /// Encrypts `plaintext` with the cipher of these parameters under `key`, which was derived before (RFC 8018
+    /// section 6.2.1), and returns the ciphertext in memory of its own. Where `key` is the one that these
+    /// parameters derive from a password, the ciphertext opens under that password. Its length is that of a
+    /// ciphertext of `encrypt`. Caller: `key` has the length of the cipher's keys.
     ///
-    /// `UnsupportedAlgorithm` with the cipher's identifier exactly where it is DES; and `Memory`. Caller: the key has the
-    /// length of the cipher's keys.
+    /// `UnsupportedAlgorithm` with the cipher's identifier exactly where the cipher is DES; the other error is
+    /// `Memory`.
     pub fn encrypt_under_key(
         &self,
         alloc: Global,

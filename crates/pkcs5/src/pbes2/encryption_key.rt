@@ -1,5 +1,5 @@
 //! Keys that are derived from passwords.
-ghost use Rattle.std.specs.Prelude.{◌≡◌, ◌+◌, ◌*◌, ◌/◌, ◌≤◌, ◌<◌, ◌^◌, ◌++◌, length, map, take, IfOk, IfErr, OnOk, OnErr};
+ghost use Rattle.std.specs.Prelude.{◌≡◌, ◌+◌, ◌*◌, ◌/◌, ◌≤◌, ◌<◌, ◌^◌, ◌++◌, length, map, take, All, IfOk, IfErr, OnOk, OnErr};
 ghost use Rattle.pkcs5.specs.Error.{InvalidOf};
 ghost use Rattle.pkcs5.specs.Generation.{pbkdf2_sha256};
 ghost use Rattle.pkcs5.specs.Kinds as cipher;
@@ -214,9 +214,11 @@ fn derive_in_fours(
 }
 
 impl EncryptionKey {
-    /// The keys of 32 octets that PBKDF2 with HMAC-SHA-256 derives from a password and each of these salts, in this
-    /// number of rounds (RFC 8018 section 5.2): each is the key of a cipher with such keys, as AES-256, under the
-    /// parameters that have this salt. Four are derived in about the time of two. The only refusal is `Memory`.
+    /// Derives one key of 32 octets from the password with each of `salts`, by PBKDF2 with HMAC-SHA-256 (RFC 8018
+    /// section 5.2), and returns the keys in the order of the salts. `rounds` is the iteration count. Such a key is
+    /// for a cipher whose keys have 32 octets, as AES-256, with parameters that state its salt and these rounds.
+    ///
+    /// Four keys are derived in about the time of two one after the other. The only error is `Memory`.
     pub fn derive_each_pbkdf2_sha256(
         alloc: Global,
         password: &[u8],
@@ -226,6 +228,7 @@ impl EncryptionKey {
         ensures ok { IfOk result (λ keys. (scheme : EncryptionScheme)
             → cipher.key_size scheme ≡ 32 → keys
             ≡ map (λ salt. key_under (pbkdf2_sha256 rounds salt scheme) password.now) salts.now) }
+        ensures length { IfOk result (All (λ key. length key ≡ 32)) }
         ensures err { IfErr result (λ e. e ≡ Error.Memory) }
     {
         let mut keys = derive_in_fours(alloc, password, salts, rounds)?;

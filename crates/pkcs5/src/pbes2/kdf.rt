@@ -132,16 +132,10 @@ fn kdf_with(oid: ObjectIdentifier, parameters: &AnyRef<'_>) -> Result<Kdf, Error
     ensures { Gives (λ k. k) result (kdf_with oid (borrowed_any parameters.now)) }
 {
     if oid == PBKDF2_OID {
-        return match Pbkdf2Params::try_from(*parameters) {
-            Ok(params) => Ok(Kdf::Pbkdf2(params)),
-            Err(e) => Err(e),
-        };
+        return Ok(Kdf::Pbkdf2(Pbkdf2Params::try_from(*parameters)?));
     }
     if oid == SCRYPT_OID {
-        return match ScryptParams::try_from(*parameters) {
-            Ok(params) => Ok(Kdf::Scrypt(params)),
-            Err(e) => Err(e),
-        };
+        return Ok(Kdf::Scrypt(ScryptParams::try_from(*parameters)?));
     }
     Err(Error::OidUnknown { oid })
 }

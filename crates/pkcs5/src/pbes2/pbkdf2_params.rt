@@ -4,7 +4,7 @@ ghost use Rattle.asn1_core.specs.Gives.{Gives};
 ghost use Rattle.spki.specs.Seen.{borrowed_any};
 ghost use Rattle.pkcs5.specs.Error.{InvalidOf};
 ghost use Rattle.pkcs5.specs.Identifiers.{pbkdf2_oid};
-ghost use Rattle.pkcs5.specs.Pbkdf2Params.{pbkdf2_params, Pbkdf2ParamsOf, stated_prf, pbkdf2_params_content, ArePbkdf2Params, SpellsPbkdf2Params};
+ghost use Rattle.pkcs5.specs.Pbkdf2Params.{pbkdf2_params, Pbkdf2ParamsOf, pbkdf2_params_content, ArePbkdf2Params, SpellsPbkdf2Params};
 ghost use Rattle.pkcs5.specs.Pbkdf2ParamsLaws.{pbkdf2_params_of-exact, pbkdf2_params_canonical, pbkdf2_params_spelled};
 ghost use Rattle.pkcs5.specs.SameLaws.{pbkdf2_params_same};
 ghost use Rattle.pkcs5.specs.declared.pbes2.pbkdf2_params.Pbkdf2Params.{Pbkdf2Params};
@@ -79,18 +79,6 @@ impl Pbkdf2Params {
                 prf: Pbkdf2Prf::HmacWithSha256,
             }),
             Err(_) => Err(invalid()),
-        }
-    }
-}
-
-impl Pbkdf2Prf {
-    /// The function where it is written: HMAC over SHA-1 is left out of parameters, which then name none.
-    fn stated(self) -> Option<Pbkdf2Prf>
-        ensures { result ≡ stated_prf self }
-    {
-        match self {
-            Pbkdf2Prf::HmacWithSha1 => None,
-            other => Some(other),
         }
     }
 }

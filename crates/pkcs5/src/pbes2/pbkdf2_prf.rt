@@ -6,6 +6,7 @@ ghost use Rattle.asn1_core.specs.Reading.{UnknownOid, known};
 ghost use Rattle.asn1_core.specs.Texts.{seen_option};
 ghost use Rattle.spki.specs.Seen.{borrowed_any, borrowed_algorithm};
 ghost use Rattle.pkcs5.specs.Kinds.{prf_oid};
+ghost use Rattle.pkcs5.specs.Pbkdf2Params.{stated_prf};
 ghost use Rattle.pkcs5.specs.Pbkdf2Prf.{PrfOf, prf_content, SpellsPrf};
 ghost use Rattle.pkcs5.specs.PrfLaws.{prf_of-exact, prf_canonical, prf_spelled};
 ghost use Rattle.pkcs5.specs.SameLaws.{prf_same};
@@ -51,6 +52,16 @@ impl Pbkdf2Prf {
             Self::HmacWithSha512 => HMAC_WITH_SHA512_OID,
         }
     }
+
+    /// The function where it is written: HMAC over SHA-1 is left out of parameters, which then name none.
+    pub(crate) fn stated(self) -> Option<Pbkdf2Prf>
+        ensures { result ≡ stated_prf self }
+    {
+        match self {
+            Pbkdf2Prf::HmacWithSha1 => None,
+            other => Some(other),
+        }
+    }
 }
 
 impl Default for Pbkdf2Prf {
@@ -87,13 +98,10 @@ fn prf_named(oid: ObjectIdentifier) -> Result<Pbkdf2Prf, Error>
 fn expect_null(parameters: &Option<AnyRef<'_>>) -> Result<(), Error>
     ensures { Gives (λ u. u) result (null_or_none (seen_option borrowed_any parameters.now)) }
 {
-    match parameters {
-        Some(parameters) => match parameters.decode_as::<Null>() {
-            Ok(_) => Ok(()),
-            Err(e) => Err(e),
-        },
-        None => Ok(()),
+    if let Some(parameters) = parameters {
+        parameters.decode_as::<Null>()?;
     }
+    Ok(())
 }
 
 impl TryFrom<AlgorithmIdentifierRef<'_>> for Pbkdf2Prf {

@@ -1,4 +1,4 @@
-use Rattle.std.proofs.Common.{ℕ, ap, ◌≡◌, ◌∙◌, ◌*◌, ◌+◌, ◌/◌, ◌%◌, List, [], get_or, length, slice_index, arith}
+use Rattle.std.proofs.Common.{ℕ, ap, ◌≡◌, ◌∙◌, ◌*◌, ◌+◌, ◌/◌, ◌%◌, [], get_or, length, slice_index, arith}
 use Rattle.hex.proofs.HexLemmas.{decode_of-even}
 use Rattle.hex.proofs.Pairs.{decode_done, decode_step}
 use Rattle.frame.proofs.Encoded.{known_as, pair_octet, pair_of}

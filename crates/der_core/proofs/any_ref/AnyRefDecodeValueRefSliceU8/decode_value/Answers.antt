@@ -3,5 +3,5 @@ use Rattle.der_core.proofs.any_ref.AnyRefDecodeValueRefSliceU8.decode_value.Goal
 
 pub invariant_of-result : goal.invariant_of-result
 invariant_of-result g c =
-    let s = slice_found c.args.header.length.value (g.R.Reader.left c.args.r.now) c.in-Ok.value.now _ c.in-Ok.ensures.read in
+    let s = slice_found c.args.header.length.value (g.R.Reader.left c.args.r.now) c.in_ok-value.value.now _ c.in_ok-value.ensures.read in
     record { short = rw s.1 c.args.header.short }
