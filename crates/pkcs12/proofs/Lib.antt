@@ -1,1 +1,2 @@
+mod CertificateParts
 mod Places

@@ -1,3 +1,4 @@
+pub mod Certificates
 pub mod Ending
 pub mod Exports
 pub mod Origin

@@ -142,6 +142,7 @@ impl<'a> Certificates<'a> {
         else {
             return Ok(None);
         };
+        // Of what the table takes the parts are read: laws::certificates_have_parts.
         let Ok(parts) = Parts::read(octets) else {
             return Ok(None);
         };

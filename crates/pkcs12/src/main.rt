@@ -21,6 +21,7 @@ mod input;
 mod inspection;
 mod io_advice;
 mod json;
+mod laws;
 mod list;
 mod listed;
 mod listed_json;
