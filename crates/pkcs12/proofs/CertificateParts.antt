@@ -44,11 +44,44 @@ signed_there b c (q, (v, r1, o, version, (n, r2, serial, number, (a, r3, alg, al
     let ver = version_there v o version in
     let w2 = tagged_inside 0x30 w validity valid in
     let times = validity_there w2.0 in
-    let names = key_same issuer subject r6 c rest in
-    (certificate_parts serial issuer times.0 subject,
-     (q, (v, r1, ver.0, ver.1, (n, r2, serial, number.0, (a, r3, algorithm.0, (algorithm.0, refl, algorithm.2), (i, r4, issuer, issued.0,
-         (w, r5, times.0, (w2.0, times.1, w2.1.2 ∙ ap (λ (x : List ℕ). el 0x30 x) (sym w2.1.1)), (s, r6, subject, subjected.0, refl, is6), is5), is4), is3), is2), is1), is),
-     sym names.0, sym names.1)
+    let names = key_same issuer subject r6 c rest in (
+      certificate_parts serial issuer times.0 subject,
+      (
+        q,
+        (
+          v,
+          r1,
+          ver.0,
+          ver.1,
+          (
+            n,
+            r2,
+            serial,
+            number.0,
+            (
+              a,
+              r3,
+              algorithm.0,
+              (algorithm.0, refl, algorithm.2),
+              (
+                i,
+                r4,
+                issuer,
+                issued.0,
+                (w, r5, times.0, (w2.0, times.1, w2.1.2 ∙ ap (λ (x : List ℕ). el 0x30 x) (sym w2.1.1)), (s, r6, subject, subjected.0, refl, is6), is5),
+                is4,
+              ),
+              is3,
+            ),
+            is2,
+          ),
+          is1,
+        ),
+        is,
+      ),
+      sym names.0,
+      sym names.1,
+    )
 
 certificate_same : (b : List ℕ) (c : Certificate) → IsCertificate b c → (p : List ℕ) × (x : List ℕ) × (y : List ℕ) × SignedText x c × (p ≡ x ++ y) × (b ≡ el 0x30 p)
 certificate_same b c ((p, (x, y, d, signed, (x', y', o', h', (x'', y'', o'', h'', e, is''), is'), is), is_el), short) =

@@ -75,9 +75,9 @@ shown_each f h (c ∷ cs) = shown_append (f c) (flat_map f cs) (h c) (shown_each
 
 glyph_plain : (d : ℕ) → d < 16 → is_plain (digit_glyph false d) ≡ true
 glyph_plain d h = elim (cases_lt d 10) [
-    | inl low ↦ grind (arith, low)
-    | inr high ↦ grind (arith, high)
-  ]
+  | inl low ↦ grind (arith, low)
+  | inr high ↦ grind (arith, high)
+]
 
 either_plain : (first : Bool) (xs ys : List ℕ) → list_all is_plain xs ≡ true → list_all is_plain ys ≡ true → list_all is_plain (cond first xs ys) ≡ true
 either_plain true xs ys h k = h
@@ -134,8 +134,7 @@ shown_count text = shown_told (nat_lt 200 (length (chars text))) (length (chars 
 pub printed_is_shown : PrintedIsShown
 printed_is_shown text =
     let mark = shown_plain (codes "\"") refl in
-    let count = shown_count text in
-    (
+    let count = shown_count text in (
       shown_append (printed_front false text) (printed_count text) (shown_front false text) count,
       shown_append (codes "\"" ++ printed_front true text ++ codes "\"") (printed_count text)
           (shown_append (codes "\"" ++ printed_front true text) (codes "\"") (shown_append (codes "\"") (printed_front true text) mark (shown_front true text)) mark)
