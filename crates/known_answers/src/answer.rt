@@ -200,10 +200,7 @@ fn scrypt_key(alloc: Global, words: &[Octets]) -> Result<Octets, Refused>
 fn rewritten(alloc: Global, text: &str) -> Result<Text, phc_core::Error>
     ensures { IfOk result (λ t. IsRewritten text.now t) }
 {
-    match PasswordHash::new(text) {
-        Ok(hash) => hash.to_text(alloc),
-        Err(e) => Err(e),
-    }
+    PasswordHash::new(text)?.to_text(alloc)
 }
 
 /// The text of the value that a PHC string has: the string.
@@ -226,10 +223,8 @@ fn string_written(alloc: Global, words: &[Octets]) -> Result<Octets, Refused>
 fn tested(password: &[u8], text: &str) -> Result<(), phc_core::Error>
     ensures { OnOk result ((hash : PasswordHash) × Phc text.now hash × Agrees password.now hash) }
 {
-    match PasswordHash::new(text) {
-        Ok(hash) => Pbkdf2::SHA256.verify_password(password, &hash),
-        Err(e) => Err(e),
-    }
+    let hash = PasswordHash::new(text)?;
+    Pbkdf2::SHA256.verify_password(password, &hash)
 }
 
 /// The octet 1, where a password is that of a PHC string: password, string.

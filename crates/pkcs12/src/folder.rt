@@ -159,13 +159,14 @@ fn is_unsupported(error: &io::Error) -> bool {
     )
 }
 
-/// Brings the entries of a folder to the disk, where its file system and mode allow that.
+/// Brings the entries of a folder to the disk.
+fn sync<R: Files>(rt: &R, path: &str) -> io::Result<()> {
+    fs::open(rt, path)?.sync_all()
+}
+
+/// The same, as far as the file system and the mode of the folder allow it.
 pub fn sync_folder<R: Files>(rt: &R, path: &str) -> io::Result<()> {
-    let synced = match fs::open(rt, path) {
-        Ok(folder) => folder.sync_all(),
-        Err(error) => Err(error),
-    };
-    match synced {
+    match sync(rt, path) {
         Err(error) if is_unsupported(&error) => Ok(()),
         synced => synced,
     }

@@ -11,11 +11,11 @@ use crate::progress::{Progress, end_progress};
 use asn1_core::Octets;
 use mac_modes::{DrawnBytes, ReadDraw};
 use std::alloc::Global;
-use std::fs;
 use std::io::Read;
 use std::marker::Brand;
 use std::rt::Files;
 use std::sync::ledger::{Blank, Ledger};
+use std::{fs, io};
 use steps::Steps;
 use transfer::{Opened, TransferError, Transferred, open_store, seal_opened};
 
@@ -27,18 +27,21 @@ const STORE_OCTETS: u64 = 16_777_216;
 
 /// The octets of the store: those of a file, or of the standard input for `-`. No more than
 /// 16,777,216 are read.
-pub fn read_store<R: Files + Input + AllocGlobal>(rt: &R, store: &str) -> Result<Vec<u8>, Failure> {
+fn store_octets<R: Files + Input + AllocGlobal>(rt: &R, store: &str) -> io::Result<Vec<u8>> {
     let mut octets = Vec::new(rt.alloc());
-    let read = if store == "-" {
-        rt.reader().take(STORE_OCTETS).read_to_end(&mut octets)
+    if store == "-" {
+        rt.reader().take(STORE_OCTETS).read_to_end(&mut octets)?;
     } else {
-        match fs::open(rt, store) {
-            Ok(file) => file.take(STORE_OCTETS).read_to_end(&mut octets),
-            Err(error) => Err(error),
-        }
-    };
-    match read {
-        Ok(_) => Ok(octets),
+        let file = fs::open(rt, store)?;
+        file.take(STORE_OCTETS).read_to_end(&mut octets)?;
+    }
+    Ok(octets)
+}
+
+/// The same; `ReadFault` where they cannot be read.
+pub fn read_store<R: Files + Input + AllocGlobal>(rt: &R, store: &str) -> Result<Vec<u8>, Failure> {
+    match store_octets(rt, store) {
+        Ok(octets) => Ok(octets),
         Err(error) => Err(Failure::io(rt.alloc(), Ending::ReadFault, "the store", store, error)),
     }
 }

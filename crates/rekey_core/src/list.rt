@@ -55,6 +55,7 @@ pub fn rekey_all<D: Draw, L: Ledger>(
     };
     let mut old = first;
     for password in others {
+        // The proofs name both outcomes of this call.
         match rekey(
             alloc,
             changed.as_slice(),

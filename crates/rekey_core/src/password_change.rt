@@ -94,6 +94,7 @@ fn sealed_text(
     };
     let contents = seal_contents(alloc, contents, bags, &mut supply, new)?;
     let salt = supply.next_drawn(MAC_SALT);
+    // The proofs name both outcomes of this call.
     match store_text(
         alloc,
         outer.version,
@@ -152,6 +153,7 @@ pub fn rekey<D: Draw, L: Ledger>(
     ensures last { D.faults draw.old < D.faults draw.new → IsErrOf result TransferError.Rng }
     ensures at_most { (steps.old ≤ steps.new) × (steps.new ≤ steps.old + limit) }
 {
+    // The proofs name both outcomes of the calls here.
     let opened = match open_store(alloc, store, old, limit, steps) {
         Ok(opened) => opened,
         Err(e) => return Err(e),
