@@ -13,6 +13,7 @@ pub(crate) fn read_line(alloc: Global, text: Vec<u8>) -> Result<Octets, TextErro
     ensures found { IfOk result (λ store. IsLine text.items store) }
     ensures cause { IfErr result (λ e. MalformedOnly e (IsNoLine text.items)) }
 {
+    // The proofs name both outcomes of this call.
     let spelled = match read_text(alloc, text) {
         Ok(spelled) => spelled,
         Err(e) => return Err(e),

@@ -30,6 +30,7 @@ pub(crate) fn lines_of<L: Ledger>(
     ensures exact { IsDecided store.now password.now limit result }
     ensures at_most { (steps.old ≤ steps.new) × (steps.new ≤ steps.old + limit) }
 {
+    // The proofs name both outcomes of this call.
     let opened = match open_store(alloc, store, password, limit, steps) {
         Ok(opened) => opened,
         Err(e) => return Err(e),
@@ -78,6 +79,7 @@ pub fn inventory<L: Ledger>(
     ensures exact { IsDecided store.now password.now limit result }
     ensures at_most { (steps.old ≤ steps.new) × (steps.new ≤ steps.old + limit) }
 {
+    // The proofs name both outcomes of this call.
     let lines = match lines_of(alloc, store, password, limit, steps) {
         Ok(lines) => lines,
         Err(e) => return Err(e),
