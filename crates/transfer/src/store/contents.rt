@@ -55,18 +55,14 @@ fn open_content<L: Ledger>(
     ensures at_most { TakesWithin budget.old steps.old steps.new }
 {
     match content {
-        ContentView::Plain { content, at } => match check_bags(content) {
-            Ok(()) => Ok(*at),
-            Err(e) => Err(e),
-        },
+        ContentView::Plain { content, at } => {
+            check_bags(content)?;
+            Ok(*at)
+        }
         ContentView::Encrypted { algorithm, at, .. } => {
-            match open_lock(alloc, algorithm, *at, text, password, budget, steps) {
-                Ok(plain) => match check_bags(&text[plain.start..plain.start + plain.len]) {
-                    Ok(()) => Ok(plain),
-                    Err(e) => Err(e),
-                },
-                Err(e) => Err(e),
-            }
+            let plain = open_lock(alloc, algorithm, *at, text, password, budget, steps)?;
+            check_bags(&text[plain.start..plain.start + plain.len])?;
+            Ok(plain)
         }
         ContentView::Other { .. } => Err(TransferError::Unsupported),
     }
@@ -98,10 +94,8 @@ pub(crate) fn open_contents<L: Ledger>(
 {
     let mut places = Items::new(alloc);
     while let Some(content) = contents.next() {
-        match open_content(alloc, &content, text, password, budget, steps) {
-            Ok(place) => places.push(place)?,
-            Err(e) => return Err(e),
-        }
+        let place = open_content(alloc, &content, text, password, budget, steps)?;
+        places.push(place)?;
     }
     Ok(places)
 }

@@ -44,12 +44,10 @@ fn open_key<'a, L: Ledger>(
     ensures at_most { TakesWithin budget.old steps.old steps.new }
 {
     let view = algorithm.view();
-    match open_front(alloc, &view, octets, password, budget, steps) {
-        Ok(len) => match opened_key(&octets[..len]) {
-            Some(key) => Ok(key),
-            None => Err(TransferError::KeyMalformed),
-        },
-        Err(e) => Err(e),
+    let len = open_front(alloc, &view, octets, password, budget, steps)?;
+    match opened_key(&octets[..len]) {
+        Some(key) => Ok(key),
+        None => Err(TransferError::KeyMalformed),
     }
 }
 
@@ -83,10 +81,8 @@ fn open_locks<'a, L: Ledger>(
     while let Some((lock, behind)) = rest.split_first() {
         let (_, from) = left.split_at_mut(lock.at.start - passed);
         let (octets, further) = from.split_at_mut(lock.at.len);
-        match open_key(alloc, &lock.algorithm, octets, password, budget, steps) {
-            Ok(key) => keys.push(key)?,
-            Err(e) => return Err(e),
-        }
+        let key = open_key(alloc, &lock.algorithm, octets, password, budget, steps)?;
+        keys.push(key)?;
         passed = lock.at.start + lock.at.len;
         left = further;
         rest = behind;

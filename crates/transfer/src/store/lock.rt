@@ -43,10 +43,7 @@ pub(crate) fn open_front<L: Ledger>(
     if algorithm.count() == 0 {
         return Err(TransferError::ZeroIterations);
     }
-    match budget.share(algorithm.cost()) {
-        Ok(()) => {}
-        Err(e) => return Err(e),
-    }
+    budget.share(algorithm.cost())?;
     match algorithm.decrypt_in_place_counted(alloc, password, text, steps) {
         Ok(Some(len)) => Ok(len),
         Ok(None) => Err(TransferError::DecryptFailed),
@@ -82,8 +79,6 @@ pub(crate) fn open_lock<L: Ledger>(
     let start = at.start;
     let end = start + at.len;
     let part = &mut text[start..end];
-    match open_front(alloc, algorithm, part, password, budget, steps) {
-        Ok(len) => Ok(Place { start, len }),
-        Err(e) => Err(e),
-    }
+    let len = open_front(alloc, algorithm, part, password, budget, steps)?;
+    Ok(Place { start, len })
 }

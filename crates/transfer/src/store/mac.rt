@@ -72,10 +72,7 @@ pub(crate) fn check_mac<L: Ledger>(
         return Err(TransferError::ZeroIterations);
     }
     let mut budget = Budget::new(limit);
-    match budget.share(u128::from(mac.iterations)) {
-        Ok(()) => {}
-        Err(e) => return Err(e),
-    }
+    budget.share(u128::from(mac.iterations))?;
     if !verify_mac(alloc, mac, text, password, steps)? {
         return Err(TransferError::MacMismatch);
     }

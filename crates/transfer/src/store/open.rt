@@ -50,24 +50,19 @@ fn open_text<L: Ledger>(
         steps.new) }
     ensures at_most { (steps.old ≤ steps.new) × (steps.new ≤ steps.old + limit) }
 {
-    let mut budget = match check_mac(alloc, mac, text, password, limit, steps) {
-        Ok(budget) => budget,
-        Err(e) => return Err(e),
-    };
+    let mut budget = check_mac(alloc, mac, text, password, limit, steps)?;
     let contents = match ContentsView::parse(text) {
         Ok(contents) => contents,
         Err(_) => return Err(TransferError::ContentMalformed),
     };
     let mut copy = Octets::from_slice(alloc, text)?;
     let whole = copy.as_mut_slice();
-    match open_contents(alloc, contents, whole, password, &mut budget, steps) {
-        Ok(places) => Ok(OpenedContents {
-            text: copy,
-            places,
-            budget,
-        }),
-        Err(e) => Err(e),
-    }
+    let places = open_contents(alloc, contents, whole, password, &mut budget, steps)?;
+    Ok(OpenedContents {
+        text: copy,
+        places,
+        budget,
+    })
 }
 
 /// Opens the contents of a store.

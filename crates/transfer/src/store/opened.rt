@@ -76,10 +76,7 @@ pub fn open_store<L: Ledger>(
     ensures exact { IsDecided store.now password.now limit result }
     ensures at_most { (steps.old ≤ steps.new) × (steps.new ≤ steps.old + limit) }
 {
-    let opened = match open_parts(alloc, store, password, limit, steps) {
-        Ok(opened) => opened,
-        Err(e) => return Err(e),
-    };
+    let opened = open_parts(alloc, store, password, limit, steps)?;
     let OpenedContents {
         mut text,
         places,
@@ -87,10 +84,7 @@ pub fn open_store<L: Ledger>(
     } = opened;
     let places = places.as_slice();
     let contents = bags_of(alloc, text.as_slice(), places)?;
-    let keys = match open_keys(alloc, &mut text, places, password, &mut budget, steps) {
-        Ok(keys) => keys,
-        Err(e) => return Err(e),
-    };
-    let keys = copies_of(alloc, keys.as_slice())?;
+    let opened_keys = open_keys(alloc, &mut text, places, password, &mut budget, steps)?;
+    let keys = copies_of(alloc, opened_keys.as_slice())?;
     Ok(Opened { contents, keys })
 }

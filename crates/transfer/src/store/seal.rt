@@ -86,6 +86,7 @@ fn draw_all<D: Draw>(
 {
     let mut drawn = Items::new(alloc);
     for _place in 0..number {
+        // The search proves the loop in this form alone.
         match draw_one(draw) {
             Ok(one) => drawn.push(one)?,
             Err(e) => return Err(e),

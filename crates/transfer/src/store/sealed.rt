@@ -91,11 +91,9 @@ pub fn seal_opened<D: Draw>(
 {
     let certificates = x509_among(alloc, opened.contents.as_slice())?;
     let keys = read_keys(alloc, opened.keys.as_slice())?;
-    match seal_all(alloc, keys.as_slice(), new_password, rounds, draw) {
-        Ok(documents) => Ok(Transferred {
-            certificates,
-            documents,
-        }),
-        Err(e) => Err(e),
-    }
+    let documents = seal_all(alloc, keys.as_slice(), new_password, rounds, draw)?;
+    Ok(Transferred {
+        certificates,
+        documents,
+    })
 }

@@ -80,10 +80,7 @@ pub fn transfer<D: Draw, L: Ledger>(
     ensures last { D.faults draw.old < D.faults draw.new → IsErrOf result TransferError.Rng }
     ensures at_most { (steps.old ≤ steps.new) × (steps.new ≤ steps.old + limit) }
 {
-    let opened = match open_parts(alloc, store, password, limit, steps) {
-        Ok(opened) => opened,
-        Err(e) => return Err(e),
-    };
+    let opened = open_parts(alloc, store, password, limit, steps)?;
     let OpenedContents {
         mut text,
         places,
@@ -91,15 +88,10 @@ pub fn transfer<D: Draw, L: Ledger>(
     } = opened;
     let places = places.as_slice();
     let certificates = certificates_of(alloc, text.as_slice(), places)?;
-    let keys = match open_keys(alloc, &mut text, places, password, &mut budget, steps) {
-        Ok(keys) => keys,
-        Err(e) => return Err(e),
-    };
-    match seal_all(alloc, keys.as_slice(), new_password, rounds, draw) {
-        Ok(documents) => Ok(Transferred {
-            certificates,
-            documents,
-        }),
-        Err(e) => Err(e),
-    }
+    let keys = open_keys(alloc, &mut text, places, password, &mut budget, steps)?;
+    let documents = seal_all(alloc, keys.as_slice(), new_password, rounds, draw)?;
+    Ok(Transferred {
+        certificates,
+        documents,
+    })
 }

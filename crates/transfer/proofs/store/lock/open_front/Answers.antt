@@ -20,5 +20,5 @@ returns-in-Ok-Some-clause-at_most g c = grind (arith, taken_most (seen_algorithm
 pub returns-in-Ok-None-clause-at_most : goal.returns-in-Ok-None-clause-at_most
 returns-in-Ok-None-clause-at_most g c = grind (arith, taken_most (seen_algorithm c.args.algorithm.now) c.args.text.now)
 
-pub returns-in-Err-decrypt_in_place_counted-clause-at_most : goal.returns-in-Err-decrypt_in_place_counted-clause-at_most
-returns-in-Err-decrypt_in_place_counted-clause-at_most g c = grind (arith, taken_most (seen_algorithm c.args.algorithm.now) c.args.text.now)
+pub returns-in-Err-clause-at_most : goal.returns-in-Err-clause-at_most
+returns-in-Err-clause-at_most g c = grind (arith, taken_most (seen_algorithm c.args.algorithm.now) c.args.text.now)

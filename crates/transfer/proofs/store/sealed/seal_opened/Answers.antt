@@ -8,8 +8,8 @@ use Rattle.transfer.proofs.store.sealed.seal_opened.Goals as goal
 pub seal_all-requires-clause-keys : goal.seal_all-requires-clause-keys
 seal_all-requires-clause-keys g c = subst (All IsOpenedKey) (sym c.as_slice-3.ensures) c.in_ok-keys.ensures.keys
 
-pub returns-in-Ok-clause-exact : goal.returns-in-Ok-clause-exact
-returns-in-Ok-clause-exact g c =
-    let s = c.in-Ok.ensures.sealed in
+pub returns-clause-exact : goal.returns-clause-exact
+returns-clause-exact g c =
+    let s = c.in_ok-documents.ensures.sealed in
     let same = ap texts_of c.as_slice-3.ensures ∙ c.in_ok-keys.ensures.texts ∙ c.as_slice-2.ensures in
     draws_ok _ _ _ (took_least _ _ s.drawn _ s.took (s.each_32 ∙ ap (λ (ks : List (List ℕ)). 32 * length ks) same))
