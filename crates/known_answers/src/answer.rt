@@ -200,7 +200,10 @@ fn scrypt_key(alloc: Global, words: &[Octets]) -> Result<Octets, Refused>
 fn rewritten(alloc: Global, text: &str) -> Result<Text, phc_core::Error>
     ensures { IfOk result (λ t. IsRewritten text.now t) }
 {
-    PasswordHash::new(text)?.to_text(alloc)
+    match PasswordHash::new(text) {
+        Ok(hash) => hash.to_text(alloc),
+        Err(e) => Err(e),
+    }
 }
 
 /// The text of the value that a PHC string has: the string.
@@ -223,8 +226,10 @@ fn string_written(alloc: Global, words: &[Octets]) -> Result<Octets, Refused>
 fn tested(password: &[u8], text: &str) -> Result<(), phc_core::Error>
     ensures { OnOk result ((hash : PasswordHash) × Phc text.now hash × Agrees password.now hash) }
 {
-    let hash = PasswordHash::new(text)?;
-    Pbkdf2::SHA256.verify_password(password, &hash)
+    match PasswordHash::new(text) {
+        Ok(hash) => Pbkdf2::SHA256.verify_password(password, &hash),
+        Err(e) => Err(e),
+    }
 }
 
 /// The octet 1, where a password is that of a PHC string: password, string.

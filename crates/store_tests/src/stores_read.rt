@@ -279,7 +279,10 @@ static ONE_CERTIFICATE: Held<'static> = Held {
 fn bags_of(alloc: Global, text: &[u8], password: &str) -> Result<Items<SafeBag>, Error>
     requires { length password.now < 2 ^ 57 }
 {
-    calls::store(alloc, text)?.bags(alloc, password)
+    match calls::store(alloc, text) {
+        Ok(store) => store.bags(alloc, password),
+        Err(e) => Err(e),
+    }
 }
 
 /// Whether there is one bag.
