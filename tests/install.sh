@@ -324,8 +324,12 @@ signal_while_installing() {
         if [ "$code" -eq 0 ]; then
             status 0 "$home/pkcs12" uninstall "$work/cut" || return 1
         fi
-        sleep 0.05
-        [ -z "$(find "$work/cut" -name '*.new-*' 2>/dev/null)" ] || return 1
+        tries=0
+        until [ -z "$(find "$work/cut" -name '*.new-*' 2>/dev/null)" ]; do
+            tries=$((tries + 1))
+            [ "$tries" -lt 100 ] || return 1
+            sleep 0.05
+        done
         status 0 "$home/pkcs12" install "$work/cut" && checks_a_store "$work/cut/bin/pkcs12" &&
             status 0 "$home/pkcs12" uninstall "$work/cut" && nothing_at "$work/cut" || return 1
     done
