@@ -19,17 +19,21 @@ LEFT_OUT = {"sample"}
 
 HEAD = """# What has to be believed
 
-The headline is the contract of `transfer::run`, the call that the program makes. This page has that contract, and each
-definition that it reaches, whole, with its comment: who believes these definitions and the tools believes the headline. The page
-is written by `tests/headline.py`, and `tests/headline.sh` fails where it is out of date.
+The headline is the contract of `transfer::run`, the call that the program makes. This page has
+that contract, and each definition that it reaches, whole, with its comment: who believes these
+definitions and the tools believes the headline. The page is written by `tests/headline.py`, and
+`tests/headline.sh` fails where it is out of date.
 
-Definitions are in the logic `antt` of the toolchain. `f : A → B` gives the type of `f`, and the lines after it its equations;
-`abbrev` and `unfoldable` begin a definition, `record` and `data` a type. `×` is "and", `⊎` is "or", `(x : A) × P` is "there is
-an x such that P", `(x : A) → P` is "for each x, P", `⊥` is false. A text of a standard is a list of octets, and octets are
-numbers below 256.
+Definitions are in the logic `antt` of the toolchain. `f : A → B` gives the type of `f`, and the
+lines after it its equations; `abbrev` and `unfoldable` begin a definition, `record` and `data` a
+type. `×` is "and", `⊎` is "or", `(x : A) × P` is "there is an x such that P", `(x : A) → P` is
+"for each x, P", `⊥` is false. A text of a standard is a list of octets, and octets are numbers
+below 256.
 """
 
 START = re.compile(r"(?:abbrev pub|unfoldable pub|abbrev|unfoldable|pub abbrev|pub record|record|pub data|data)\s+([^\s:({]+)")
+# a lemma that is in a file of definitions, and ends the definition before it
+LEMMA = re.compile(r"(?:pub )?[^\s:({-]\S* : ")
 WORD = re.compile(r"[A-Za-z_][\w'-]*(?:\.[A-Za-z_][\w'-]*)*")
 
 
@@ -43,8 +47,9 @@ class Module:
         for line in self.lines:
             self.bring_in(line.strip())
         starts = [(at, START.match(line).group(1)) for at, line in enumerate(self.lines) if START.match(line)]
-        for number, (at, name) in enumerate(starts):
-            end = starts[number + 1][0] if number + 1 < len(starts) else len(self.lines)
+        bounds = [at for at, line in enumerate(self.lines) if START.match(line) or LEMMA.match(line)] + [len(self.lines)]
+        for at, name in starts:
+            end = next(bound for bound in bounds if bound > at)
             while end > at and (not self.lines[end - 1].strip() or self.lines[end - 1].startswith("--")):
                 end -= 1
             while at > 0 and self.lines[at - 1].startswith("-- ") and not self.lines[at - 1].startswith("-- ----"):
@@ -113,7 +118,7 @@ def contract():
 
 
 def paragraph(text):
-    return textwrap.wrap(text, 120, break_long_words=False, break_on_hyphens=False) + [""]
+    return textwrap.wrap(text, 100, break_long_words=False, break_on_hyphens=False) + [""]
 
 
 def page():
@@ -142,7 +147,7 @@ def page():
         names = [name for name in module.spans if (path, name) in reached]
         text += [f"### {module.path}", ""]
         about = [line[3:] for line in module.lines[: next((i for i, l in enumerate(module.lines) if not l.startswith("--")), 0)]]
-        text += [" ".join(about), ""] if about else []
+        text += paragraph(" ".join(about)) if about else []
         text.append("```")
         for number, name in enumerate(names):
             lines = module.text(name)

@@ -5,11 +5,12 @@ use Rattle.asn1_core.specs.Identifier.{subs, AllUnder}
 
 -- ---- the grammar
 
--- list is the arcs of the identifier o: the first subidentifier is 40 times the first arc and the second arc, and each later
--- arc is a subidentifier (X.690 sections 8.19.4 and 8.19.5)
+-- list is the arcs of the identifier o: the first subidentifier is 40 times the first arc and the
+-- second arc, and each later arc is a subidentifier (X.690 sections 8.19.4 and 8.19.5)
 abbrev pub HasArcs : List ℕ → List ℕ → Type 0
 HasArcs o list =
-    (a : ℕ) × (b : ℕ) × (ns : List ℕ) × (list ≡ a ∷ b ∷ ns) × (a ≤ 2) × (a < 2 → b ≤ 39) × AllUnder (2 ^ 32) ((40 * a + b) ∷ ns) × (o ≡ subs ((40 * a + b) ∷ ns)) × (length o ≤ 39)
+    (a : ℕ) × (b : ℕ) × (ns : List ℕ) × (list ≡ a ∷ b ∷ ns) × (a ≤ 2) × (a < 2 → b ≤ 39)
+    × AllUnder (2 ^ 32) ((40 * a + b) ∷ ns) × (o ≡ subs ((40 * a + b) ∷ ns)) × (length o ≤ 39)
 
 -- no identifier has these arcs
 abbrev pub NoneHas : List ℕ → Type 0
@@ -27,12 +28,16 @@ IsText t o = (list : List ℕ) × HasArcs o list × (t ≡ arcs_text list)
 abbrev pub NoneReads : List ℕ → Type 0
 NoneReads t = (o : List ℕ) → IsText t o → ⊥
 
--- ---- the arcs, as they are read from octets; that they are the identifier's arcs, and no others are, is a law
+-- ---- the arcs, as they are read from octets; that they are the identifier's arcs, and no others
+-- are, is a law
 
 -- the subidentifiers; n is what the current one has so far, 0 where one begins
 unfoldable pub values : ℕ → List ℕ → List ℕ
 values n [] = []
-values n (b ∷ bs) = elim (nat_lt b 128) [ true ↦ (128 * n + b) ∷ values 0 bs | false ↦ values (128 * n + (b - 128)) bs ]
+values n (b ∷ bs) = elim (nat_lt b 128) [
+  | true ↦ (128 * n + b) ∷ values 0 bs
+  | false ↦ values (128 * n + (b - 128)) bs
+]
 
 abbrev pub first_arc : ℕ → ℕ
 first_arc n = min 2 (n / 40)

@@ -1,10 +1,12 @@
 -- The texts of the distinguished encoding rules (X.690 sections 8 and 10), as lists of octets.
 use Rattle.std.specs.Prelude.{◌≡◌, ℕ, zero, suc, ◌+◌, ◌/◌, ◌%◌, ◌^◌, ◌<◌, Bool, true, false, List, [], ◌∷◌, ◌++◌, length, nat_lt, ◌==◌, ◌&&◌, not, IsTrue}
 
--- n in the fewest octets, the most significant first; the first argument bounds the octets after the first
+-- n in the fewest octets, the most significant first; the first argument bounds the octets after
+-- the first
 unfoldable pub digits_in : ℕ → ℕ → List ℕ
 digits_in zero n = n ∷ []
-digits_in (suc k) n = elim (nat_lt n 256) [ true ↦ n ∷ [] | false ↦ digits_in k (n / 256) ++ (n % 256) ∷ [] ]
+digits_in (suc k) n =
+    elim (nat_lt n 256) [ true ↦ n ∷ [] | false ↦ digits_in k (n / 256) ++ (n % 256) ∷ [] ]
 
 unfoldable pub digits : ℕ → List ℕ
 digits n = digits_in n n
@@ -17,7 +19,8 @@ len n = elim (nat_lt n 128) [ true ↦ n ∷ [] | false ↦ (128 + length (digit
 unfoldable pub el : ℕ → List ℕ → List ℕ
 el tag value = tag ∷ len (length value) ++ value
 
--- the bound on each text that is read: at most 2 ^ 32 - 1 octets. It is said once, of the outermost text
+-- the bound on each text that is read: at most 2 ^ 32 - 1 octets. It is said once, of the outermost
+-- text
 abbrev pub IsShort : List ℕ → Type 0
 IsShort b = length b < 2 ^ 32
 
@@ -35,7 +38,8 @@ IsElement b = (tag : ℕ) × (value : List ℕ) × IsTrue (is_tag tag) × (b ≡
 -- the shortest two's complement of n, the most significant octet first
 unfoldable pub shortest_in : ℕ → ℕ → List ℕ
 shortest_in zero n = n ∷ []
-shortest_in (suc k) n = elim (nat_lt n 128) [ true ↦ n ∷ [] | false ↦ shortest_in k (n / 256) ++ (n % 256) ∷ [] ]
+shortest_in (suc k) n =
+    elim (nat_lt n 128) [ true ↦ n ∷ [] | false ↦ shortest_in k (n / 256) ++ (n % 256) ∷ [] ]
 
 unfoldable pub shortest : ℕ → List ℕ
 shortest n = shortest_in n n

@@ -4,7 +4,8 @@ use Rattle.asn1_core.specs.Texts.{Within, Many}
 use Rattle.asn1_core.specs.Reading.{Fault, Bad, Front, All, ◌>>=◌, many, where_ok}
 
 -- one part, of which the value's field is get, and then the other parts
-abbrev pub Field : {A W : Type 0} → (List ℕ → A → Type 0) → (W → A) → (List ℕ → W → Type 0) → List ℕ → W → Type 0
+abbrev pub Field : {A W : Type 0} → (List ℕ → A → Type 0) → (W → A) → (List ℕ → W → Type 0) → List ℕ
+    → W → Type 0
 Field R get S b w = (x : List ℕ) × (y : List ℕ) × R x (get w) × S y w × (b ≡ x ++ y)
 
 -- no further part
@@ -19,7 +20,8 @@ abbrev pub Latest : {A : Type 0} → (List ℕ → A → Type 0) → List ℕ �
 Latest {A = A} R b v = (more : List A) × Many R b (more ++ v ∷ [])
 
 -- by the value: one of a known identifier, or of another
-abbrev pub ByCase : {A : Type 0} → List ℕ → List ℕ → (List ℕ → A → Type 0) → (List ℕ → A → Type 0) → List ℕ → A → Type 0
+abbrev pub ByCase : {A : Type 0} → List ℕ → List ℕ → (List ℕ → A → Type 0) → (List ℕ → A → Type 0)
+    → List ℕ → A → Type 0
 ByCase k known R S b v = ((k ≡ known) × R b v) ⊎ ((k ≢ known) × S b v)
 
 abbrev pub Never : {A : Type 0} → List ℕ → A → Type 0

@@ -38,8 +38,10 @@ ReadsIn at view old new (Err e) = (new ≡ old) × Fails (Unit {0}) e (at old)
 abbrev pub NoneStands : {A : Type 0} → (List ℕ → A → Type 0) → List ℕ → Type 0
 NoneStands R b = (t : List ℕ) (v : _) (rest : List ℕ) → R t v → IsShort t → b ≡ t ++ rest → ⊥
 
--- the public word, by the relation alone: the value of the text in front, or a refusal exactly where none is there
-abbrev pub Reads : {X A : Type 0} → (List ℕ → A → Type 0) → (X → A) → List ℕ → List ℕ → Result X Error → Type 0
+-- the public word, by the relation alone: the value of the text in front, or a refusal exactly
+-- where none is there
+abbrev pub Reads : {X A : Type 0} → (List ℕ → A → Type 0) → (X → A) → List ℕ → List ℕ
+    → Result X Error → Type 0
 Reads R view old new (Ok x) = Taken R old (view x) new
 Reads R view old new (Err errors.Memory) = new ≡ old
 Reads R view old new (Err errors.Malformed) = (new ≡ old) × NoneStands R old
@@ -50,8 +52,10 @@ Reads R view old new (Err errors.File) = ⊥
 
 -- ---- whole texts, with errors of any type
 
--- what reading gives, each fault as the error that is raised from it; running out of memory where the call takes memory
-abbrev pub GivesAs : {X Y E : Type 0} → (Error → E) → Type 0 → (X → Y) → Result X E → Result Y Fault → Type 0
+-- what reading gives, each fault as the error that is raised from it; running out of memory where
+-- the call takes memory
+abbrev pub GivesAs : {X Y E : Type 0} → (Error → E) → Type 0 → (X → Y) → Result X E → Result Y Fault
+    → Type 0
 GivesAs raised memory view (Ok x) read = read ≡ Ok (view x)
 GivesAs raised memory view (Err e) read = (f : Error) × (e ≡ raised f) × Fails memory f read
 
@@ -60,11 +64,13 @@ abbrev pub IsNone : {V : Type 0} → (List ℕ → V → Type 0) → List ℕ �
 IsNone R b = (v : _) → R b v → ⊥
 
 -- the value whose text b is, or the one refusal, exactly where it is a text of none
-abbrev pub Parses : {X V E : Type 0} → E → (List ℕ → V → Type 0) → (X → V) → List ℕ → Result X E → Type 0
+abbrev pub Parses : {X V E : Type 0} → E → (List ℕ → V → Type 0) → (X → V) → List ℕ → Result X E
+    → Type 0
 Parses malformed R view b (Ok x) = R b (view x)
 Parses malformed R view b (Err e) = (e ≡ malformed) × IsNone R b
 
 -- the same of a call that takes memory
-abbrev pub ParsesIn : {X V E : Type 0} → E → E → (List ℕ → V → Type 0) → (X → V) → List ℕ → Result X E → Type 0
+abbrev pub ParsesIn : {X V E : Type 0} → E → E → (List ℕ → V → Type 0) → (X → V) → List ℕ
+    → Result X E → Type 0
 ParsesIn memory malformed R view b (Ok x) = R b (view x)
 ParsesIn memory malformed R view b (Err e) = (e ≡ memory) ⊎ ((e ≡ malformed) × IsNone R b)

@@ -1,13 +1,18 @@
--- Object identifiers as lists of octets (X.690 section 8.19), and how the fields of an `ObjectIdentifier` hold one.
+-- Object identifiers as lists of octets (X.690 section 8.19), and how the fields of an
+-- `ObjectIdentifier` hold one.
 use Rattle.std.specs.Prelude.{ℕ, zero, suc, ◌≡◌, ◌+◌, ◌-◌, ◌*◌, ◌/◌, ◌%◌, ◌^◌, ◌<◌, ◌≤◌, Bool, true, false, ◌&&◌, not, ◌==◌, nat_lt, if◌then◌else◌, List, [], ◌∷◌, ◌++◌, length, take, Option, Some, None, IsTrue}
 use Rattle.octet_core.specs.Padded.{IsPadded}
 
 -- ---- the grammar
 
--- the octets of a number in base 128 that are not the last: each is 128 and a digit, and the first digit is not 0
+-- the octets of a number in base 128 that are not the last: each is 128 and a digit, and the first
+-- digit is not 0
 unfoldable pub high_in : ℕ → ℕ → List ℕ
 high_in zero n = []
-high_in (suc k) n = elim (nat_lt 0 n) [ true ↦ high_in k (n / 128) ++ (128 + n % 128) ∷ [] | false ↦ [] ]
+high_in (suc k) n = elim (nat_lt 0 n) [
+  | true ↦ high_in k (n / 128) ++ (128 + n % 128) ∷ []
+  | false ↦ []
+]
 
 unfoldable pub high : ℕ → List ℕ
 high n = high_in n n
@@ -26,13 +31,15 @@ AllUnder m (n ∷ ns) = (n < m) × AllUnder m ns
 
 -- o is one or more subidentifiers below 2 ^ 32, in at most 39 octets
 abbrev pub IsIdentifier : List ℕ → Type 0
-IsIdentifier o = (n : ℕ) × (ns : List ℕ) × AllUnder (2 ^ 32) (n ∷ ns) × (o ≡ subs (n ∷ ns)) × (length o ≤ 39)
+IsIdentifier o = (n : ℕ) × (ns : List ℕ) × AllUnder (2 ^ 32) (n ∷ ns) × (o ≡ subs (n ∷ ns))
+    × (length o ≤ 39)
 
 -- ---- the same as a test in one pass
 
 -- n is what the current subidentifier has so far, 0 where one begins
 abbrev pub next_state : ℕ → ℕ → Option ℕ
-next_state n b = if nat_lt n (2 ^ 25) && (nat_lt b 256 && not (n == 0 && b == 128)) then Some (if nat_lt b 128 then 0 else 128 * n + (b - 128)) else None
+next_state n b = if nat_lt n (2 ^ 25) && (nat_lt b 256 && not (n == 0 && b == 128))
+    then Some (if nat_lt b 128 then 0 else 128 * n + (b - 128)) else None
 
 abbrev pub subidentifiers : ℕ → List ℕ → Bool
 subidentifiers n [] = n == 0

@@ -6,7 +6,8 @@ use Rattle.std.specs.Cmp.Lexicographic.{pointwise, bytes_decides}
 use Rattle.std.proofs.Common.{sym, ◌∙◌, ap, subst, rules, true≢false}
 use Rattle.std.proofs.Props.{props}
 use Rattle.asn1_core.specs.Identifier.{Holds, is_identifier}
-use Rattle.octet_core.specs.Padded.{IsPadded, padded, padded_take, length-take_padded, is_padded, take_padded}
+use Rattle.octet_core.specs.Padded.{IsPadded, padded}
+use Rattle.octet_core.specs.PaddedLaws.{padded_take, length-take_padded, is_padded, take_padded}
 use Rattle.asn1_core.specs.declared.identifier.ObjectIdentifier.{ObjectIdentifier}
 
 abbrev pub oid_octets : ObjectIdentifier → List ℕ
@@ -23,7 +24,8 @@ Reaches a octets size = (h : Holds octets size) → a ≡ built octets size h
 
 same_fields : (a b : ObjectIdentifier) → a.octets ≡ b.octets → a.size ≡ b.size → a ≡ b
 same_fields a b o s =
-    let here : Reaches a a.octets a.size = λ h. ap (built a.octets a.size) (Holds-prop a.octets a.size a.holds h) in
+    let here : Reaches a a.octets a.size =
+    λ h. ap (built a.octets a.size) (Holds-prop a.octets a.size a.holds h) in
     let along : Reaches a b.octets a.size = subst (λ octets. Reaches a octets a.size) o here in
     let there : Reaches a b.octets b.size = subst (λ size. Reaches a b.octets size) s along in
     there b.holds
@@ -31,8 +33,10 @@ same_fields a b o s =
 pub same_oid : (a b : ObjectIdentifier) → oid_octets a ≡ oid_octets b → a ≡ b
 same_oid a b e =
     same_fields a b
-    (sym (padded_take 39 a.size a.octets a.holds.0) ∙ ap (padded 39) e ∙ padded_take 39 b.size b.octets b.holds.0)
-    (sym (length-take_padded 39 a.size a.octets a.holds.0) ∙ ap length e ∙ length-take_padded 39 b.size b.octets b.holds.0)
+    (sym (padded_take 39 a.size a.octets a.holds.0) ∙ ap (padded 39) e
+    ∙ padded_take 39 b.size b.octets b.holds.0)
+    (sym (length-take_padded 39 a.size a.octets a.holds.0) ∙ ap length e
+    ∙ length-take_padded 39 b.size b.octets b.holds.0)
 
 -- `==` says whether two identifiers are equal
 pub oid_decides : (a b : ObjectIdentifier) → Decides (on oid_octets (pointwise nat_eq) a b) (a ≡ b)
@@ -63,9 +67,11 @@ oid_if v false h = None
 pub as_oid : List ℕ → Option ObjectIdentifier
 as_oid v = oid_if v (is_identifier v) refl
 
-oid_if-octets : (o : ObjectIdentifier) (b : Bool) (h : is_identifier (oid_octets o) ≡ b) → oid_if (oid_octets o) b h ≡ Some o
+oid_if-octets : (o : ObjectIdentifier) (b : Bool) (h : is_identifier (oid_octets o) ≡ b)
+    → oid_if (oid_octets o) b h ≡ Some o
 unfolding oid_if
-oid_if-octets o true h = ap Some (same_oid (oid_of (oid_octets o) h) o (octets-oid_of (oid_octets o) h))
+oid_if-octets o true h =
+    ap Some (same_oid (oid_of (oid_octets o) h) o (octets-oid_of (oid_octets o) h))
 oid_if-octets o false h = absurd (true≢false (sym o.holds.1 ∙ h))
 
 pub as_oid_octets : (o : ObjectIdentifier) → as_oid (oid_octets o) ≡ Some o
@@ -84,7 +90,8 @@ pub as_oid_none : (v : List ℕ) → is_identifier v ≡ false → as_oid v ≡ 
 unfolding as_oid
 as_oid_none v e = oid_if-none v (is_identifier v) refl e
 
-oid_if-found : (v : List ℕ) (b : Bool) (h : is_identifier v ≡ b) (o : ObjectIdentifier) → oid_if v b h ≡ Some o → oid_octets o ≡ v
+oid_if-found : (v : List ℕ) (b : Bool) (h : is_identifier v ≡ b) (o : ObjectIdentifier)
+    → oid_if v b h ≡ Some o → oid_octets o ≡ v
 unfolding oid_if
 oid_if-found v true h o e = let f : oid_of v h ≡ o = cc in ap oid_octets (sym f) ∙ octets-oid_of v h
 oid_if-found v false h o e = absurd cc

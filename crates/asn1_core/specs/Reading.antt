@@ -72,7 +72,9 @@ are_octets (b ∷ bs) = nat_lt b 256 && are_octets bs
 abbrev pub long_at : ℕ → Front ℕ
 long_at k bytes =
     let n = number_on 0 (take k bytes) in
-    where_ok (are_octets (take k bytes) && (nat_lt 0 k && nat_lt k 5 && nat_lt k (length bytes + 1) && nat_lt 127 n && nat_lt 0 (get_or bytes 0 0))) (n, drop k bytes)
+    where_ok (are_octets (take k bytes)
+    && (nat_lt 0 k && nat_lt k 5 && nat_lt k (length bytes + 1) && nat_lt 127 n
+    && nat_lt 0 (get_or bytes 0 0))) (n, drop k bytes)
 
 unfoldable pub len_at : Front ℕ
 len_at [] = Err Bad
@@ -91,7 +93,9 @@ peek_at (tag ∷ bytes) = where_ok (is_tag tag) tag
 -- the header in front, of an element that is not too long
 unfoldable pub header_at : Front Head
 header_at [] = Err Bad
-header_at (tag ∷ bytes) = len_at bytes >>= λ n. where_ok (is_tag tag && nat_lt (1 + (length bytes - length n.1) + n.0) (2 ^ 32)) (record { tag = tag; size = n.0 }, n.1)
+header_at (tag ∷ bytes) = len_at bytes
+    >>= λ n. where_ok (is_tag tag && nat_lt (1 + (length bytes - length n.1) + n.0) (2 ^ 32))
+    (record { tag = tag; size = n.0 }, n.1)
 
 -- the n octets in front
 abbrev pub slice_at : ℕ → Front (List ℕ)
@@ -103,7 +107,8 @@ valued q n b = slice_at n b >>= λ w. q w.0 >>= λ v. Ok (v, w.1)
 
 -- one whole element whose tag octet is accepted; its value is read by its tag octet
 abbrev pub by_tag : {A : Type 0} → (ℕ → Bool) → (ℕ → All A) → Front A
-by_tag can q b = header_at b >>= λ h. where_ok (can h.0.tag) h >>= λ h. valued (q h.0.tag) h.0.size h.1
+by_tag can q b = header_at b >>= λ h. where_ok (can h.0.tag) h
+    >>= λ h. valued (q h.0.tag) h.0.size h.1
 
 -- one whole element of this tag octet, its value read to its end
 abbrev pub within : {A : Type 0} → ℕ → All A → Front A
@@ -120,7 +125,10 @@ inside_at tag = within tag left
 unfoldable pub uint_of : ℕ → All ℕ
 uint_of max [] = Err Bad
 uint_of max (b ∷ []) = where_ok (nat_lt b 128 && nat_lt b (max + 1)) b
-uint_of max (b ∷ c ∷ bs) = where_ok (are_octets (b ∷ c ∷ bs) && (nat_lt b 128 && (nat_lt 0 b || nat_lt 127 c) && nat_lt (number_on b (c ∷ bs)) (max + 1))) (number_on b (c ∷ bs))
+uint_of max (b ∷ c ∷ bs) =
+    where_ok (are_octets (b ∷ c ∷ bs)
+    && (nat_lt b 128 && (nat_lt 0 b || nat_lt 127 c) && nat_lt (number_on b (c ∷ bs)) (max + 1)))
+    (number_on b (c ∷ bs))
 
 abbrev pub uint_at : ℕ → Front ℕ
 uint_at max = within 0x02 (uint_of max)

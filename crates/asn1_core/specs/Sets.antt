@@ -17,7 +17,8 @@ SameSet {A = A} S xs ys = (zs : List A) × IsPermutation xs zs × Each S zs ys
 
 -- b is the join of spellings of the values, in any order
 abbrev pub SpellSet : {A : Type 0} → (List ℕ → A → Type 0) → List ℕ → List A → Type 0
-SpellSet Spell b vs = (ts : List (List ℕ)) × (us : List (List ℕ)) × Each Spell ts vs × IsPermutation ts us × (b ≡ joined us)
+SpellSet Spell b vs = (ts : List (List ℕ)) × (us : List (List ℕ)) × Each Spell ts vs
+    × IsPermutation ts us × (b ≡ joined us)
 
 -- x among texts that ascend; a shorter text comes before a longer one that it begins
 unfoldable pub put_in : List ℕ → List (List ℕ) → List (List ℕ)

@@ -6,17 +6,20 @@ use Rattle.asn1_core.specs.declared.identifier.ObjectIdentifier.{ObjectIdentifie
 use Rattle.asn1_core.specs.Reading.{Front, All}
 
 -- v is read from the front of b
-pub record Taken {A : Type 0} (R : List ℕ → A → Type 0) (b : List ℕ) (v : A) (rest : List ℕ) : Type 0 where
+pub record Taken {A : Type 0} (R : List ℕ → A → Type 0) (b : List ℕ) (v : A) (rest : List ℕ)
+    : Type 0 where
   pub text : List ℕ
   pub holds : R text v
   pub short : IsShort text
   pub is : b ≡ text ++ rest
 
-abbrev pub On : {A B : Type 0} → (List ℕ → A → Type 0) → (A → List ℕ → B → Type 0) → List ℕ → B → Type 0
+abbrev pub On : {A B : Type 0} → (List ℕ → A → Type 0) → (A → List ℕ → B → Type 0) → List ℕ → B
+    → Type 0
 On {A = A} R S b v = (p : List ℕ) × (q : List ℕ) × (a : A) × R p a × S a q v × (b ≡ p ++ q)
 
 -- by a test
-abbrev pub Chosen : {A : Type 0} → Bool → (List ℕ → A → Type 0) → (List ℕ → A → Type 0) → List ℕ → A → Type 0
+abbrev pub Chosen : {A : Type 0} → Bool → (List ℕ → A → Type 0) → (List ℕ → A → Type 0) → List ℕ → A
+    → Type 0
 Chosen true R S b v = R b v
 Chosen false R S b v = S b v
 
@@ -40,11 +43,13 @@ Many R b (v ∷ vs) = (p : List ℕ) × (q : List ℕ) × R p v × Many R q vs �
 
 -- one element whose tag octet is accepted, by a relation for its value
 abbrev pub ByTag : {A : Type 0} → (ℕ → Bool) → (ℕ → List ℕ → A → Type 0) → List ℕ → A → Type 0
-ByTag can R b v = (t : ℕ) × (w : List ℕ) × IsTrue (is_tag t) × IsTrue (can t) × R t w v × (b ≡ el t w)
+ByTag can R b v = (t : ℕ) × (w : List ℕ) × IsTrue (is_tag t) × IsTrue (can t) × R t w v
+    × (b ≡ el t w)
 
 -- each text is one element whose tag octet is accepted
 abbrev pub Whole : {A : Type 0} → (ℕ → Bool) → (List ℕ → A → Type 0) → Type 0
-Whole {A = A} can R = (b : List ℕ) (v : A) → R b v → (t : ℕ) × (w : List ℕ) × IsTrue (is_tag t) × IsTrue (can t) × (b ≡ el t w)
+Whole {A = A} can R = (b : List ℕ) (v : A) → R b v
+    → (t : ℕ) × (w : List ℕ) × IsTrue (is_tag t) × IsTrue (can t) × (b ≡ el t w)
 
 -- any octets
 abbrev pub Left : List ℕ → List ℕ → Type 0
@@ -74,10 +79,12 @@ Oid = Within 0x06 OidOf
 abbrev pub Known : {A B : Type 0} → (A → Option B) → (List ℕ → A → Type 0) → List ℕ → B → Type 0
 Known {A = A} f R b v = (a : A) × R b a × (f a ≡ Some v)
 
--- a reader that is exact for a relation: what is read is a text of its value, and each text of a value is read, whatever follows
+-- a reader that is exact for a relation: what is read is a text of its value, and each text of a
+-- value is read, whatever follows
 pub record Exact {A : Type 0} (R : List ℕ → A → Type 0) (at : Front A) : Type 0 where
   pub found : (b : List ℕ) (v : A) (rest : List ℕ) → at b ≡ Ok (v, rest) → Taken R b v rest
-  pub again : (t : List ℕ) (v : A) (rest : List ℕ) → R t v → IsShort t → at (t ++ rest) ≡ Ok (v, rest)
+  pub again : (t : List ℕ) (v : A) (rest : List ℕ) → R t v → IsShort t
+      → at (t ++ rest) ≡ Ok (v, rest)
 
 pub record ExactAll {A : Type 0} (R : List ℕ → A → Type 0) (all : All A) : Type 0 where
   pub found : (b : List ℕ) (v : A) → all b ≡ Ok v → R b v

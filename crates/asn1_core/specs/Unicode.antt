@@ -14,7 +14,8 @@ unit_octets (u ∷ us) = u / 256 ∷ u % 256 ∷ unit_octets us
 
 -- t is the UTF-8 of characters of which b are the units
 abbrev pub Units : List ℕ → List ℕ → Type 0
-Units b t = (cs : List ℕ) × (all_scalars cs ≡ true) × (encode_utf8_all cs ≡ t) × (b ≡ unit_octets (flat_map encode_utf16 cs))
+Units b t = (cs : List ℕ) × (all_scalars cs ≡ true) × (encode_utf8_all cs ≡ t)
+    × (b ≡ unit_octets (flat_map encode_utf16 cs))
 
 -- the units of one character, and those of a text that is given by its UTF-8
 abbrev pub char_units : ℕ → List ℕ
@@ -44,7 +45,8 @@ units_in (a ∷ b ∷ bs) = units_in bs >>= λ us. Ok ((256 * a + b) ∷ us)
 
 -- the text of these units, where no surrogate is alone
 abbrev pub units_text : All (List ℕ)
-units_text b = units_in b >>= λ us. where_ok (not (has_unpaired_surrogate us)) (encode_utf8_all (utf16_lossy_chars us))
+units_text b = units_in b
+    >>= λ us. where_ok (not (has_unpaired_surrogate us)) (encode_utf8_all (utf16_lossy_chars us))
 
 abbrev pub units_all : All (List ℕ)
 units_all b = where_ok (are_octets b) b >>= units_text

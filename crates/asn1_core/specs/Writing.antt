@@ -5,8 +5,8 @@ use Rattle.asn1_core.specs.declared.error.Error.{Error}
 use Rattle.asn1_core.specs.declared.error.Error.TheVariants as errors
 use Rattle.asn1_core.specs.declared.header.Length.{Length}
 
--- What is known of a writer: the octets that it holds, the room that it has left where that is bounded, its faults,
--- whether it may lack memory, and the place that it writes to.
+-- What is known of a writer: the octets that it holds, the room that it has left where that is
+-- bounded, its faults, whether it may lack memory, and the place that it writes to.
 pub record Sink (W : Type 0) : Type 1 where
   pub holds : W → List ℕ → Type 0
   pub room : W → Option ℕ
@@ -46,7 +46,8 @@ pub record Wrote {W : Type 0} (S : Sink W) (text : List ℕ) (old new : W) : Typ
   pub stays : S.place old ≡ S.place new
 
 -- a front of the text was written, and its rest was not
-pub record Stopped {W : Type 0} (S : Sink W) (bad over : Type 0) (text : List ℕ) (old : W) (e : Error) (new : W) : Type 0 where
+pub record Stopped {W : Type 0} (S : Sink W) (bad over : Type 0) (text : List ℕ) (old : W)
+    (e : Error) (new : W) : Type 0 where
   pub front : List ℕ
   pub rest : List ℕ
   pub is : text ≡ front ++ rest
@@ -56,17 +57,26 @@ pub record Stopped {W : Type 0} (S : Sink W) (bad over : Type 0) (text : List �
   pub rises : S.faults old ≤ S.faults new
   pub stays : S.place old ≡ S.place new
 
--- The text was written whole, or a front of it and the result says why. `bad` is when the value cannot be written, `over`
--- when its text is too long.
-abbrev pub Writes : {W : Type 0} → Sink W → Type 0 → Type 0 → List ℕ → W → Result (Unit {0}) Error → W → Type 0
+-- The text was written whole, or a front of it and the result says why. `bad` is when the value
+-- cannot be written, `over` when its text is too long.
+abbrev pub Writes : {W : Type 0} → Sink W → Type 0 → Type 0 → List ℕ → W → Result (Unit {0}) Error
+    → W → Type 0
 Writes S bad over text old (Ok u) new = Wrote S text old new
 Writes S bad over text old (Err e) new = Stopped S bad over text old e new
 
 -- the length of a text, or why it has none
 abbrev pub Measures : Type 0 → List ℕ → Result Length Error → Type 0
 Measures bad text (Ok n) = n.value ≡ length text
-Measures bad text (Err e) = ((e ≡ errors.Malformed) × bad) ⊎ ((e ≡ errors.Overlength) × IsOverlong (length text))
+Measures bad text (Err e) = ((e ≡ errors.Malformed) × bad)
+    ⊎ ((e ≡ errors.Overlength) × IsOverlong (length text))
 
 -- the same writer, in a call that takes memory of its own
 abbrev pub in_memory : {W : Type 0} → Sink W → Sink W
-in_memory S = record { holds = S.holds; room = S.room; faults = S.faults; memory = Unit {0}; Place = S.Place; place = S.place }
+in_memory S = record {
+  holds = S.holds;
+  room = S.room;
+  faults = S.faults;
+  memory = Unit {0};
+  Place = S.Place;
+  place = S.place;
+}

@@ -44,7 +44,7 @@ impl ObjectIdentifier {
     }
 
     /// The identifier of these octets. `Malformed` exactly where they are the octets of none.
-    #[tactic(auto, using(octet_core::specs::Padded::is_padded, octet_core::specs::Padded::take_padded, crate::specs::ElementLaws::oid_reads_none))]
+    #[tactic(auto, using(octet_core::specs::PaddedLaws::is_padded, octet_core::specs::PaddedLaws::take_padded, crate::specs::ElementLaws::oid_reads_none))]
     pub fn from_bytes(octets: &[u8]) -> Result<ObjectIdentifier, Error>
         ensures ok { IfOk result (λ o. oid_octets o ≡ octets.now) }
         ensures read { Gives (λ o. o) result (oid_of octets.now) }
@@ -88,7 +88,7 @@ impl ObjectIdentifier {
     }
 
     /// The identifier of these octets. Caller: they are the octets of one.
-    #[tactic(auto, using(octet_core::specs::Padded::is_padded, octet_core::specs::Padded::take_padded))]
+    #[tactic(auto, using(octet_core::specs::PaddedLaws::is_padded, octet_core::specs::PaddedLaws::take_padded))]
     pub fn constant(octets: &[u8]) -> ObjectIdentifier
         requires { IsTrue (is_identifier octets.now) }
         ensures { oid_octets result ≡ octets.now }

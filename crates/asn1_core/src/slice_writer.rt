@@ -44,7 +44,8 @@ impl<'b> Writer for SliceWriter<'b> {
 
     /// `NoRoom` exactly where the rest of the buffer is smaller than these octets, and nothing is written then.
     fn write(&mut self, octets: &[u8]) -> Result<(), Error>
-        ensures written { Writes (⟦<SliceWriter<'b> as Writer>⟧.sink) ⊥ ⊥ octets.now self.old result self.new }
+        ensures written { Writes (⟦<SliceWriter<'b> as Writer>⟧.sink) ⊥ ⊥ octets.now
+            self.old result self.new }
         ensures unmoved { OnErr result (self.new ≡ self.old) }
     {
         let room = self.buffer.len() - self.used;

@@ -55,7 +55,8 @@ impl Writer for VecWriter {
 
     /// The only refusal is `Memory`, and nothing is written then.
     fn write(&mut self, octets: &[u8]) -> Result<(), Error>
-        ensures written { Writes (⟦<VecWriter as Writer>⟧.sink) ⊥ ⊥ octets.now self.old result self.new }
+        ensures written { Writes (⟦<VecWriter as Writer>⟧.sink) ⊥ ⊥ octets.now
+            self.old result self.new }
         ensures unmoved { OnErr result (self.new ≡ self.old) }
     {
         Ok(self.octets.extend(octets)?)

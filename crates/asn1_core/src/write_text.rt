@@ -19,7 +19,8 @@ pub fn write_ia5<W: Writer>(w: &mut W, text: &str) -> Result<(), Error>
         (IsOverlong (length (el 0x16 text.now))) (el 0x16 text.now) w.old result w.new }
     ensures text { OnOk result (Ia5 (el 0x16 text.now) text.now) }
     ensures short { OnOk result (IsShort (el 0x16 text.now)) }
-    ensures unmoved { IsErrOf result Error.Malformed ⊎ IsErrOf result Error.Overlength → w.new ≡ w.old }
+    ensures unmoved { IsErrOf result Error.Malformed ⊎ IsErrOf result Error.Overlength
+        → w.new ≡ w.old }
 {
     if !are_ascii(text.as_bytes()) {
         return Err(Error::Malformed);

@@ -3,7 +3,8 @@ use Rattle.std.specs.Prelude.{ℕ, ◌+◌, ◌-◌, ◌*◌, List}
 use Rattle.block_core.specs.AesRounds.{encrypt_with, decrypt_with}
 use Rattle.block_core.specs.AesKey.{expand}
 
--- the round keys of a key of `words` words for so many rounds: one more than the rounds, of four words each
+-- the round keys of a key of `words` words for so many rounds: one more than the rounds, of four
+-- words each
 abbrev pub round_keys : ℕ → ℕ → List ℕ → List ℕ
 round_keys words rounds key = expand words key (4 * (rounds + 1) - words)
 

@@ -1,5 +1,5 @@
--- The key expansion of AES (FIPS 197 section 5.2), for keys of 4, 6 and 8 words of four octets: octet j of word i
--- is at 4 * i + j.
+-- The key expansion of AES (FIPS 197 section 5.2), for keys of 4, 6 and 8 words of four octets:
+-- octet j of word i is at 4 * i + j.
 use Rattle.std.specs.Prelude.{ℕ, zero, suc, ◌+◌, ◌-◌, ◌*◌, ◌/◌, ◌%◌, ◌<◌, ◌==◌, ◌&&◌, List, [], ◌∷◌, ◌++◌, bit_xor, cond, slice_index}
 use Rattle.block_core.specs.Field.{power_of_x}
 use Rattle.block_core.specs.Sbox.{sub_byte}
@@ -10,7 +10,8 @@ AreOctets keys = (i : ℕ) → slice_index keys i < 256
 
 -- the word that is at a
 abbrev pub word_at : List ℕ → ℕ → List ℕ
-word_at w a = slice_index w a ∷ slice_index w (a + 1) ∷ slice_index w (a + 2) ∷ slice_index w (a + 3) ∷ []
+word_at w a = slice_index w a ∷ slice_index w (a + 1) ∷ slice_index w (a + 2)
+    ∷ slice_index w (a + 3) ∷ []
 
 -- SubWord of the word that is at a
 abbrev pub sub_word : List ℕ → ℕ → List ℕ
@@ -24,8 +25,9 @@ turned_word constant w a =
     bit_xor (sub_byte (slice_index w (a + 1))) constant ∷ sub_byte (slice_index w (a + 2))
     ∷ sub_byte (slice_index w (a + 3)) ∷ sub_byte (slice_index w a) ∷ []
 
--- what is xored into word i - words to make word i: the word before it, which is rotated, substituted and given the
--- round constant where i is a multiple of `words`, and substituted where i modulo 8 is 4 under a key of 8 words
+-- what is xored into word i - words to make word i: the word before it, which is rotated,
+-- substituted and given the round constant where i is a multiple of `words`, and substituted where
+-- i modulo 8 is 4 under a key of 8 words
 unfoldable pub scheduled : ℕ → ℕ → List ℕ → ℕ → List ℕ
 scheduled words constant w i =
     cond (i % words == 0) (turned_word constant w (4 * (i - 1)))

@@ -1,5 +1,6 @@
--- The steps and rounds of AES (FIPS 197 sections 5.1 and 5.3). The state is a list of 16 octets, filled column by
--- column: row r of column c is at r + 4 * c. Round key n is the 16 octets from 16 * n on of the expanded key.
+-- The steps and rounds of AES (FIPS 197 sections 5.1 and 5.3). The state is a list of 16 octets,
+-- filled column by column: row r of column c is at r + 4 * c. Round key n is the 16 octets from 16
+-- * n on of the expanded key.
 use Rattle.std.specs.Prelude.{ℕ, zero, suc, ◌+◌, ◌-◌, ◌*◌, ◌/◌, ◌%◌, List, map, bit_xor, slice_index}
 use Rattle.std.specs.List.{range_with_len}
 use Rattle.block_core.specs.Field.{product}
@@ -39,7 +40,8 @@ add_round_key keys n s = state_by (λ i. bit_xor (slice_index s i) (slice_index 
 -- 5.1: round key 0 added, and then the first n rounds
 unfoldable pub rounds : List ℕ → ℕ → List ℕ → List ℕ
 rounds keys zero s = add_round_key keys 0 s
-rounds keys (suc n) s = add_round_key keys (suc n) (mix_columns (shift_rows (sub_bytes (rounds keys n s))))
+rounds keys (suc n) s =
+    add_round_key keys (suc n) (mix_columns (shift_rows (sub_bytes (rounds keys n s))))
 
 -- 5.1, Cipher, of n rounds and the last one, which has no MixColumns
 unfoldable pub encrypt_with : List ℕ → ℕ → List ℕ → List ℕ
@@ -61,8 +63,10 @@ inv_mix_columns s = state_by (λ i. times_circulant 0x0e 0x0b 0x0d 0x09 (column_
 unfoldable pub inv_rounds : List ℕ → ℕ → List ℕ → List ℕ
 inv_rounds keys zero s = add_round_key keys 0 s
 inv_rounds keys (suc n) s =
-    inv_rounds keys n (inv_sub_bytes (inv_shift_rows (inv_mix_columns (add_round_key keys (suc n) s))))
+    inv_rounds keys n (inv_sub_bytes
+    (inv_shift_rows (inv_mix_columns (add_round_key keys (suc n) s))))
 
 -- 5.3, InvCipher, of n rounds and the last one
 unfoldable pub decrypt_with : List ℕ → ℕ → List ℕ → List ℕ
-decrypt_with keys n s = inv_rounds keys n (inv_sub_bytes (inv_shift_rows (add_round_key keys (suc n) s)))
+decrypt_with keys n s =
+    inv_rounds keys n (inv_sub_bytes (inv_shift_rows (add_round_key keys (suc n) s)))

@@ -31,9 +31,11 @@ octets_of_words ws = flat_map (to_be_bytes w32) ws
 
 -- column c of round key n of an expanded key
 abbrev pub key_column : List ℕ → ℕ → ℕ → ℕ
-key_column keys n c = word (slice_index keys (16 * n + 4 * c)) (slice_index keys (16 * n + (4 * c + 1)))
+key_column keys n c =
+    word (slice_index keys (16 * n + 4 * c)) (slice_index keys (16 * n + (4 * c + 1)))
     (slice_index keys (16 * n + (4 * c + 2))) (slice_index keys (16 * n + (4 * c + 3)))
 
 -- the second words are the first, each of these columns through InvMixColumns
 abbrev pub AreUnmixed : List ℕ → List ℕ → Type 0
-AreUnmixed keys unmixed = (k : ℕ) → k < length keys → slice_index unmixed k ≡ mixed_word 0x0e 0x0b 0x0d 0x09 (to_be_bytes w32 (slice_index keys k))
+AreUnmixed keys unmixed = (k : ℕ) → k < length keys
+    → slice_index unmixed k ≡ mixed_word 0x0e 0x0b 0x0d 0x09 (to_be_bytes w32 (slice_index keys k))

@@ -1,4 +1,5 @@
--- Lists of bits, each 0 or 1, the highest first; places are counted from 1 as FIPS 46-3 counts them.
+-- Lists of bits, each 0 or 1, the highest first; places are counted from 1 as FIPS 46-3 counts
+-- them.
 use Rattle.std.specs.Prelude.{ℕ, zero, suc, ◌+◌, ◌-◌, ◌*◌, ◌/◌, ◌%◌, ◌^◌, ◌<◌, ◌≤◌, List, [], ◌∷◌, ◌++◌, length, map, take, drop, bit_xor, slice_index}
 use Rattle.std.specs.List.{range_with_len, flat_map}
 

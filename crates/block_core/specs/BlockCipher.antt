@@ -6,9 +6,10 @@ pub record IsBlock (n : ℕ) (b : List ℕ) : Type 0 where
   pub long : length b ≡ n
   pub octets : (i : ℕ) → i < n → slice_index b i < 256
 
--- blocks have 1 to 16 octets, and under each value of a cipher the two functions take blocks to blocks and each
--- undoes the other
-pub record CipherLaws (S : Type 0) (n : ℕ) (encryption decryption : S → List ℕ → List ℕ) : Type 0 where
+-- blocks have 1 to 16 octets, and under each value of a cipher the two functions take blocks to
+-- blocks and each undoes the other
+pub record CipherLaws (S : Type 0) (n : ℕ) (encryption decryption : S → List ℕ → List ℕ)
+    : Type 0 where
   pub low : 1 ≤ n
   pub high : n ≤ 16
   pub encrypted : (s : S) (b : List ℕ) → IsBlock n b → IsBlock n (encryption s b)

@@ -18,7 +18,8 @@ unfoldable pub substitute : List ℕ → List ℕ → List ℕ
 substitute box six =
     bits_of 4 (slice_index box
     (16 * number_of (slice_index six 0 ∷ slice_index six 5 ∷ [])
-    + number_of (slice_index six 1 ∷ slice_index six 2 ∷ slice_index six 3 ∷ slice_index six 4 ∷ [])))
+    + number_of (slice_index six 1 ∷ slice_index six 2 ∷ slice_index six 3 ∷ slice_index six 4
+    ∷ [])))
 
 -- the S-boxes in order, each on the next six bits
 unfoldable pub substitute_all : List (List ℕ) → List ℕ → List ℕ
@@ -27,7 +28,8 @@ substitute_all (box ∷ rest) bs = substitute box (take 6 bs) ++ substitute_all 
 
 -- the cipher function f of a half R and a round key K: P of the S-boxes of E(R) xor K
 unfoldable pub cipher_function : List ℕ → List ℕ → List ℕ
-cipher_function half key = pick permutation (substitute_all s_boxes (xor_each (pick expansion half) key))
+cipher_function half key =
+    pick permutation (substitute_all s_boxes (xor_each (pick expansion half) key))
 
 -- the halves L and R
 pub record Halves : Type 0 where
@@ -47,13 +49,15 @@ unfoldable pub rounds : List (List ℕ) → Halves → Halves
 rounds [] h = h
 rounds (key ∷ keys) h = rounds keys (round key h)
 
--- 64 bits under round keys: the initial permutation, the rounds, and the last permutation of the halves exchanged
+-- 64 bits under round keys: the initial permutation, the rounds, and the last permutation of the
+-- halves exchanged
 unfoldable pub enciphered : List (List ℕ) → List ℕ → List ℕ
 enciphered keys bs =
     let h = rounds keys (halves_of (pick initial_permutation bs)) in
     pick final_permutation (h.right ++ h.left)
 
--- the round keys from the halves C and D of the key: before each choice both are rotated by the shift of its round
+-- the round keys from the halves C and D of the key: before each choice both are rotated by the
+-- shift of its round
 unfoldable pub keys_from : List ℕ → List ℕ → List ℕ → List (List ℕ)
 keys_from [] c d = []
 keys_from (n ∷ ns) c d =

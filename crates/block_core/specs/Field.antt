@@ -1,5 +1,6 @@
--- The field of 256 elements of FIPS 197 section 4: an octet is a polynomial over two elements, bit i being the
--- coefficient of x to the power i; sums are xor, and products are modulo x^8 + x^4 + x^3 + x + 1.
+-- The field of 256 elements of FIPS 197 section 4: an octet is a polynomial over two elements, bit
+-- i being the coefficient of x to the power i; sums are xor, and products are modulo x^8 + x^4 +
+-- x^3 + x + 1.
 use Rattle.std.specs.Prelude.{ℕ, zero, suc, ◌*◌, ◌/◌, ◌%◌, ◌^◌, ◌==◌, cond, bit_xor}
 
 -- the bit i of n (0 or 1)
@@ -24,7 +25,8 @@ unfoldable pub inverse_below : ℕ → ℕ → ℕ
 inverse_below zero a = 0
 inverse_below (suc n) a = cond (product a n == 1) n (inverse_below n a)
 
--- the inverse of a, and 0 for 0: that each octet but 0 has one is computed in proofs/AesVectors.antt
+-- the inverse of a, and 0 for 0: that each octet but 0 has one is computed in
+-- proofs/AesVectors.antt
 unfoldable pub inverse : ℕ → ℕ
 inverse a = inverse_below 256 a
 

@@ -1,5 +1,5 @@
--- Elements of the context class (X.690 section 8.14): a number, and the value that is in the element whole, or whose tag the
--- number replaces.
+-- Elements of the context class (X.690 section 8.14): a number, and the value that is in the
+-- element whole, or whose tag the number replaces.
 use Rattle.std.specs.Prelude.{◌≡◌, ◌==◌, ℕ, ◌+◌, ◌-◌, ◌<◌, ◌%◌, ◌/◌, Bool, List, Ok, nat_lt, ◌&&◌, cond}
 use Rattle.asn1_core.specs.Der.{ctx}
 use Rattle.asn1_core.specs.Reading.{All, Front, ◌>>=◌, whole, by_tag}
@@ -10,7 +10,8 @@ use Rattle.der_core.specs.declared.context_specific.TagMode.TheVariants as modes
 abbrev pub context : {V : Type 0} → ℕ → TagMode → V → ContextSpecific V
 context n mode v = record { tag_number = n; tag_mode = mode; value = v }
 
--- the tag octet of a value whose own is t: of a number over 30 it is that of 30, since no tag octet has it
+-- the tag octet of a value whose own is t: of a number over 30 it is that of 30, since no tag octet
+-- has it
 abbrev pub context_tag : ℕ → TagMode → ℕ → ℕ
 context_tag n modes.Explicit t = 0xa0 + cond (nat_lt n 31) n 30
 context_tag n modes.Implicit t = cond (t / 32 % 2 == 1) 0xa0 0x80 + cond (nat_lt n 31) n 30
@@ -22,7 +23,8 @@ context_content modes.Implicit whole value = value
 
 -- the element of a0 and a number up to 30 round a text of the value
 abbrev pub ContextText : {V : Type 0} → (List ℕ → V → Type 0) → List ℕ → ContextSpecific V → Type 0
-ContextText P b v = (x : List ℕ) × P x v.value × (v.tag_number < 31) × (v.tag_mode ≡ modes.Explicit) × (b ≡ ctx v.tag_number x)
+ContextText P b v = (x : List ℕ) × P x v.value × (v.tag_number < 31) × (v.tag_mode ≡ modes.Explicit)
+    × (b ≡ ctx v.tag_number x)
 
 -- ---- reading
 

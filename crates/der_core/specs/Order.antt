@@ -1,4 +1,5 @@
--- The order of texts: that of their octets from the front, a shorter text first where it begins the other.
+-- The order of texts: that of their octets from the front, a shorter text first where it begins the
+-- other.
 use Rattle.std.specs.Prelude.{◌≡◌, ℕ, List, ◌⊎◌}
 use Rattle.std.specs.declared.cmp.Ordering.{Ordering}
 use Rattle.std.specs.Ordering.{ordering_then, nat_cmp}

@@ -34,7 +34,8 @@ pub fn write_pair<A: Encode, B: Encode, W: Writer>(
         (A.canon first.now ++ B.canon second.now) w.old result w.new }
     ensures short { OnOk result (IsShort (A.canon first.now ++ B.canon second.now)) }
     ensures lawful { OnOk result (A.writable first.now × B.writable second.now) }
-    ensures unmoved { IsErrOf result Error.Malformed ⊎ IsErrOf result Error.Overlength → w.new ≡ w.old }
+    ensures unmoved { IsErrOf result Error.Malformed ⊎ IsErrOf result Error.Overlength
+        → w.new ≡ w.old }
 {
     pair_len(first, second)?;
     first.encode(w)?;

@@ -23,7 +23,8 @@ pub record Call : Type 0 where
   pub work : Effects
 
 abbrev pub call_of : Stream → Stream → ℕ → ℕ → Call
-call_of input draw steps steps_after = record { input = input; work = effects draw steps steps_after }
+call_of input draw steps steps_after =
+    record { input = input; work = effects draw steps steps_after }
 
 -- No step was taken.
 abbrev pub TakesNoStep : Effects → Type 0
@@ -33,12 +34,14 @@ TakesNoStep e = e.steps_after ≡ e.steps
 abbrev pub KeepsLimit : Effects → ℕ → Type 0
 KeepsLimit e limit = (e.steps ≤ e.steps_after) × (e.steps_after ≤ e.steps + limit)
 
--- The source was read to its end; what it had is a text of at most the limit's octets, and P of that text.
+-- The source was read to its end; what it had is a text of at most the limit's octets, and P of
+-- that text.
 abbrev pub IsRead : Stream → (List ℕ → Type 0) → Type 0
 IsRead input P = IsAtEnd input.told_after
     × ((x : List ℕ) × IfSome input.told (λ y. x ≡ y) × (length x ≤ input_limit) × P x)
 
--- What a decision's text was written as: whole under its status, where no write failed, or in part where one did.
+-- What a decision's text was written as: whole under its status, where no write failed, or in part
+-- where one did.
 pub data IsWritten (output : Stream) (due : Status) (text : List ℕ) (s : Status) : Type 0 where
   whole : s ≡ due → output.faults_after ≡ output.faults → Appends output.told output.told_after text
       → IsWritten output due text s

@@ -14,4 +14,5 @@ joined lines = flat_map (λ line. line) lines
 
 -- Known octets grow by a proper prefix of the text.
 abbrev pub AppendsPart : Option (List ℕ) → Option (List ℕ) → List ℕ → Type 0
-AppendsPart old new text = (part : List ℕ) × (rest : List ℕ) × (text ≡ part ++ rest) × (rest ≢ []) × Appends old new part
+AppendsPart old new text = (part : List ℕ) × (rest : List ℕ) × (text ≡ part ++ rest) × (rest ≢ [])
+    × Appends old new part

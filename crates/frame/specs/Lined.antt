@@ -7,7 +7,8 @@ use Rattle.frame.specs.Stream.{stream}
 use Rattle.frame.specs.declared.status.Status.{Status}
 use Rattle.frame.specs.declared.status.Status.TheVariants.{InputMalformed}
 
--- P of what was done to the draw and the steps. Where there is a line its octets were drawn in place of the draw's.
+-- P of what was done to the draw and the steps. Where there is a line its octets were drawn in
+-- place of the draw's.
 abbrev pub ByLine : Option (List ℕ) → Effects → (Effects → Type 0) → Type 0
 ByLine None e P = P e
 ByLine (Some line) e P = (rest : Option (List ℕ)) × (before : ℕ) × (now : ℕ)
@@ -15,16 +16,18 @@ ByLine (Some line) e P = (rest : Option (List ℕ)) × (before : ℕ) × (now : 
 
 -- The input spells a store, and P of it.
 abbrev pub Spells : List ℕ → Effects → (List ℕ → Effects → Type 0) → Type 0
-Spells x e P = (store : List ℕ) × (line : Option (List ℕ)) × IsInput x store line × ByLine line e (P store)
+Spells x e P = (store : List ℕ) × (line : Option (List ℕ)) × IsInput x store line
+    × ByLine line e (P store)
 
--- InputMalformed comes only where the input spells no store, and then no step is taken; another refusal only where it
--- spells one that is refused.
+-- InputMalformed comes only where the input spells no store, and then no step is taken; another
+-- refusal only where it spells one that is refused.
 abbrev pub RefusesLined : (List ℕ → Effects → Status → Type 0) → List ℕ → Effects → Status → Type 0
 RefusesLined R x e InputMalformed = IsNoInput x × TakesNoStep e
 RefusesLined R x e s = Spells x e (λ store f. R store f s)
 
 -- Which status may come, of an input that spells no store, and of one that spells a store.
-pub record ExactLined (E : List ℕ → Effects → Status → Type 0) (x : List ℕ) (e : Effects) (s : Status) : Type 0 where
+pub record ExactLined (E : List ℕ → Effects → Status → Type 0) (x : List ℕ) (e : Effects)
+    (s : Status) : Type 0 where
   pub malformed : IsNoInput x → s ≡ InputMalformed
   pub spelled : (store : List ℕ) (line : Option (List ℕ)) → IsInput x store line
       → ByLine line e (λ f. E store f s)

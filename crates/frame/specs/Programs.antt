@@ -1,4 +1,5 @@
--- What a program returns: each status comes only where its row of the table holds, and where that row holds it comes.
+-- What a program returns: each status comes only where its row of the table holds, and where that
+-- row holds it comes.
 use Rattle.std.specs.Prelude.{ℕ, ◌≡◌, ◌≢◌, ◌⊎◌, ◌<◌, ◌≤◌, List, length, Option, Some, IfSome, ⊤}
 use Rattle.std.specs.Io.KnownBytes.{Appends}
 use Rattle.octet_core.specs.Faults.{Rose}
@@ -49,9 +50,11 @@ IsNoCommand {C} p = (c : C) → p.IsAsked c → ⊥
 abbrev pub CommandRow : {C : Type 0} → Program C → Call → Status → Kind → C → Type 0
 CommandRow p call s done c = ⊥
 CommandRow p call s usage c = ⊥
-CommandRow p call s read_fault c = Rose call.input.faults call.input.faults_after × TakesNoStep call.work
+CommandRow p call s read_fault c = Rose call.input.faults call.input.faults_after
+    × TakesNoStep call.work
 CommandRow p call s write_fault c = ⊥
-CommandRow p call s too_long c = IfSome call.input.told (λ x. input_limit < length x) × TakesNoStep call.work
+CommandRow p call s too_long c = IfSome call.input.told (λ x. input_limit < length x)
+    × TakesNoStep call.work
 CommandRow p call s memory c = ⊤
 CommandRow p call s own c = IsRead call.input (λ x. p.Refuses c call.work x s)
 
@@ -74,8 +77,8 @@ Due p call s text = DueRow p call s text (kind_of s)
 
 -- ---- Where each status has to come
 
--- The arguments are this command's, and the source told that it had these octets; its count of faults neither rose nor
--- is at its last value.
+-- The arguments are this command's, and the source told that it had these octets; its count of
+-- faults neither rose nor is at its last value.
 pub record IsGiven {C : Type 0} (p : Program C) (call : Call) (c : C) (x : List ℕ) : Type 0 where
   pub command : p.IsAsked c
   pub told : call.input.told ≡ Some x
@@ -85,7 +88,8 @@ pub record IsGiven {C : Type 0} (p : Program C) (call : Call) (c : C) (x : List 
 abbrev pub IsAnswer : Status → Status → Type 0
 IsAnswer s due = (s ≡ due) ⊎ (s ≡ Memory)
 
--- Of an input: one of more octets than the limit is refused, and to another the result is one of those that may come.
+-- Of an input: one of more octets than the limit is refused, and to another the result is one of
+-- those that may come.
 pub record IsExact (May : Status → Type 0) (x : List ℕ) (s : Status) : Type 0 where
   pub too_long : input_limit < length x → IsAnswer s InputTooLong
   pub worked : length x ≤ input_limit → May s ⊎ (s ≡ Memory)
@@ -93,39 +97,49 @@ pub record IsExact (May : Status → Type 0) (x : List ℕ) (s : Status) : Type 
 -- ---- A run
 
 -- What a run returns, over the call and the output.
-pub record Answers {C : Type 0} (p : Program C) (call : Call) (output : Stream) (s : Status) : Type 0 where
+pub record Answers {C : Type 0} (p : Program C) (call : Call) (output : Stream) (s : Status)
+    : Type 0 where
   -- Usage comes exactly where the arguments are no command's.
   pub usage : IsNoCommand p → (s ≡ Usage) ⊎ (s ≡ WriteFault)
   pub usage_only : s ≡ Usage → IsNoCommand p
-  -- ReadFault and WriteFault come only where the object's count of faults rose, or is at its last value.
+  -- ReadFault and WriteFault come only where the object's count of faults rose, or is at its last
+  -- value.
   pub read_fault : s ≡ ReadFault → Rose call.input.faults call.input.faults_after
   pub write_fault : s ≡ WriteFault → Rose output.faults output.faults_after
   -- Where the source's count rose, a read failed, the result is ReadFault.
   pub failed_read : call.input.faults < call.input.faults_after → (s ≡ ReadFault) ⊎ (s ≡ WriteFault)
   -- Where the draw's count rose, a draw failed, the result is Rng.
-  pub failed_draw : call.work.draw.faults < call.work.draw.faults_after → (s ≡ Rng) ⊎ (s ≡ WriteFault)
+  pub failed_draw : call.work.draw.faults < call.work.draw.faults_after
+      → (s ≡ Rng) ⊎ (s ≡ WriteFault)
   -- Where the sink's count rose, a write failed, the result is WriteFault.
   pub failed_write : output.faults < output.faults_after → s ≡ WriteFault
   -- No count falls.
   pub counts : (call.input.faults ≤ call.input.faults_after)
-      × (call.work.draw.faults ≤ call.work.draw.faults_after) × (output.faults ≤ output.faults_after)
+      × (call.work.draw.faults ≤ call.work.draw.faults_after)
+      × (output.faults ≤ output.faults_after)
   -- Of the input the limit's octets are taken at most, and one piece more.
   pub taken : TakesAtMost call.input.told call.input.told_after taken_limit
   -- InputTooLong comes only where more octets than the limit are in the input.
   pub too_long : s ≡ InputTooLong → IfSome call.input.told (λ x. input_limit < length x)
   -- After these two no step was taken.
   pub unworked : (s ≡ ReadFault) ⊎ (s ≡ InputTooLong) → TakesNoStep call.work
-  -- Each of the program's own refusals comes only where the input was read to its end, and for its cause.
-  pub refused : kind_of s ≡ own → ForCommand p (λ c. IsRead call.input (λ x. p.Refuses c call.work x s))
-  -- Done comes only where the input was read to its end and the work on it ended so; then the output grew by its text.
-  pub done : s ≡ Done → (text : List ℕ) × MakesText p call text × Appends output.told output.told_after text
-  -- On each status but WriteFault the text that is due for it was written, and on WriteFault a proper prefix of the
-  -- text that is due for a status that this call allows.
+  -- Each of the program's own refusals comes only where the input was read to its end, and for its
+  -- cause.
+  pub refused : kind_of s ≡ own
+      → ForCommand p (λ c. IsRead call.input (λ x. p.Refuses c call.work x s))
+  -- Done comes only where the input was read to its end and the work on it ended so; then the
+  -- output grew by its text.
+  pub done : s ≡ Done → (text : List ℕ) × MakesText p call text
+      × Appends output.told output.told_after text
+  -- On each status but WriteFault the text that is due for it was written, and on WriteFault a
+  -- proper prefix of the text that is due for a status that this call allows.
   pub written : s ≢ WriteFault
       → (text : List ℕ) × Due p call s text × Appends output.told output.told_after text
   pub part : s ≡ WriteFault
-      → (t : Status) × (text : List ℕ) × Due p call t text × AppendsPart output.told output.told_after text
-  -- Where the source tells its octets, and no read failed, the result is one that may come, or WriteFault.
+      → (t : Status) × (text : List ℕ) × Due p call t text
+      × AppendsPart output.told output.told_after text
+  -- Where the source tells its octets, and no read failed, the result is one that may come, or
+  -- WriteFault.
   pub exact : (c : C) (x : List ℕ) → IsGiven p call c x
       → (s ≡ WriteFault) ⊎ IsExact (p.Exact c call.work x) x s
   -- The steps rise by at most the limit.

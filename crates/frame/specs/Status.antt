@@ -70,7 +70,8 @@ kind_of InputTooLong = too_long
 kind_of Memory = memory
 kind_of _ = own
 
--- A refusal of a program's own comes only where R; running out of memory may come at any point, and no other status comes.
+-- A refusal of a program's own comes only where R; running out of memory may come at any point, and
+-- no other status comes.
 abbrev pub RefusedRow : (Status → Type 0) → Status → Kind → Type 0
 RefusedRow R s own = R s
 RefusedRow R s memory = ⊤

@@ -4,7 +4,7 @@ ghost use Rattle.std.specs.Result.{IsErrOf};
 ghost use Rattle.frame.specs.Calls.{Effects, effects};
 ghost use Rattle.frame.specs.Lined.{ExactLined, HasLine, NeverMalformed, RefusesLined, Spells};
 ghost use Rattle.frame.specs.Status.{Refused, status_in};
-ghost use Rattle.frame.specs.Stream.{stream};
+ghost use Rattle.frame.specs.Stream.{stream_of};
 ghost use Rattle.frame.specs.declared.status.Status.{Status};
 
 use crate::due_text::DueText;
@@ -45,17 +45,14 @@ pub trait StoreJob {
         draw: &mut D,
         steps: &mut Steps<L>,
     ) -> Result<Self::Made, Status>
-        ensures made { let drawn = stream (D.left draw.old) (D.left draw.new) (D.faults draw.old)
-            (D.faults draw.new) in
+        ensures made { let drawn = stream_of D.left D.faults draw.old draw.new in
             let e = effects drawn steps.old steps.new in
             IfOk result (λ m. makes self.now e store (Self.Made.text m)) }
-        ensures refused { let drawn = stream (D.left draw.old) (D.left draw.new) (D.faults draw.old)
-            (D.faults draw.new) in
+        ensures refused { let drawn = stream_of D.left D.faults draw.old draw.new in
             let e = effects drawn steps.old steps.new in
             IfErr result (Refused (refuses self.now e store)) }
         ensures well_formed { IfErr result NeverMalformed }
-        ensures exact { let drawn = stream (D.left draw.old) (D.left draw.new) (D.faults draw.old)
-            (D.faults draw.new) in
+        ensures exact { let drawn = stream_of D.left D.faults draw.old draw.new in
             let e = effects drawn steps.old steps.new in
             exact self.now e store (status_in result) ⊎ (status_in result ≡ Status.Memory) }
         ensures at_most { (steps.old ≤ steps.new) × (steps.new ≤ steps.old + limit self.now) }

@@ -5,7 +5,7 @@ ghost use Rattle.frame.specs.Deciding.{Decides};
 ghost use Rattle.frame.specs.Input.{status_unread};
 ghost use Rattle.frame.specs.Programs.{Answers, asks};
 ghost use Rattle.frame.specs.Status.{status_in, text_in};
-ghost use Rattle.frame.specs.Stream.{stream};
+ghost use Rattle.frame.specs.Stream.{stream_of};
 
 use crate::due_text::{DueText, write_error};
 use crate::input::{InputError, read_input};
@@ -34,8 +34,7 @@ pub fn write_decision<T: DueText + Drop, O: Sink>(
     decision: Result<T, Status>,
 ) -> Status
     ensures count { O.faults output.old ≤ O.faults output.new }
-    ensures written { let written = stream (O.written output.old) (O.written output.new)
-        (O.faults output.old) (O.faults output.new) in
+    ensures written { let written = stream_of O.written O.faults output.old output.new in
         IsWritten written (status_in decision) (text_in T.text decision) result }
 {
     match decision {
@@ -58,10 +57,8 @@ fn decide<J: Job + Drop, I: Source, D: Draw, L: Ledger>(
     draw: &mut D,
     steps: &mut Steps<L>,
 ) -> Result<J::Made, Status>
-    ensures decides { let read = stream (I.left input.old) (I.left input.new) (I.faults input.old)
-        (I.faults input.new) in
-        let drawn = stream (D.left draw.old) (D.left draw.new) (D.faults draw.old)
-        (D.faults draw.new) in
+    ensures decides { let read = stream_of I.left I.faults input.old input.new in
+        let drawn = stream_of D.left D.faults draw.old draw.new in
         Decides (asks asked J.makes J.refuses J.exact J.limit)
         (call_of read drawn steps.old steps.new) (status_in result) (text_in J.Made.text result) }
     ensures untouched { asked ≡ None → (input.new ≡ input.old) × (draw.new ≡ draw.old)
@@ -96,12 +93,9 @@ pub fn answer<J: Job + Drop, I: Source, O: Sink, D: Draw, L: Ledger>(
     steps: &mut Steps<L>,
 ) -> Status
     // The causes of each status, where each has to come, what is written and the steps.
-    ensures answers { let read = stream (I.left input.old) (I.left input.new) (I.faults input.old)
-        (I.faults input.new) in
-        let drawn = stream (D.left draw.old) (D.left draw.new) (D.faults draw.old)
-        (D.faults draw.new) in
-        let written = stream (O.written output.old) (O.written output.new) (O.faults output.old)
-        (O.faults output.new) in
+    ensures answers { let read = stream_of I.left I.faults input.old input.new in
+        let drawn = stream_of D.left D.faults draw.old draw.new in
+        let written = stream_of O.written O.faults output.old output.new in
         Answers (asks asked J.makes J.refuses J.exact J.limit)
         (call_of read drawn steps.old steps.new) written result }
     // With no job nothing is read, drawn or counted.

@@ -15,7 +15,8 @@ use Rattle.inventory_core.specs.InputLine.{IsLine, IsNoLine}
 use Rattle.inventory_core.specs.Table.{IsTable}
 use Rattle.inventory_core.specs.Words.{Command, IsCommand}
 
--- The store b opens under the password p and the limit, the steps rise by its work, and the text is its table.
+-- The store b opens under the password p and the limit, the steps rise by its work, and the text is
+-- its table.
 pub record Inventories (b p : List ℕ) (limit steps steps_after : ℕ) (text : List ℕ) : Type 0 where
   pub bags : List (List SafeBag)
   pub keys : List (List ℕ)
@@ -27,27 +28,33 @@ pub record Inventories (b p : List ℕ) (limit steps steps_after : ℕ) (text : 
 
 -- The store is refused for e, after the steps that were taken.
 abbrev pub IsRefused : List ℕ → List ℕ → ℕ → ℕ → ℕ → TransferError → Type 0
-IsRefused b p limit steps steps_after e = (n : ℕ) × HasVerdict b p limit (refused e) n × (steps_after ≡ steps + n)
+IsRefused b p limit steps steps_after e = (n : ℕ) × HasVerdict b p limit (refused e) n
+    × (steps_after ≡ steps + n)
 
 -- Done comes only for a line that spells a store with an inventory, and the text is that.
 abbrev pub MakesInventory : Command → Effects → List ℕ → List ℕ → Type 0
-MakesInventory c e x text = (store : List ℕ) × IsLine x store × Inventories store c.password c.limit e.steps e.steps_after text
+MakesInventory c e x text = (store : List ℕ) × IsLine x store
+    × Inventories store c.password c.limit e.steps e.steps_after text
 
--- InputMalformed comes only for an input that is no line, and then no step is taken. Any other refusal comes only for the first cause to
--- refuse the store, and after exactly the steps of that cause.
+-- InputMalformed comes only for an input that is no line, and then no step is taken. Any other
+-- refusal comes only for the first cause to refuse the store, and after exactly the steps of that
+-- cause.
 abbrev pub RefusesInventory : Command → Effects → List ℕ → Status → Type 0
 RefusesInventory c e x InputMalformed = IsNoLine x × TakesNoStep e
 RefusesInventory c e x s = (store : List ℕ) × IsLine x store
-    × ((cause : TransferError) × (s ≡ status_of cause) × IsRefused store c.password c.limit e.steps e.steps_after cause)
+    × ((cause : TransferError) × (s ≡ status_of cause)
+    × IsRefused store c.password c.limit e.steps e.steps_after cause)
 
 -- Each status comes where its row holds, out of memory apart.
 pub record ExactInventory (c : Command) (x : List ℕ) (s : Status) : Type 0 where
   -- an input that is no line
   pub malformed : IsNoLine x → s ≡ InputMalformed
   -- a store that a cause refuses: the status of the first cause
-  pub refuses : (store : List ℕ) (e : TransferError) → IsLine x store → FirstCause store c.password c.limit (Some e) → s ≡ status_of e
+  pub refuses : (store : List ℕ) (e : TransferError) → IsLine x store
+      → FirstCause store c.password c.limit (Some e) → s ≡ status_of e
   -- a store that no cause refuses
-  pub completes : (store : List ℕ) → IsLine x store → FirstCause store c.password c.limit None → s ≡ Done
+  pub completes : (store : List ℕ) → IsLine x store → FirstCause store c.password c.limit None
+      → s ≡ Done
 
 -- What the program promises for these arguments.
 abbrev pub on_lines : List (List ℕ) → Program Command

@@ -47,17 +47,24 @@ KeyText = PublicKeyText AnyText BitsText
 
 -- what may come after the key: issuerUniqueID [1], subjectUniqueID [2], extensions [3]
 abbrev pub AfterKey : Certificate → List ℕ → Certificate → Type 0
-AfterKey c = On (Perhaps (Tagged 0x81)) (λ issuer_id. On (Perhaps (Tagged 0x82)) (λ subject_id. On (Perhaps (Tagged 0xa3)) (λ extensions. Ended c)))
+AfterKey c = On (Perhaps (Tagged 0x81)) (λ issuer_id. On (Perhaps (Tagged 0x82)) (λ subject_id.
+    On (Perhaps (Tagged 0xa3)) (λ extensions. Ended c)))
 
--- TBSCertificate ::= SEQUENCE { version [0] OPTIONAL, serialNumber INTEGER, signature AlgorithmIdentifier, issuer, validity, subject,
---     subjectPublicKeyInfo SubjectPublicKeyInfo, issuerUniqueID [1] OPTIONAL, subjectUniqueID [2] OPTIONAL, extensions [3] OPTIONAL }
+-- TBSCertificate ::= SEQUENCE { version [0] OPTIONAL, serialNumber INTEGER, signature
+-- AlgorithmIdentifier, issuer, validity, subject,
+-- subjectPublicKeyInfo SubjectPublicKeyInfo, issuerUniqueID [1] OPTIONAL, subjectUniqueID [2]
+-- OPTIONAL, extensions [3] OPTIONAL }
 abbrev pub SignedText : List ℕ → Certificate → Type 0
-SignedText = Sequence (On (Perhaps (Tagged 0xa0)) (λ version. On SerialText (λ serial. On AnyAlgorithmText (λ signature.
-    On (Tagged 0x30) (λ issuer. On (Tagged 0x30) (λ validity. On (Tagged 0x30) (λ subject. On KeyText (λ key. AfterKey (certificate issuer subject key)))))))))
+SignedText = Sequence (On (Perhaps (Tagged 0xa0)) (λ version. On SerialText (λ serial.
+    On AnyAlgorithmText (λ signature.
+    On (Tagged 0x30) (λ issuer. On (Tagged 0x30) (λ validity. On (Tagged 0x30) (λ subject.
+    On KeyText (λ key. AfterKey (certificate issuer subject key)))))))))
 
--- Certificate ::= SEQUENCE { tbsCertificate TBSCertificate, signatureAlgorithm AlgorithmIdentifier, signature BIT STRING }
+-- Certificate ::= SEQUENCE { tbsCertificate TBSCertificate, signatureAlgorithm AlgorithmIdentifier,
+-- signature BIT STRING }
 abbrev pub CertificateText : List ℕ → Certificate → Type 0
-CertificateText = Sequence (On SignedText (λ c. On AnyAlgorithmText (λ algorithm. On BitsText (λ signature. Ended c))))
+CertificateText = Sequence (On SignedText (λ c. On AnyAlgorithmText (λ algorithm.
+    On BitsText (λ signature. Ended c))))
 
 -- b is the text of a certificate, of at most 2 ^ 32 - 1 octets, and c is what is kept of it.
 abbrev pub IsCertificate : List ℕ → Certificate → Type 0

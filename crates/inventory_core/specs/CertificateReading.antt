@@ -1,4 +1,5 @@
--- Reading certificates from left to right. Nothing to believe here: it is proved to read exactly the relation.
+-- Reading certificates from left to right. Nothing to believe here: it is proved to read exactly
+-- the relation.
 use Rattle.std.specs.Prelude.{ℕ, ◌==◌, List, Option}
 use Rattle.asn1_core.specs.Reading.{All, Front, any_tag, ended, inside_at, on, option_at, raw_at, within}
 use Rattle.asn1_core.specs.Fields.{passing}
@@ -33,7 +34,9 @@ unfoldable pub after_key : Certificate → All Certificate
 after_key c = on (maybe_at 0x81) (λ p. on (maybe_at 0x82) (λ q. on (maybe_at 0xa3) (λ e. ended c)))
 
 unfoldable pub signed_all : All Certificate
-signed_all = on (maybe_at 0xa0) (λ v. on serial_at (λ n. on any_algorithm_at (λ a. on (tagged_at 0x30) (λ i. on (tagged_at 0x30) (λ w. on (tagged_at 0x30) (λ s. on key_at (λ k. after_key (certificate i s k))))))))
+signed_all = on (maybe_at 0xa0) (λ v. on serial_at (λ n. on any_algorithm_at (λ a.
+    on (tagged_at 0x30) (λ i. on (tagged_at 0x30) (λ w. on (tagged_at 0x30) (λ s.
+    on key_at (λ k. after_key (certificate i s k))))))))
 
 unfoldable pub signed_at : Front Certificate
 signed_at = within 0x30 signed_all

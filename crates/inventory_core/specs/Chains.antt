@@ -1,5 +1,5 @@
--- The parents and the chains of the certificates of a store. Certificates are numbered from 0, in store order; None is one
--- that could not be read.
+-- The parents and the chains of the certificates of a store. Certificates are numbered from 0, in
+-- store order; None is one that could not be read.
 use Rattle.std.specs.Prelude.{ℕ, ◌≡◌, ◌≢◌, ◌<◌, List, [], ◌∷◌, ◌++◌, Option, Some, None, Bool, true, false, ◌==◌, MatchOption}
 use Rattle.std.specs.List.{list_any, slice_get}
 use Rattle.std.specs.Str.{bytes_eq}
@@ -22,12 +22,14 @@ Subject cs name k = has_subject (slice_get cs k) name ≡ true
 abbrev pub IsLeast : (ℕ → Type 0) → Option ℕ → Type 0
 IsLeast P o = MatchOption o ((k : ℕ) → P k → ⊥) (λ k. P k × ((i : ℕ) → i < k → P i → ⊥))
 
--- The parent of the j-th certificate: itself, where its issuer is its subject; else the least other one whose subject is its
--- issuer; else none that is known.
+-- The parent of the j-th certificate: itself, where its issuer is its subject; else the least other
+-- one whose subject is its issuer; else none that is known.
 abbrev pub IsParent : List (Option Certificate) → ℕ → Certificate → Parent → Type 0
 IsParent cs j c parent.Itself = c.issuer ≡ c.subject
-IsParent cs j c (parent.Of k) = (c.issuer ≢ c.subject) × IsLeast (λ i. (i ≢ j) × Subject cs c.issuer i) (Some k)
-IsParent cs j c parent.Unknown = (c.issuer ≢ c.subject) × IsLeast (λ i. (i ≢ j) × Subject cs c.issuer i) None
+IsParent cs j c (parent.Of k) = (c.issuer ≢ c.subject)
+    × IsLeast (λ i. (i ≢ j) × Subject cs c.issuer i) (Some k)
+IsParent cs j c parent.Unknown = (c.issuer ≢ c.subject)
+    × IsLeast (λ i. (i ≢ j) × Subject cs c.issuer i) None
 
 -- ---- Chains
 
@@ -35,10 +37,13 @@ IsParent cs j c parent.Unknown = (c.issuer ≢ c.subject) × IsLeast (λ i. (i �
 abbrev pub has : List ℕ → ℕ → Bool
 has ks k = list_any (λ i. i == k) ks
 
--- After a certificate comes the least one that is not among the numbers so far and whose subject is its issuer. Nothing follows one
--- that could not be read or is its own issuer.
-abbrev pub FollowsOne : List (Option Certificate) → List ℕ → Option (Option Certificate) → Option ℕ → Type 0
-FollowsOne cs sofar (Some (Some c)) o = MatchBool (bytes_eq c.issuer c.subject) (o ≡ None) (IsLeast (λ k. (has sofar k ≡ false) × Subject cs c.issuer k) o)
+-- After a certificate comes the least one that is not among the numbers so far and whose subject is
+-- its issuer. Nothing follows one that could not be read or is its own issuer.
+abbrev pub FollowsOne : List (Option Certificate) → List ℕ → Option (Option Certificate) → Option ℕ
+    → Type 0
+FollowsOne cs sofar (Some (Some c)) o =
+    MatchBool (bytes_eq c.issuer c.subject) (o ≡ None)
+    (IsLeast (λ k. (has sofar k ≡ false) × Subject cs c.issuer k) o)
 FollowsOne cs sofar (Some None) o = o ≡ None
 FollowsOne cs sofar None o = o ≡ None
 
@@ -65,8 +70,11 @@ Once (k ∷ ks) = (has ks k ≡ false) × Once ks
 -- The subject of each is the issuer of the one before it, the j-th being before the first.
 abbrev pub Issued : List (Option Certificate) → ℕ → List ℕ → Type 0
 Issued cs j [] = Unit {0}
-Issued cs j (k ∷ ks) = ((c : Certificate) × (slice_get cs j ≡ Some (Some c)) × Subject cs c.issuer k) × Issued cs k ks
+Issued cs j (k ∷ ks) =
+    ((c : Certificate) × (slice_get cs j ≡ Some (Some c)) × Subject cs c.issuer k) × Issued cs k ks
 
--- A chain has each certificate at most once, and the subject of each is the issuer of the one before it.
+-- A chain has each certificate at most once, and the subject of each is the issuer of the one
+-- before it.
 abbrev pub ChainsRise : Type 0
-ChainsRise = (cs : List (Option Certificate)) (start : ℕ) (ks : List ℕ) → IsChain cs start ks → Once ks × ((rest : List ℕ) → ks ≡ start ∷ rest → Issued cs start rest)
+ChainsRise = (cs : List (Option Certificate)) (start : ℕ) (ks : List ℕ) → IsChain cs start ks
+    → Once ks × ((rest : List ℕ) → ks ≡ start ∷ rest → Issued cs start rest)

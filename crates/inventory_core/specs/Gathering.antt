@@ -24,4 +24,5 @@ certificate_part g = map certificate_of (at_most_one (x509_of g.bag))
 
 -- The text of the key of each certificate has at most 2 ^ 32 - 1 octets.
 abbrev pub HaveShortKeys : List (Option Certificate) → Type 0
-HaveShortKeys cs = (j : ℕ) (c : Certificate) → slice_get cs j ≡ Some (Some c) → IsShort (public_key_text c.key)
+HaveShortKeys cs = (j : ℕ) (c : Certificate) → slice_get cs j ≡ Some (Some c)
+    → IsShort (public_key_text c.key)

@@ -1,4 +1,5 @@
--- The lines of an inventory, over the certificates that could be read and the local key ids of the bags.
+-- The lines of an inventory, over the certificates that could be read and the local key ids of the
+-- bags.
 use Rattle.std.specs.Prelude.{ℕ, ◌≡◌, ◌+◌, List, [], ◌∷◌, ◌++◌, Option, Some, None, Bool, true, false, codes, decimal}
 use Rattle.std.specs.List.{flat_map, slice_get}
 use Rattle.std.specs.Str.{bytes_eq}
@@ -29,7 +30,8 @@ IsStart ids (Some id) start = IsLeast (λ j. has_key_id (slice_get ids j) id ≡
 abbrev pub CertificateLine : List (Option Certificate) → ℕ → Option Certificate → List ℕ → Type 0
 CertificateLine cs j None line = line ≡ codes "cert " ++ decimal j ++ codes " - -\n"
 CertificateLine cs j (Some c) line = (above : Parent) × IsParent cs j c above
-    × (line ≡ codes "cert " ++ decimal j ++ codes " " ++ encode_lower (fingerprint c) ++ codes " " ++ parent_text above ++ codes "\n")
+    × (line ≡ codes "cert " ++ decimal j ++ codes " " ++ encode_lower (fingerprint c) ++ codes " "
+    ++ parent_text above ++ codes "\n")
 
 -- numbers, a space before each
 abbrev pub numbers : List ℕ → List ℕ
@@ -38,12 +40,15 @@ numbers ks = flat_map (λ k. codes " " ++ decimal k) ks
 -- key I and its chain: its number, and those of its chain
 abbrev pub ChainLine : List (Option Certificate) → ℕ → Option ℕ → List ℕ → Type 0
 ChainLine cs i None line = line ≡ codes "key " ++ decimal i ++ codes " -\n"
-ChainLine cs i (Some start) line = (ks : List ℕ) × IsChain cs start ks × (line ≡ codes "key " ++ decimal i ++ numbers ks ++ codes "\n")
+ChainLine cs i (Some start) line = (ks : List ℕ) × IsChain cs start ks
+    × (line ≡ codes "key " ++ decimal i ++ numbers ks ++ codes "\n")
 
-abbrev pub KeyLine : List (Option Certificate) → List (Option (List ℕ)) → ℕ → Option (List ℕ) → List ℕ → Type 0
+abbrev pub KeyLine : List (Option Certificate) → List (Option (List ℕ)) → ℕ → Option (List ℕ)
+    → List ℕ → Type 0
 KeyLine cs ids i id line = (start : Option ℕ) × IsStart ids id start × ChainLine cs i start line
 
 -- These are the lines of these things, which are numbered from n.
 abbrev pub AreLines : {A : Type 0} → (ℕ → A → List ℕ → Type 0) → ℕ → List A → List (List ℕ) → Type 0
 AreLines L n [] lines = lines ≡ []
-AreLines L n (x ∷ xs) lines = (line : List ℕ) × (more : List (List ℕ)) × L n x line × AreLines L (n + 1) xs more × (lines ≡ line ∷ more)
+AreLines L n (x ∷ xs) lines = (line : List ℕ) × (more : List (List ℕ)) × L n x line
+    × AreLines L (n + 1) xs more × (lines ≡ line ∷ more)

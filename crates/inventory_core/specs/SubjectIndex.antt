@@ -1,4 +1,5 @@
--- What an index of subjects has. Nothing to believe here: what public calls promise does not name it.
+-- What an index of subjects has. Nothing to believe here: what public calls promise does not name
+-- it.
 use Rattle.std.specs.Prelude.{ℕ, suc, zero, ◌≡◌, ◌≢◌, ◌<◌, ◌≤◌, ◌+◌, ◌-◌, List, Option, Some, None, Bool, true, false, cond, ◌==◌, length, get_or, ⊤}
 use Rattle.std.specs.List.{slice_get}
 use Rattle.std.specs.Option.{unwrap_or}
@@ -42,10 +43,13 @@ abbrev pub IsBefore : ℕ → Option ℕ → Type 0
 IsBefore i None = ⊤
 IsBefore i (Some k) = i < k
 
--- The certificates with this subject before the cursor are in the chain. Those from the cursor on are not, the start apart.
-pub record IsRest (cs : List (Option Certificate)) (start : ℕ) (chain name : List ℕ) (cursor : Option ℕ) : Type 0 where
+-- The certificates with this subject before the cursor are in the chain. Those from the cursor on
+-- are not, the start apart.
+pub record IsRest (cs : List (Option Certificate)) (start : ℕ) (chain name : List ℕ)
+    (cursor : Option ℕ) : Type 0 where
   pub passed : (i : ℕ) → Subject cs name i → IsBefore i cursor → has chain i ≡ true
-  pub left : (k i : ℕ) → cursor ≡ Some k → k ≤ i → Subject cs name i → i ≢ start → has chain i ≡ false
+  pub left : (k i : ℕ) → cursor ≡ Some k → k ≤ i → Subject cs name i → i ≢ start
+      → has chain i ≡ false
   pub among : (k : ℕ) → cursor ≡ Some k → Subject cs name k
 
 -- the cursor of those with the subject of the r-th: at itself where it was not moved
@@ -53,9 +57,11 @@ abbrev pub cursor_of : (ℕ → Option (Option ℕ)) → ℕ → Option ℕ
 cursor_of cursors r = unwrap_or (cursors r) (Some r)
 
 -- These are the cursors of a chain with this start, each at the first certificate of its subject.
-pub record AreCursors (cs : List (Option Certificate)) (start : ℕ) (chain : List ℕ) (cursor : ℕ → Option ℕ) : Type 0 where
+pub record AreCursors (cs : List (Option Certificate)) (start : ℕ) (chain : List ℕ)
+    (cursor : ℕ → Option ℕ) : Type 0 where
   pub started : has chain start ≡ true
-  pub rests : (name : List ℕ) (r : ℕ) → IsLeast (Subject cs name) (Some r) → IsRest cs start chain name (cursor r)
+  pub rests : (name : List ℕ) (r : ℕ) → IsLeast (Subject cs name) (Some r)
+      → IsRest cs start chain name (cursor r)
 
 -- the certificate at a cursor, or the next one with its subject where that is the start
 abbrev pub skipped : List (Option ℕ) → ℕ → Option ℕ → Option ℕ

@@ -7,7 +7,9 @@ use Rattle.inventory_core.specs.declared.certificate.CertificateView.{Certificat
 use Rattle.inventory_core.specs.Certificate.{Certificate, certificate}
 
 abbrev pub seen_certificate : CertificateView → Certificate
-seen_certificate c = certificate c.issuer.now c.subject.now (seen_public_key borrowed_any (λ s. seen_bits s.unused_bits s.octets.now) c.spki)
+seen_certificate c =
+    certificate c.issuer.now c.subject.now (seen_public_key borrowed_any
+    (λ s. seen_bits s.unused_bits s.octets.now) c.spki)
 
 -- of those that could be read
 abbrev pub seen_all : List (Option CertificateView) → List (Option Certificate)

@@ -2,7 +2,7 @@
 ghost use Rattle.std.specs.Prelude.{◌≡◌, map};
 ghost use Rattle.std.specs.String.{string_bytes};
 ghost use Rattle.frame.specs.Calls.{call_of};
-ghost use Rattle.frame.specs.Stream.{stream};
+ghost use Rattle.frame.specs.Stream.{stream_of};
 ghost use Rattle.inventory_core.specs.Answers.{Answers, no_draw};
 ghost use Rattle.inventory_core.specs.Words.{IsNoCommand};
 
@@ -30,10 +30,8 @@ pub fn inventory_run<I: Source, O: Sink, L: Ledger>(
     steps: &mut Steps<L>,
 ) -> Status
     // When each status comes, where each has to come, what is written and the steps.
-    ensures answers { let read = stream (I.left input.old) (I.left input.new) (I.faults input.old)
-        (I.faults input.new) in
-        let written = stream (O.written output.old) (O.written output.new) (O.faults output.old)
-        (O.faults output.new) in
+    ensures answers { let read = stream_of I.left I.faults input.old input.new in
+        let written = stream_of O.written O.faults output.old output.new in
         Answers (map string_bytes words.now) (call_of read no_draw steps.old steps.new) written
         result }
     // On `Usage` nothing is read and no step taken.

@@ -1,4 +1,5 @@
--- What each call returns, by the definitions of the crates; which lines are cases, and which cases hold.
+-- What each call returns, by the definitions of the crates; which lines are cases, and which cases
+-- hold.
 use Rattle.std.specs.Prelude.{◌≡◌, ℕ, ◌^◌, ◌-◌, List, [], ◌∷◌, ◌++◌, drop, length, get_or, codes, Ok}
 use Rattle.sha1.specs.Sha1.{sha1}
 use Rattle.sha2.specs.Sha256.{sha224, sha256}
@@ -79,15 +80,18 @@ name_of Identifier = codes "identifier"
 abbrev pub word : List (List ℕ) → ℕ → List ℕ
 word words i = get_or words i []
 
--- o is the key of PBKDF2 over the function f, where a result has u octets: password, salt, rounds, length
+-- o is the key of PBKDF2 over the function f, where a result has u octets: password, salt, rounds,
+-- length
 abbrev pub IsDerived : (List ℕ → List ℕ → List ℕ) → ℕ → List (List ℕ) → List ℕ → Type 0
 IsDerived f u words o = (rounds : ℕ) × (uint_of (2 ^ 32 - 1) (word words 2) ≡ Ok rounds)
     × (uint_of 256 (word words 3) ≡ Ok (length o))
     × (o ≡ pbkdf2 (f (word words 0)) u (word words 1) rounds (length o))
 
--- o is the text whose padded form the ciphertext decrypts to: key, initialization vector, ciphertext
+-- o is the text whose padded form the ciphertext decrypts to: key, initialization vector,
+-- ciphertext
 abbrev pub IsOpened : (List ℕ → List ℕ → List ℕ) → ℕ → List (List ℕ) → List ℕ → Type 0
-IsOpened inverse size words o = padded o size ≡ uncbc (inverse (word words 0)) size (word words 1) (word words 2)
+IsOpened inverse size words o =
+    padded o size ≡ uncbc (inverse (word words 0)) size (word words 1) (word words 2)
 
 -- o is the ciphertext of the text, and its tag after it: key, nonce, text
 abbrev pub IsGcmSealed : (List ℕ → List ℕ → List ℕ) → List (List ℕ) → List ℕ → Type 0
@@ -99,21 +103,28 @@ IsGcmOpened cipher words o = gcm (cipher (word words 0)) (word words 1) o ≡ wo
 
 -- words 2 to 4 state the costs of scrypt
 abbrev pub Costs : List (List ℕ) → ℕ → ℕ → ℕ → Type 0
-Costs words log_n r p = (uint_of 63 (word words 2) ≡ Ok log_n) × (uint_of (2 ^ 32 - 1) (word words 3) ≡ Ok r)
+Costs words log_n r p = (uint_of 63 (word words 2) ≡ Ok log_n)
+    × (uint_of (2 ^ 32 - 1) (word words 3) ≡ Ok r)
     × (uint_of (2 ^ 32 - 1) (word words 4) ≡ Ok p)
 
 -- o is the text of the value that the PHC string t has
 abbrev pub IsRewritten : List ℕ → List ℕ → Type 0
 IsRewritten t o = (hash : PasswordHash) × Phc t hash × (o ≡ phc_text hash)
 
--- o is the text of a store that is made of a certificate, its key and further certificates, under a password and a name, and
--- under the octets that are drawn for its salts
-pub record IsMade (certificate key password name drawn : List ℕ) (others : List (List ℕ)) (o : List ℕ) : Type 0 where
+-- o is the text of a store that is made of a certificate, its key and further certificates, under a
+-- password and a name, and under the octets that are drawn for its salts
+pub record IsMade (certificate key password name drawn : List ℕ) (others : List (List ℕ))
+    (o : List ℕ) : Type 0 where
   pub store : PFX
   pub salts : Salts
   pub rest : List ℕ
   pub took : drawn ≡ (salts.key ++ (salts.certificates ++ salts.mac)) ++ rest
-  pub is : IsStoreOf (bmp_password password) (record { certificate = certificate; key = key; others = others; name = name }) store salts
+  pub is : IsStoreOf (bmp_password password) (record {
+    certificate = certificate;
+    key = key;
+    others = others;
+    name = name;
+  }) store salts
   pub text : o ≡ store_canon store
 
 -- o is the text of the store that the text t has
@@ -157,20 +168,28 @@ IsAnswer HmacSha512 words o = o ≡ hmac sha512 128 (word words 0) (word words 1
 IsAnswer Pbkdf2Sha1 words o = IsDerived (hmac sha1 64) 20 words o
 IsAnswer Pbkdf2Sha256 words o = IsDerived (hmac sha256 64) 32 words o
 IsAnswer Pbkdf2Sha512 words o = IsDerived (hmac sha512 128) 64 words o
-IsAnswer Scrypt words o = (log_n r p : ℕ) × Costs words log_n r p × (uint_of 256 (word words 5) ≡ Ok (length o))
+IsAnswer Scrypt words o = (log_n r p : ℕ) × Costs words log_n r p
+    × (uint_of 256 (word words 5) ≡ Ok (length o))
     × (o ≡ scrypt (word words 0) (word words 1) (2 ^ log_n) r p (length o))
-IsAnswer Pkcs12Key words o = (rounds id size : ℕ) × (uint_of (2 ^ 32 - 1) (word words 2) ≡ Ok rounds)
+IsAnswer Pkcs12Key words o = (rounds id size : ℕ)
+    × (uint_of (2 ^ 32 - 1) (word words 2) ≡ Ok rounds)
     × (uint_of 255 (word words 3) ≡ Ok id) × (uint_of 1024 (word words 4) ≡ Ok size)
     × (o ≡ derive12 sha1 20 (word words 0) (word words 1) rounds id size)
-IsAnswer Pkcs12Store words o = IsMade (word words 0) (word words 1) (word words 2) (word words 3) (word words 4) (drop 5 words) o
+IsAnswer Pkcs12Store words o =
+    IsMade (word words 0) (word words 1) (word words 2) (word words 3) (word words 4)
+    (drop 5 words) o
 IsAnswer Pkcs12Written words o = IsWritten (word words 0) o
-IsAnswer PhcVerify words o = (hash : PasswordHash) × Phc (word words 1) hash × Agrees (word words 0) hash × (o ≡ 1 ∷ [])
-IsAnswer Pkcs5Decrypt words o = (scheme : EncryptionScheme) × (whole scheme_at (word words 0) ≡ Ok scheme)
+IsAnswer PhcVerify words o = (hash : PasswordHash) × Phc (word words 1) hash
+    × Agrees (word words 0) hash × (o ≡ 1 ∷ [])
+IsAnswer Pkcs5Decrypt words o = (scheme : EncryptionScheme)
+    × (whole scheme_at (word words 0) ≡ Ok scheme)
     × SchemeOpens scheme (word words 1) (word words 2) o
 IsAnswer PhcString words o = IsRewritten (word words 0) o
-IsAnswer Pkcs5Encrypt words o = (scheme : EncryptionScheme) × (whole scheme_at (word words 0) ≡ Ok scheme)
+IsAnswer Pkcs5Encrypt words o = (scheme : EncryptionScheme)
+    × (whole scheme_at (word words 0) ≡ Ok scheme)
     × SchemeOpens scheme (word words 1) o (word words 2)
-IsAnswer Pkcs5Scheme words o = (scheme : EncryptionScheme) × (whole scheme_at (word words 0) ≡ Ok scheme)
+IsAnswer Pkcs5Scheme words o = (scheme : EncryptionScheme)
+    × (whole scheme_at (word words 0) ≡ Ok scheme)
     × (o ≡ scheme_text scheme)
 IsAnswer SpkiFingerprint words o = IsFingerprint (word words 0) o
 IsAnswer Identifier words o = IsText (word words 0) o

@@ -1,7 +1,8 @@
 -- What a draw that fails at listed calls is.
 use Rattle.std.specs.Prelude.{ℕ, List, Contains}
 
--- the draw behind it, the numbers of the calls that fail, the number of the next call, and how often a fill failed
+-- the draw behind it, the numbers of the calls that fail, the number of the next call, and how
+-- often a fill failed
 pub record FailingState (D : Type 0) : Type 0 where
   pub inner : D
   pub failing : List ℕ

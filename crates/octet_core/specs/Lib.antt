@@ -1,4 +1,5 @@
 pub mod Padded
+pub mod PaddedLaws
 pub mod Lending
 pub mod Faults
 pub mod Draw

@@ -3,8 +3,8 @@ use Rattle.std.specs.Prelude.{ℕ, List, length, drop, min, Bool, if◌then◌el
 use Rattle.std.specs.List.{list_any}
 use Rattle.octet_core.specs.Faults.{one_more}
 
--- A source: what is still to come, how much one read gives at most, the numbers of the calls that fail, the number of the
--- next call, and how many reads have failed.
+-- A source: what is still to come, how much one read gives at most, the numbers of the calls that
+-- fail, the number of the next call, and how many reads have failed.
 pub record SourceState : Type 0 where
   pub rest : List ℕ
   pub piece : ℕ

@@ -18,7 +18,8 @@ pub struct ShortOctets<const MAX: usize> {
 
 impl<const MAX: usize> Model for ShortOctets<MAX> {
     ghost use Rattle.std.specs.Prelude.{ℕ, List, length, take, ◌≡◌, ◌≤◌};
-    ghost use Rattle.octet_core.specs.Padded.{IsPadded, padded, padded_take, length-take_padded};
+    ghost use Rattle.octet_core.specs.Padded.{IsPadded, padded};
+    ghost use Rattle.octet_core.specs.PaddedLaws.{padded_take, length-take_padded};
 
     ghost Value = { List ℕ };
 
@@ -36,7 +37,7 @@ impl<const MAX: usize> Model for ShortOctets<MAX> {
 
 impl<const MAX: usize> ShortOctets<MAX> {
     /// A copy of these octets. Caller: they are at most `MAX`.
-    #[tactic(auto, using(crate::specs::Padded::is_padded, crate::specs::Padded::take_padded))]
+    #[tactic(auto, using(crate::specs::PaddedLaws::is_padded, crate::specs::PaddedLaws::take_padded))]
     pub fn new(octets: &[u8]) -> ShortOctets<MAX>
         requires { length octets.now ≤ MAX }
         ensures { result ≡ octets.now }

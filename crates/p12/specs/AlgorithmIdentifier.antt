@@ -1,5 +1,5 @@
--- Algorithms of PKCS#12 (RFC 7292 appendix C; PBES2 of RFC 8018 appendix A.4; AlgorithmIdentifier of RFC 5280 section
--- 4.1.1.2), and what they open under a password.
+-- Algorithms of PKCS#12 (RFC 7292 appendix C; PBES2 of RFC 8018 appendix A.4; AlgorithmIdentifier
+-- of RFC 5280 section 4.1.1.2), and what they open under a password.
 use Rattle.std.specs.Prelude.{◌≡◌, ◌≢◌, ◌⊎◌, ℕ, ◌<◌, ◌≤◌, ◌+◌, ◌-◌, ◌*◌, ◌^◌, ◌%◌, ◌==◌, ◌&&◌, nat_lt, if◌then◌else◌, Bool, true, false, List, [], length, take, slice_index, Option, Some, None, ⊤}
 use Rattle.asn1_core.specs.Texts.{On, Perhaps, Raw, Uint, Oid, Inside}
 use Rattle.asn1_core.specs.Fields.{Field, End, Sequence}
@@ -27,7 +27,8 @@ use Rattle.p12.specs.declared.algorithm_identifier.AlgorithmIdentifier.TheVarian
 
 -- pkcs-12PbeParams ::= SEQUENCE { salt OCTET STRING, iterations INTEGER }, the count below 2 ^ 64
 abbrev pub ParamsText : List ℕ → Pkcs12PbeParams → Type 0
-ParamsText = Sequence (Field (Inside 0x04) (λ p. p.salt) (Field (Uint (2 ^ 64 - 1)) (λ p. p.iterations) End))
+ParamsText = Sequence (Field (Inside 0x04) (λ p. p.salt)
+    (Field (Uint (2 ^ 64 - 1)) (λ p. p.iterations) End))
 
 -- parameters that are none of PBES2
 abbrev pub NoScheme : List ℕ → Type 0
@@ -38,10 +39,12 @@ abbrev pub AlgorithmCase : ObjectIdentifier → List ℕ → AlgorithmIdentifier
 AlgorithmCase k q Sha1 = (oid_octets k ≡ sha1_oid) × ((q ≡ []) ⊎ (q ≡ null))
 AlgorithmCase k q Sha256 = (oid_octets k ≡ sha256_oid) × ((q ≡ []) ⊎ (q ≡ null))
 AlgorithmCase k q (PbewithSHAAnd40BitRC2CBC p) = (oid_octets k ≡ rc2_scheme_oid) × ParamsText q p
-AlgorithmCase k q (PbeWithSHAAnd3KeyTripleDESCBC p) = (oid_octets k ≡ triple_des_scheme_oid) × ParamsText q p
+AlgorithmCase k q (PbeWithSHAAnd3KeyTripleDESCBC p) = (oid_octets k ≡ triple_des_scheme_oid)
+    × ParamsText q p
 AlgorithmCase k q (Pbes2 par) = (oid_octets k ≡ pbes2_oid) × ParametersText q par
 AlgorithmCase k q (OtherAlg o) =
-    (oid_octets k ≢ sha1_oid) × (oid_octets k ≢ sha256_oid) × (oid_octets k ≢ rc2_scheme_oid) × (oid_octets k ≢ triple_des_scheme_oid)
+    (oid_octets k ≢ sha1_oid) × (oid_octets k ≢ sha256_oid) × (oid_octets k ≢ rc2_scheme_oid)
+    × (oid_octets k ≢ triple_des_scheme_oid)
     × (oid_octets k ≡ pbes2_oid → NoScheme q) × (o.algorithm_type ≡ k) × Perhaps Raw q o.params
 
 -- AlgorithmIdentifier ::= SEQUENCE { algorithm OBJECT IDENTIFIER, parameters ANY OPTIONAL }
@@ -50,7 +53,8 @@ AlgorithmText = Sequence (On Oid AlgorithmCase)
 
 -- ---- opening (RFC 7292 appendix B and C; RFC 8018 section 6.2)
 
--- whether a text under it can be opened: Triple DES, and PBES2 with PBKDF2 where a length of the key that is stated is the cipher's
+-- whether a text under it can be opened: Triple DES, and PBES2 with PBKDF2 where a length of the
+-- key that is stated is the cipher's
 abbrev pub openable : AlgorithmIdentifier → Bool
 openable Sha1 = false
 openable Sha256 = false
@@ -77,8 +81,8 @@ count (PbeWithSHAAnd3KeyTripleDESCBC p) = p.iterations
 count (Pbes2 par) = rounds_of par.kdf
 count (OtherAlg o) = 0
 
--- its share of the work: for Triple DES the SHA-1 digests of the key's two blocks and of the IV's one block, for PBES2 the
--- outputs of the pseudorandom function that make the key
+-- its share of the work: for Triple DES the SHA-1 digests of the key's two blocks and of the IV's
+-- one block, for PBES2 the outputs of the pseudorandom function that make the key
 abbrev pub cost : AlgorithmIdentifier → ℕ
 cost Sha1 = 0
 cost Sha256 = 0
@@ -115,15 +119,16 @@ taken Sha1 c = 0
 taken Sha256 c = 0
 taken (PbewithSHAAnd40BitRC2CBC p) c = 0
 taken (PbeWithSHAAnd3KeyTripleDESCBC p) c = taken_pbe (PbeWithSHAAnd3KeyTripleDESCBC p) c
-taken (Pbes2 par) c = if states_length par.kdf (key_size par.encryption) then rounds_of par.kdf * steps_of par else 0
+taken (Pbes2 par) c = if states_length par.kdf (key_size par.encryption)
+    then rounds_of par.kdf * steps_of par else 0
 taken (OtherAlg o) c = 0
 
 -- the text before its last k octets
 abbrev pub without_last : ℕ → List ℕ → List ℕ
 without_last k t = take (length t - k) t
 
--- the text of which t is the padded one, to blocks of n octets, or none: it ends where t's last octet says. It is the text by
--- the law `unpadding_undoes_padding` of src/uniqueness.rt.
+-- the text of which t is the padded one, to blocks of n octets, or none: it ends where t's last
+-- octet says. It is the text by the law `unpadding_undoes_padding` of src/uniqueness.rt.
 unfoldable pub unpadded : ℕ → List ℕ → Option (List ℕ)
 unpadded n t =
     let m = without_last (slice_index t (length t - 1)) t in
@@ -131,30 +136,35 @@ unpadded n t =
 
 -- what a text decrypts to under Triple DES, whose key and IV come of the password in UTF-16
 unfoldable pub triple_des_text : List ℕ → List ℕ → ℕ → List ℕ → List ℕ
-triple_des_text q salt r c = uncbc (inv_tdes (derive12 sha1 20 q salt r 1 24)) 8 (derive12 sha1 20 q salt r 2 8) c
+triple_des_text q salt r c =
+    uncbc (inv_tdes (derive12 sha1 20 q salt r 1 24)) 8 (derive12 sha1 20 q salt r 2 8) c
 
--- a text of RFC 7292 opened under a password in UTF-16: none under another algorithm, with no rounds, of a wrong length, or
--- with a wrong padding
+-- a text of RFC 7292 opened under a password in UTF-16: none under another algorithm, with no
+-- rounds, of a wrong length, or with a wrong padding
 unfoldable pub unlock_pbe : AlgorithmIdentifier → List ℕ → List ℕ → Option (List ℕ)
 unlock_pbe Sha1 q c = None
 unlock_pbe Sha256 q c = None
 unlock_pbe (PbewithSHAAnd40BitRC2CBC p) q c = None
-unlock_pbe (PbeWithSHAAnd3KeyTripleDESCBC p) q c = if nat_lt 0 p.iterations && is_blocks c then unpadded 8 (triple_des_text q p.salt p.iterations c) else None
+unlock_pbe (PbeWithSHAAnd3KeyTripleDESCBC p) q c = if nat_lt 0 p.iterations && is_blocks c
+    then unpadded 8 (triple_des_text q p.salt p.iterations c) else None
 unlock_pbe (Pbes2 par) q c = None
 unlock_pbe (OtherAlg o) q c = None
 
--- a text opened by PBES2 under a password: none with no rounds of PBKDF2, where the length of the key that is stated is not
--- the cipher's, and where the ciphertext opens to none
+-- a text opened by PBES2 under a password: none with no rounds of PBKDF2, where the length of the
+-- key that is stated is not the cipher's, and where the ciphertext opens to none
 unfoldable pub unlock_pbes2 : Parameters → List ℕ → List ℕ → Option (List ℕ)
 unlock_pbes2 par p c =
-    if states_length par.kdf (key_size par.encryption) && nat_lt 0 (rounds_of par.kdf) then opened par p c else None
+    if states_length par.kdf (key_size par.encryption) && nat_lt 0 (rounds_of par.kdf)
+    then opened par p c else None
 
--- a text opened under a password, given by its UTF-8: schemes of RFC 7292 take it in UTF-16, PBES2 as it is
+-- a text opened under a password, given by its UTF-8: schemes of RFC 7292 take it in UTF-16, PBES2
+-- as it is
 unfoldable pub unlock : AlgorithmIdentifier → List ℕ → List ℕ → Option (List ℕ)
 unlock Sha1 p c = None
 unlock Sha256 p c = None
 unlock (PbewithSHAAnd40BitRC2CBC params) p c = None
-unlock (PbeWithSHAAnd3KeyTripleDESCBC params) p c = unlock_pbe (PbeWithSHAAnd3KeyTripleDESCBC params) (bmp_password p) c
+unlock (PbeWithSHAAnd3KeyTripleDESCBC params) p c =
+    unlock_pbe (PbeWithSHAAnd3KeyTripleDESCBC params) (bmp_password p) c
 unlock (Pbes2 par) p c = unlock_pbes2 par p c
 unlock (OtherAlg o) p c = None
 
@@ -183,8 +193,9 @@ ciphertext_length n = n + pad_count 8 n
 abbrev pub IsSealed : (List ℕ → Option (List ℕ)) → List ℕ → List ℕ → Type 0
 IsSealed opens m c = (opens c ≡ Some m) × (length c < 2 ^ 32)
 
--- when sealing the text m is refused, by cases on the error: one with ⊥ never comes, running out of memory may come at any point, and
--- a text is too long where its ciphertext has more than 2 ^ 32 - 1 octets
+-- when sealing the text m is refused, by cases on the error: one with ⊥ never comes, running out of
+-- memory may come at any point, and a text is too long where its ciphertext has more than 2 ^ 32 -
+-- 1 octets
 abbrev pub RefusesToSeal : (List ℕ → Option (List ℕ)) → List ℕ → Error → Type 0
 RefusesToSeal opens m errors.Malformed = ⊥
 RefusesToSeal opens m errors.Invalid = ⊥

@@ -11,14 +11,18 @@ use Rattle.p12.specs.declared.attribute.PKCS12Attribute.TheVariants.{FriendlyNam
 
 -- what comes after the identifier k of an attribute; of several names or key ids the last counts
 abbrev pub AttributeCase : ObjectIdentifier → List ℕ → PKCS12Attribute → Type 0
-AttributeCase k q (FriendlyName t) = (oid_octets k ≡ friendly_name_oid) × Within 0x31 (Latest Bmp) q t
-AttributeCase k q (LocalKeyId v) = (oid_octets k ≡ local_key_id_oid) × Within 0x31 (Latest (Inside 0x04)) q v
-AttributeCase k q (Other o) = (oid_octets k ≢ friendly_name_oid) × (oid_octets k ≢ local_key_id_oid) × (o.oid ≡ k) × Within 0x31 (Many Raw) q o.values
+AttributeCase k q (FriendlyName t) = (oid_octets k ≡ friendly_name_oid)
+    × Within 0x31 (Latest Bmp) q t
+AttributeCase k q (LocalKeyId v) = (oid_octets k ≡ local_key_id_oid)
+    × Within 0x31 (Latest (Inside 0x04)) q v
+AttributeCase k q (Other o) = (oid_octets k ≢ friendly_name_oid) × (oid_octets k ≢ local_key_id_oid)
+    × (o.oid ≡ k) × Within 0x31 (Many Raw) q o.values
 
 -- PKCS12Attribute ::= SEQUENCE { attrId OBJECT IDENTIFIER, attrValues SET OF ANY }
 abbrev pub AttributeText : List ℕ → PKCS12Attribute → Type 0
 AttributeText = Sequence (On Oid AttributeCase)
 
--- bagAttributes SET OF PKCS12Attribute OPTIONAL: the attributes in the order read; no set is no attributes
+-- bagAttributes SET OF PKCS12Attribute OPTIONAL: the attributes in the order read; no set is no
+-- attributes
 abbrev pub AttributesText : List ℕ → List PKCS12Attribute → Type 0
 AttributesText = OrNothing [] (Within 0x31 (Many AttributeText))

@@ -23,7 +23,8 @@ seen_list b = read_or_none (many attribute_at b)
 abbrev pub seen_attribute : AttributeView → PKCS12Attribute
 seen_attribute (view.Name x) = owned.FriendlyName (bmp_text x.now)
 seen_attribute (view.KeyId x) = owned.LocalKeyId x.now
-seen_attribute (view.Other o values) = owned.Other (record { oid = o; values = seen_elements values.now })
+seen_attribute (view.Other o values) =
+    owned.Other (record { oid = o; values = seen_elements values.now })
 
 -- what is in a view that was read
 abbrev pub IsAttribute : AttributeView → Type 0

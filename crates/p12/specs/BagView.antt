@@ -1,4 +1,5 @@
--- What is seen of a bag that lends its parts: the same in memory of its own, and where its encrypted octets are.
+-- What is seen of a bag that lends its parts: the same in memory of its own, and where its
+-- encrypted octets are.
 use Rattle.std.specs.Prelude.{◌≡◌, ℕ, ◌-◌, ◌≤◌, List, ◌∷◌, length, Ok, true, ⊤}
 use Rattle.asn1_core.specs.Reading.{many}
 use Rattle.asn1_core.specs.Unicode.{is_ascii_text}
@@ -25,12 +26,19 @@ seen_cert (certificate.X509 v) = cert.X509 v.now
 seen_cert (certificate.Sdsi t) = cert.SDSI t.now
 
 abbrev pub seen_key : EncryptedView → EncryptedPrivateKeyInfo
-seen_key e = record { encryption_algorithm = seen_algorithm e.algorithm; encrypted_data = e.content.now }
+seen_key e = record {
+  encryption_algorithm = seen_algorithm e.algorithm;
+  encrypted_data = e.content.now;
+}
 
 abbrev pub seen_bag : BagView → SafeBagKind
 seen_bag (view.X509 v) = kind.CertBag (cert.X509 v.now)
 seen_bag (view.Sdsi t) = kind.CertBag (cert.SDSI t.now)
-seen_bag (view.Shrouded a v at) = kind.Pkcs8ShroudedKeyBag (record { encryption_algorithm = seen_algorithm a; encrypted_data = v.now })
+seen_bag (view.Shrouded a v at) =
+    kind.Pkcs8ShroudedKeyBag (record {
+      encryption_algorithm = seen_algorithm a;
+      encrypted_data = v.now;
+    })
 seen_bag (view.Other k v) = kind.OtherBagKind (record { bag_id = k; bag_value = v.now })
 
 abbrev pub seen_parts : BagParts → SafeBag
@@ -50,7 +58,8 @@ IsBagView (view.Other k v) = ⊤
 
 -- and of one with the octets of its attributes
 abbrev pub AreParts : BagParts → Type 0
-AreParts p = IsBagView p.bag × (many attribute_at p.attributes.now ≡ Ok (seen_list p.attributes.now))
+AreParts p = IsBagView p.bag
+    × (many attribute_at p.attributes.now ≡ Ok (seen_list p.attributes.now))
 
 abbrev pub BagEndsAt : ℕ → BagView → Type 0
 BagEndsAt end (view.X509 v) = ⊤
@@ -58,11 +67,13 @@ BagEndsAt end (view.Sdsi t) = ⊤
 BagEndsAt end (view.Shrouded a v at) = UpTo end v.now at
 BagEndsAt end (view.Other k v) = ⊤
 
--- its encrypted octets lie in b, which ends a text of so many octets, before rest, and end where it says
+-- its encrypted octets lie in b, which ends a text of so many octets, before rest, and end where it
+-- says
 abbrev pub BagLies : ℕ → List ℕ → List ℕ → BagView → Type 0
 BagLies total b rest (view.X509 v) = ⊤
 BagLies total b rest (view.Sdsi t) = ⊤
-BagLies total b rest (view.Shrouded a v at) = (after : List ℕ) × Part v.now b after × UpTo (total - length after) v.now at × (length rest ≤ length after)
+BagLies total b rest (view.Shrouded a v at) = (after : List ℕ) × Part v.now b after
+    × UpTo (total - length after) v.now at × (length rest ≤ length after)
 BagLies total b rest (view.Other k v) = ⊤
 
 -- it is where it says, in these octets

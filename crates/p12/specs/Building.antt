@@ -1,5 +1,5 @@
--- Stores that are made here (RFC 7292 section 5): every part under a salt of 8 drawn octets and 2,048 rounds, texts
--- under Triple DES, the MAC under SHA-1.
+-- Stores that are made here (RFC 7292 section 5): every part under a salt of 8 drawn octets and
+-- 2,048 rounds, texts under Triple DES, the MAC under SHA-1.
 use Rattle.std.specs.Prelude.{◌≡◌, ◌≤◌, ◌⊎◌, ℕ, List, [], ◌∷◌, ◌++◌, length, map, replicate, All, Option, Some, IfSome, ⊤}
 use Rattle.std.specs.Io.KnownBytes.{Consumes}
 use Rattle.octet_core.specs.Draw.{Lacks}
@@ -56,9 +56,9 @@ pub record DrawsSalts (old new : Option (List ℕ)) (P : Salts → Type 0) : Typ
 abbrev pub AreEnough : Option (List ℕ) → ℕ → Type 0
 AreEnough left n = IfSome left (λ octets. n ≤ length octets)
 
--- a call that draws n octets is refused, by cases on the error: one with ⊥ never comes, running out of memory may come at any
--- point; `bad` is when a value cannot be written, `long` when a text would be too long, and both come only where there
--- were enough octets
+-- a call that draws n octets is refused, by cases on the error: one with ⊥ never comes, running out
+-- of memory may come at any point; `bad` is when a value cannot be written, `long` when a text
+-- would be too long, and both come only where there were enough octets
 abbrev pub RefusesDrawn : Type 0 → Type 0 → ℕ → ℕ → Option (List ℕ) → ℕ → Error → Type 0
 RefusesDrawn bad long before now left n errors.Malformed = bad × AreEnough left n
 RefusesDrawn bad long before now left n errors.Invalid = ⊥
@@ -81,7 +81,8 @@ pub record IsCiphertext (q salt m c : List ℕ) : Type 0 where
   pub size : length c ≡ ciphertext_length (length m)
 
 -- the bags are encrypted in e under this salt
-pub record SealsBags (q : List ℕ) (gs : List SafeBag) (salt : List ℕ) (e : EncryptedContentInfo) : Type 0 where
+pub record SealsBags (q : List ℕ) (gs : List SafeBag) (salt : List ℕ) (e : EncryptedContentInfo)
+    : Type 0 where
   pub algorithm : e.content_encryption_algorithm ≡ triple_des salt
   pub ciphertext : IsCiphertext q salt (bags_canon gs) e.encrypted_content
 
@@ -107,7 +108,8 @@ pub record Entry : Type 0 where
   pub name : List ℕ
 
 abbrev pub entry_of : List ℕ → List ℕ → List (List ℕ) → List ℕ → Entry
-entry_of certificate key others name = record { certificate = certificate; key = key; others = others; name = name }
+entry_of certificate key others name =
+    record { certificate = certificate; key = key; others = others; name = name }
 
 -- the name, and the SHA-1 of the certificate, by which a key finds it
 abbrev pub own_attributes : Entry → List PKCS12Attribute
@@ -117,25 +119,39 @@ abbrev pub certificate_bag : List PKCS12Attribute → List ℕ → SafeBag
 certificate_bag attributes v = record { bag = kind.CertBag (X509 v); attributes = attributes }
 
 abbrev pub certificate_bags : Entry → List SafeBag
-certificate_bags e = certificate_bag (own_attributes e) e.certificate ∷ map (certificate_bag []) e.others
+certificate_bags e = certificate_bag (own_attributes e) e.certificate
+    ∷ map (certificate_bag []) e.others
 
 -- the key, of which v is encrypted
 abbrev pub key_bag : Entry → List ℕ → List ℕ → SafeBag
-key_bag e salt v = record { bag = kind.Pkcs8ShroudedKeyBag (record { encryption_algorithm = triple_des salt; encrypted_data = v }); attributes = own_attributes e }
+key_bag e salt v = record {
+  bag = kind.Pkcs8ShroudedKeyBag
+      (record { encryption_algorithm = triple_des salt; encrypted_data = v });
+  attributes = own_attributes e;
+}
 
 abbrev pub sealed_content : List ℕ → List ℕ → ContentInfo
-sealed_content salt c = content.EncryptedData (record { encrypted_content_info = record { content_encryption_algorithm = triple_des salt; encrypted_content = c } })
+sealed_content salt c =
+    content.EncryptedData
+    (record {
+      encrypted_content_info = record {
+        content_encryption_algorithm = triple_des salt;
+        encrypted_content = c;
+      };
+    })
 
 -- the two contents: the certificates, of which c is encrypted, and the key, of which v is
 abbrev pub two_contents : Entry → Salts → List ℕ → List ℕ → List ContentInfo
-two_contents e s c v = sealed_content s.certificates c ∷ content.Data (bags_canon (key_bag e s.key v ∷ [])) ∷ []
+two_contents e s c v =
+    sealed_content s.certificates c ∷ content.Data (bags_canon (key_bag e s.key v ∷ [])) ∷ []
 
 -- t is the text of both contents under a password in UTF-16 and these salts
 pub record IsOuterText (q : List ℕ) (e : Entry) (s : Salts) (t : List ℕ) : Type 0 where
   -- what is encrypted of the certificates and of the key
   pub certificates : List ℕ
   pub key : List ℕ
-  pub certificates_seal : IsCiphertext q s.certificates (bags_canon (certificate_bags e)) certificates
+  pub certificates_seal : IsCiphertext q s.certificates
+      (bags_canon (certificate_bags e)) certificates
   pub certificates_short : IsShort (bags_canon (certificate_bags e))
   pub key_seals : IsCiphertext q s.key e.key key
   pub is : t ≡ contents_canon (two_contents e s certificates key)
@@ -143,7 +159,11 @@ pub record IsOuterText (q : List ℕ) (e : Entry) (s : Salts) (t : List ℕ) : T
 
 -- the store over a text, whose MAC is under this salt
 abbrev pub store_over : List ℕ → List ℕ → List ℕ → PFX
-store_over q salt t = record { version = 3; auth_safe = content.Data t; mac_data = Some (mac_of Sha1 q t salt 2048) }
+store_over q salt t = record {
+  version = 3;
+  auth_safe = content.Data t;
+  mac_data = Some (mac_of Sha1 q t salt 2048);
+}
 
 -- the store of an entry under a password in UTF-16 and these salts
 abbrev pub IsStoreOf : List ℕ → Entry → PFX → Salts → Type 0
@@ -158,18 +178,30 @@ unfoldable pub outer_length : Entry → ℕ
 outer_length e =
     let certificates = blank (ciphertext_length (length (bags_canon (certificate_bags e)))) in
     let key = blank (ciphertext_length (length e.key)) in
-    length (contents_canon (two_contents e (record { key = blank 8; certificates = blank 8; mac = blank 8 }) certificates key))
+    length (contents_canon
+    (two_contents e (record {
+      key = blank 8;
+      certificates = blank 8;
+      mac = blank 8;
+    }) certificates key))
 
--- one of its texts would have more than 2 ^ 32 - 1 octets: the encrypted key, the encrypted certificates, or that of
--- both contents
+-- one of its texts would have more than 2 ^ 32 - 1 octets: the encrypted key, the encrypted
+-- certificates, or that of both contents
 abbrev pub IsTooLongStore : Entry → Type 0
-IsTooLongStore e = IsTooLong e.key ⊎ (IsTooLong (bags_canon (certificate_bags e)) ⊎ IsOverlong (outer_length e))
+IsTooLongStore e = IsTooLong e.key
+    ⊎ (IsTooLong (bags_canon (certificate_bags e)) ⊎ IsOverlong (outer_length e))
 
 -- what a call sees of an entry
 abbrev pub seen_entry : EntryParts → Entry
-seen_entry e = record { certificate = e.certificate.now; key = e.key.now; others = e.others.now; name = e.name.now }
+seen_entry e = record {
+  certificate = e.certificate.now;
+  key = e.key.now;
+  others = e.others.now;
+  name = e.name.now;
+}
 
--- an entry is refused, by cases on the error: one with ⊥ never comes, running out of memory may come at any point
+-- an entry is refused, by cases on the error: one with ⊥ never comes, running out of memory may
+-- come at any point
 abbrev pub RefusesStore : Entry → Error → Type 0
 RefusesStore e errors.Malformed = ⊥
 RefusesStore e errors.Invalid = ⊥
@@ -182,8 +214,8 @@ seen_salts d = record { key = d.key; certificates = d.certificates; mac = d.mac 
 
 -- ---- a store that opens
 
--- the bags of a store under a password are those of its entry up to the order of attributes, and give its certificates
--- and its key
+-- the bags of a store under a password are those of its entry up to the order of attributes, and
+-- give its certificates and its key
 pub record GivesBack (p : List ℕ) (e : Entry) (gs : List SafeBag) : Type 0 where
   pub salt : List ℕ
   pub key : List ℕ

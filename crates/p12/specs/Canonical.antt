@@ -1,8 +1,9 @@
--- The one text that is written of a value (RFC 7292 section 4; X.690 sections 10 and 11). NULL comes after SHA-1 and
--- SHA-256, the count of a MAC is always there, and an empty set of attributes is left out. A name or key id stands
--- alone in its set, and the elements of a set ascend. The parameters of PBES2 are written as `pkcs5` writes them: HMAC
--- over SHA-1 is left out of those of PBKDF2. Octets of another kind are written as they are. A count of 1 is written too, as the
--- Rust crate writes it, though DER leaves a default value out (X.690 section 11.5).
+-- The one text that is written of a value (RFC 7292 section 4; X.690 sections 10 and 11). NULL
+-- comes after SHA-1 and SHA-256, the count of a MAC is always there, and an empty set of attributes
+-- is left out. A name or key id stands alone in its set, and the elements of a set ascend. The
+-- parameters of PBES2 are written as `pkcs5` writes them: HMAC over SHA-1 is left out of those of
+-- PBKDF2. Octets of another kind are written as they are. A count of 1 is written too, as the Rust
+-- crate writes it, though DER leaves a default value out (X.690 section 11.5).
 use Rattle.std.specs.Prelude.{ℕ, List, [], ◌∷◌, ◌++◌, map, IsTrue, All}
 use Rattle.asn1_core.specs.Der.{IsElement, el, joined, seq, set, ctx, pctx, oid, octets, null, uint}
 use Rattle.asn1_core.specs.Oid.{oid_octets}
@@ -41,9 +42,11 @@ abbrev pub algorithm_canon : AlgorithmIdentifier → List ℕ
 algorithm_canon Sha1 = seq (oid sha1_oid ++ null)
 algorithm_canon Sha256 = seq (oid sha256_oid ++ null)
 algorithm_canon (PbewithSHAAnd40BitRC2CBC p) = seq (oid rc2_scheme_oid ++ params_canon p)
-algorithm_canon (PbeWithSHAAnd3KeyTripleDESCBC p) = seq (oid triple_des_scheme_oid ++ params_canon p)
+algorithm_canon (PbeWithSHAAnd3KeyTripleDESCBC p) =
+    seq (oid triple_des_scheme_oid ++ params_canon p)
 algorithm_canon (Pbes2 par) = seq (oid pbes2_oid ++ seq (parameters_content par))
-algorithm_canon (OtherAlg o) = seq (oid (oid_octets o.algorithm_type) ++ canon_option (λ e. e) o.params)
+algorithm_canon (OtherAlg o) =
+    seq (oid (oid_octets o.algorithm_type) ++ canon_option (λ e. e) o.params)
 
 abbrev pub digest_canon : DigestInfo → List ℕ
 digest_canon d = seq (algorithm_canon d.digest_algorithm ++ octets d.digest)
@@ -55,14 +58,16 @@ mac_canon m = seq (digest_canon m.mac ++ (octets m.salt ++ uint m.iterations))
 
 abbrev pub encrypted_content_canon : EncryptedContentInfo → List ℕ
 encrypted_content_canon e =
-    seq (oid data_oid ++ (algorithm_canon e.content_encryption_algorithm ++ pctx 0 e.encrypted_content))
+    seq (oid data_oid ++ (algorithm_canon e.content_encryption_algorithm
+    ++ pctx 0 e.encrypted_content))
 
 abbrev pub encrypted_data_canon : EncryptedData → List ℕ
 encrypted_data_canon e = seq (uint 0 ++ encrypted_content_canon e.encrypted_content_info)
 
 abbrev pub content_canon : ContentInfo → List ℕ
 content_canon (content.Data v) = seq (oid data_oid ++ ctx 0 (octets v))
-content_canon (content.EncryptedData e) = seq (oid encrypted_data_oid ++ ctx 0 (encrypted_data_canon e))
+content_canon (content.EncryptedData e) =
+    seq (oid encrypted_data_oid ++ ctx 0 (encrypted_data_canon e))
 content_canon (content.OtherContext o) = seq (oid (oid_octets o.content_type) ++ ctx 0 o.content)
 
 -- AuthenticatedSafe: the contents in order
@@ -99,7 +104,8 @@ kind_canon (kind.Pkcs8ShroudedKeyBag e) = encrypted_key_canon e
 kind_canon (kind.OtherBagKind o) = o.bag_value
 
 abbrev pub bag_canon : SafeBag → List ℕ
-bag_canon g = seq (oid (kind_oid g.bag) ++ (ctx 0 (kind_canon g.bag) ++ attributes_canon g.attributes))
+bag_canon g = seq (oid (kind_oid g.bag)
+    ++ (ctx 0 (kind_canon g.bag) ++ attributes_canon g.attributes))
 
 -- SafeContents: the bags in order
 abbrev pub bags_canon : List SafeBag → List ℕ
@@ -108,9 +114,11 @@ bags_canon gs = seq (joined (map bag_canon gs))
 -- ---- stores
 
 abbrev pub store_canon : PFX → List ℕ
-store_canon s = seq (uint s.version ++ (content_canon s.auth_safe ++ canon_option mac_canon s.mac_data))
+store_canon s = seq (uint s.version
+    ++ (content_canon s.auth_safe ++ canon_option mac_canon s.mac_data))
 
--- ---- which values can be written: octets that are written as they are, are one element each; the text of an SDSI
+-- ---- which values can be written: octets that are written as they are, are one element each; the
+-- text of an SDSI
 -- certificate is ASCII; the parameters of PBES2 keep to the bounds of their types
 
 abbrev pub WritableAlgorithm : AlgorithmIdentifier → Type 0

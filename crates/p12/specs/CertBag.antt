@@ -14,6 +14,7 @@ abbrev pub CertBagCase : ObjectIdentifier → List ℕ → CertBag → Type 0
 CertBagCase k q (X509 v) = (oid_octets k ≡ x509_certificate_oid) × Within 0xa0 (Inside 0x04) q v
 CertBagCase k q (SDSI t) = (oid_octets k ≡ sdsi_certificate_oid) × Within 0xa0 Ia5 q t
 
--- CertBag ::= SEQUENCE { certId OBJECT IDENTIFIER, certValue [0] EXPLICIT OCTET STRING or IA5String }
+-- CertBag ::= SEQUENCE { certId OBJECT IDENTIFIER, certValue [0] EXPLICIT OCTET STRING or IA5String
+-- }
 abbrev pub CertBagText : List ℕ → CertBag → Type 0
 CertBagText = Sequence (On Oid CertBagCase)

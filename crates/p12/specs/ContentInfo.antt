@@ -14,8 +14,10 @@ use Rattle.p12.specs.declared.content_info.ContentInfo.TheVariants as content
 -- what comes after the identifier k of a content
 abbrev pub ContentCase : ObjectIdentifier → List ℕ → ContentInfo → Type 0
 ContentCase k q (content.Data v) = (oid_octets k ≡ data_oid) × Within 0xa0 (Inside 0x04) q v
-ContentCase k q (content.EncryptedData e) = (oid_octets k ≡ encrypted_data_oid) × Within 0xa0 EncryptedDataText q e
-ContentCase k q (content.OtherContext o) = (oid_octets k ≢ data_oid) × (oid_octets k ≢ encrypted_data_oid) × (o.content_type ≡ k) × Within 0xa0 Raw q o.content
+ContentCase k q (content.EncryptedData e) = (oid_octets k ≡ encrypted_data_oid)
+    × Within 0xa0 EncryptedDataText q e
+ContentCase k q (content.OtherContext o) = (oid_octets k ≢ data_oid)
+    × (oid_octets k ≢ encrypted_data_oid) × (o.content_type ≡ k) × Within 0xa0 Raw q o.content
 
 -- ContentInfo ::= SEQUENCE { contentType OBJECT IDENTIFIER, content [0] EXPLICIT ANY }
 abbrev pub ContentText : List ℕ → ContentInfo → Type 0
@@ -66,7 +68,9 @@ ContentFits n c = (length (held c) ≤ n) × (length (held_salt c) ≤ n)
 -- the plain octets of a content under a password in UTF-16
 abbrev pub plain_pbe : ContentInfo → List ℕ → Option (List ℕ)
 plain_pbe (content.Data v) q = Some v
-plain_pbe (content.EncryptedData d) q = unlock_pbe d.encrypted_content_info.content_encryption_algorithm q d.encrypted_content_info.encrypted_content
+plain_pbe (content.EncryptedData d) q =
+    unlock_pbe d.encrypted_content_info.content_encryption_algorithm q
+    d.encrypted_content_info.encrypted_content
 plain_pbe (content.OtherContext o) q = None
 
 -- the identifier of a content's kind

@@ -12,14 +12,24 @@ use Rattle.p12.specs.declared.content_info.ContentView.{ContentView}
 use Rattle.p12.specs.declared.content_info.ContentView.TheVariants as view
 
 abbrev pub seen_encrypted : EncryptedView → EncryptedContentInfo
-seen_encrypted e = record { content_encryption_algorithm = seen_algorithm e.algorithm; encrypted_content = e.content.now }
+seen_encrypted e = record {
+  content_encryption_algorithm = seen_algorithm e.algorithm;
+  encrypted_content = e.content.now;
+}
 
 abbrev pub seen_encrypted_data : EncryptedView → EncryptedData
 seen_encrypted_data e = record { encrypted_content_info = seen_encrypted e }
 
 abbrev pub seen_content : ContentView → ContentInfo
 seen_content (view.Plain v at) = content.Data v.now
-seen_content (view.Encrypted a v at) = content.EncryptedData (record { encrypted_content_info = record { content_encryption_algorithm = seen_algorithm a; encrypted_content = v.now } })
+seen_content (view.Encrypted a v at) =
+    content.EncryptedData
+    (record {
+      encrypted_content_info = record {
+        content_encryption_algorithm = seen_algorithm a;
+        encrypted_content = v.now;
+      };
+    })
 seen_content (view.Other k v) = content.OtherContext (record { content_type = k; content = v.now })
 
 -- it goes up to the end

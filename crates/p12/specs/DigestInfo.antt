@@ -7,4 +7,5 @@ use Rattle.p12.specs.declared.digest_info.DigestInfo.{DigestInfo}
 
 -- DigestInfo ::= SEQUENCE { digestAlgorithm AlgorithmIdentifier, digest OCTET STRING }
 abbrev pub DigestText : List ℕ → DigestInfo → Type 0
-DigestText = Sequence (Field AlgorithmText (λ d. d.digest_algorithm) (Field (Inside 0x04) (λ d. d.digest) End))
+DigestText = Sequence (Field AlgorithmText (λ d. d.digest_algorithm)
+    (Field (Inside 0x04) (λ d. d.digest) End))

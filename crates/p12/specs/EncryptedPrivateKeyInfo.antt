@@ -5,6 +5,8 @@ use Rattle.asn1_core.specs.Fields.{Field, End, Sequence}
 use Rattle.p12.specs.AlgorithmIdentifier.{AlgorithmText}
 use Rattle.p12.specs.declared.encrypted_private_key_info.EncryptedPrivateKeyInfo.{EncryptedPrivateKeyInfo}
 
--- EncryptedPrivateKeyInfo ::= SEQUENCE { encryptionAlgorithm AlgorithmIdentifier, encryptedData OCTET STRING }
+-- EncryptedPrivateKeyInfo ::= SEQUENCE { encryptionAlgorithm AlgorithmIdentifier, encryptedData
+-- OCTET STRING }
 abbrev pub EncryptedKeyText : List ℕ → EncryptedPrivateKeyInfo → Type 0
-EncryptedKeyText = Sequence (Field AlgorithmText (λ e. e.encryption_algorithm) (Field (Inside 0x04) (λ e. e.encrypted_data) End))
+EncryptedKeyText = Sequence (Field AlgorithmText (λ e. e.encryption_algorithm)
+    (Field (Inside 0x04) (λ e. e.encrypted_data) End))

@@ -16,7 +16,8 @@ refusal_of asn1.NoRoom = TooLong
 refusal_of asn1.File = Malformed
 refusal_of asn1.Memory = Memory
 
--- Malformed comes only where P, running out of memory may come at any point, and no other refusal comes.
+-- Malformed comes only where P, running out of memory may come at any point, and no other refusal
+-- comes.
 abbrev pub MalformedOnly : Error → Type 0 → Type 0
 MalformedOnly Malformed P = P
 MalformedOnly Invalid P = ⊥
@@ -24,7 +25,8 @@ MalformedOnly Rng P = ⊥
 MalformedOnly TooLong P = ⊥
 MalformedOnly Memory P = ⊤
 
--- The value of the text in front, or Malformed exactly where none is there; a refusal does not move the reader.
+-- The value of the text in front, or Malformed exactly where none is there; a refusal does not move
+-- the reader.
 abbrev pub Reads : {A : Type 0} → (List ℕ → A → Type 0) → List ℕ → List ℕ → Result A Error → Type 0
 Reads R old new (Ok x) = Taken R old x new
 Reads R old new (Err e) = (new ≡ old) × MalformedOnly e (NoneStands R old)

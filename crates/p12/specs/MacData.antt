@@ -11,9 +11,11 @@ use Rattle.p12.specs.declared.algorithm_identifier.AlgorithmIdentifier.TheVarian
 use Rattle.p12.specs.DigestInfo.{DigestText}
 use Rattle.p12.specs.declared.mac_data.MacData.{MacData}
 
--- MacData ::= SEQUENCE { mac DigestInfo, macSalt OCTET STRING, iterations INTEGER DEFAULT 1 }, the count below 2 ^ 32
+-- MacData ::= SEQUENCE { mac DigestInfo, macSalt OCTET STRING, iterations INTEGER DEFAULT 1 }, the
+-- count below 2 ^ 32
 abbrev pub MacText : List ℕ → MacData → Type 0
-MacText = Sequence (Field DigestText (λ m. m.mac) (Field (Inside 0x04) (λ m. m.salt) (Field (OrNothing 1 (Uint (2 ^ 32 - 1))) (λ m. m.iterations) End)))
+MacText = Sequence (Field DigestText (λ m. m.mac) (Field (Inside 0x04) (λ m. m.salt)
+    (Field (OrNothing 1 (Uint (2 ^ 32 - 1))) (λ m. m.iterations) End)))
 
 -- whether a MAC under this digest can be tested: SHA-1 and SHA-256
 abbrev pub is_mac_digest : AlgorithmIdentifier → Bool
@@ -37,7 +39,8 @@ mac_value (OtherAlg o) = λ q salt r v. []
 unfoldable pub mac_agrees : MacData → List ℕ → List ℕ → Bool
 mac_agrees m q v =
     let a = m.mac.digest_algorithm in
-    is_mac_digest a && (nat_lt 0 m.iterations && bytes_eq (mac_value a q m.salt m.iterations v) m.mac.digest)
+    is_mac_digest a && (nat_lt 0 m.iterations
+    && bytes_eq (mac_value a q m.salt m.iterations v) m.mac.digest)
 
 -- the steps of testing it
 abbrev pub mac_steps : MacData → ℕ
@@ -45,4 +48,9 @@ mac_steps m = if is_mac_digest m.mac.digest_algorithm then m.iterations else 0
 
 -- the MAC of a content under a digest, with this salt and count
 unfoldable pub mac_of : AlgorithmIdentifier → List ℕ → List ℕ → List ℕ → ℕ → MacData
-mac_of a q v salt r = record { mac = record { digest_algorithm = a; digest = mac_value a q salt r v }; salt = salt; iterations = r }
+mac_of a q v salt r =
+    record {
+      mac = record { digest_algorithm = a; digest = mac_value a q salt r v };
+      salt = salt;
+      iterations = r;
+    }

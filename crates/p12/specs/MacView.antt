@@ -9,4 +9,11 @@ abbrev pub seen_digest : DigestView → DigestInfo
 seen_digest d = record { digest_algorithm = seen_algorithm d.algorithm; digest = d.digest.now }
 
 abbrev pub seen_mac : MacView → MacData
-seen_mac m = record { mac = record { digest_algorithm = seen_algorithm m.algorithm; digest = m.digest.now }; salt = m.salt.now; iterations = m.iterations }
+seen_mac m = record {
+  mac = record {
+    digest_algorithm = seen_algorithm m.algorithm;
+    digest = m.digest.now;
+  };
+  salt = m.salt.now;
+  iterations = m.iterations;
+}

@@ -1,4 +1,5 @@
--- Reading the rows from left to right. Nothing to believe here: each row is proved to read exactly its relation.
+-- Reading the rows from left to right. Nothing to believe here: each row is proved to read exactly
+-- its relation.
 use Rattle.std.specs.Prelude.{ℕ, ◌==◌, ◌-◌, ◌^◌, List, [], Result, Ok, Err, if◌then◌else◌}
 use Rattle.std.specs.Str.{bytes_eq}
 use Rattle.asn1_core.specs.Reading.{Fault, Front, All, ◌>>=◌, whole, on, perhaps, many, made, within, ended, raw_at, oid_at, uint_at, inside_at}
@@ -34,7 +35,8 @@ abbrev pub null_at : Front (Unit {0})
 null_at = within 0x05 (ended tt)
 
 unfoldable pub params_at : Front Pkcs12PbeParams
-params_at = within 0x30 (on (inside_at 0x04) (λ s. on (uint_at (2 ^ 64 - 1)) (λ n. ended (record { salt = s; iterations = n }))))
+params_at = within 0x30 (on (inside_at 0x04) (λ s.
+    on (uint_at (2 ^ 64 - 1)) (λ n. ended (record { salt = s; iterations = n }))))
 
 abbrev pub digest_all : AlgorithmIdentifier → All AlgorithmIdentifier
 digest_all a = made (λ o. a) (perhaps null_at)
@@ -46,7 +48,8 @@ abbrev pub triple_des_all : All AlgorithmIdentifier
 triple_des_all = made PbeWithSHAAnd3KeyTripleDESCBC (whole params_at)
 
 abbrev pub other_algorithm_all : ObjectIdentifier → All AlgorithmIdentifier
-other_algorithm_all k = made (λ e. OtherAlg (record { algorithm_type = k; params = e })) (perhaps raw_at)
+other_algorithm_all k =
+    made (λ e. OtherAlg (record { algorithm_type = k; params = e })) (perhaps raw_at)
 
 -- by the first reader, or where that finds a fault by the second
 abbrev pub first_ok : {A : Type 0} → Result A Fault → Result A Fault → Result A Fault
@@ -73,22 +76,28 @@ algorithm_at = within 0x30 (on oid_at algorithm_all)
 -- ---- the MAC
 
 unfoldable pub digest_at : Front DigestInfo
-digest_at = within 0x30 (on algorithm_at (λ a. on (inside_at 0x04) (λ d. ended (record { digest_algorithm = a; digest = d }))))
+digest_at = within 0x30 (on algorithm_at (λ a.
+    on (inside_at 0x04) (λ d. ended (record { digest_algorithm = a; digest = d }))))
 
 abbrev pub iterations_all : All ℕ
 iterations_all = or_nothing 1 (whole (uint_at (2 ^ 32 - 1)))
 
 unfoldable pub mac_at : Front MacData
-mac_at = within 0x30 (on digest_at (λ d. on (inside_at 0x04) (λ s. made (λ n. record { mac = d; salt = s; iterations = n }) iterations_all)))
+mac_at = within 0x30 (on digest_at (λ d.
+    on (inside_at 0x04) (λ s. made (λ n. record { mac = d; salt = s; iterations = n })
+    iterations_all)))
 
 -- ---- contents
 
 unfoldable pub encrypted_content_at : Front EncryptedContentInfo
 encrypted_content_at =
-    within 0x30 (on (the (λ o. bytes_eq (oid_octets o) data_oid) oid_at) (λ u. on algorithm_at (λ a. on (inside_at 0x80) (λ v. ended (record { content_encryption_algorithm = a; encrypted_content = v })))))
+    within 0x30 (on (the (λ o. bytes_eq (oid_octets o) data_oid) oid_at) (λ u. on algorithm_at (λ a.
+    on (inside_at 0x80) (λ v. ended
+    (record { content_encryption_algorithm = a; encrypted_content = v })))))
 
 unfoldable pub encrypted_data_at : Front EncryptedData
-encrypted_data_at = within 0x30 (on (the (λ n. n == 0) (uint_at 0xff)) (λ u. on encrypted_content_at (λ e. ended (record { encrypted_content_info = e }))))
+encrypted_data_at = within 0x30 (on (the (λ n. n == 0) (uint_at 0xff)) (λ u.
+    on encrypted_content_at (λ e. ended (record { encrypted_content_info = e }))))
 
 abbrev pub data_all : All ContentInfo
 data_all = made content.Data (whole (within 0xa0 (whole (inside_at 0x04))))
@@ -97,10 +106,13 @@ abbrev pub encrypted_all : All ContentInfo
 encrypted_all = made content.EncryptedData (whole (within 0xa0 (whole encrypted_data_at)))
 
 abbrev pub other_content_all : ObjectIdentifier → All ContentInfo
-other_content_all k = made (λ e. content.OtherContext (record { content_type = k; content = e })) (whole (within 0xa0 (whole raw_at)))
+other_content_all k =
+    made (λ e. content.OtherContext (record { content_type = k; content = e }))
+    (whole (within 0xa0 (whole raw_at)))
 
 abbrev pub content_all : ObjectIdentifier → All ContentInfo
-content_all k = if bytes_eq (oid_octets k) data_oid then data_all else (if bytes_eq (oid_octets k) encrypted_data_oid then encrypted_all else other_content_all k)
+content_all k = if bytes_eq (oid_octets k) data_oid then data_all
+    else (if bytes_eq (oid_octets k) encrypted_data_oid then encrypted_all else other_content_all k)
 
 unfoldable pub content_at : Front ContentInfo
 content_at = within 0x30 (on oid_at content_all)
@@ -111,7 +123,8 @@ contents_at = within 0x30 (many content_at)
 -- ---- bags
 
 unfoldable pub encrypted_key_at : Front EncryptedPrivateKeyInfo
-encrypted_key_at = within 0x30 (on algorithm_at (λ a. on (inside_at 0x04) (λ v. ended (record { encryption_algorithm = a; encrypted_data = v }))))
+encrypted_key_at = within 0x30 (on algorithm_at (λ a.
+    on (inside_at 0x04) (λ v. ended (record { encryption_algorithm = a; encrypted_data = v }))))
 
 abbrev pub x509_all : All CertBag
 x509_all = made X509 (whole (within 0xa0 (whole (inside_at 0x04))))
@@ -120,7 +133,8 @@ abbrev pub sdsi_all : All CertBag
 sdsi_all = made SDSI (whole (within 0xa0 (whole ia5_at)))
 
 abbrev pub cert_bag_all : ObjectIdentifier → All CertBag
-cert_bag_all k = if bytes_eq (oid_octets k) x509_certificate_oid then x509_all else (if bytes_eq (oid_octets k) sdsi_certificate_oid then sdsi_all else never)
+cert_bag_all k = if bytes_eq (oid_octets k) x509_certificate_oid then x509_all
+    else (if bytes_eq (oid_octets k) sdsi_certificate_oid then sdsi_all else never)
 
 unfoldable pub cert_bag_at : Front CertBag
 cert_bag_at = within 0x30 (on oid_at cert_bag_all)
@@ -132,10 +146,12 @@ abbrev pub key_id_all : All PKCS12Attribute
 key_id_all = made LocalKeyId (whole (within 0x31 (latest (inside_at 0x04))))
 
 abbrev pub other_attribute_all : ObjectIdentifier → All PKCS12Attribute
-other_attribute_all k = made (λ vs. Other (record { oid = k; values = vs })) (whole (within 0x31 (many raw_at)))
+other_attribute_all k =
+    made (λ vs. Other (record { oid = k; values = vs })) (whole (within 0x31 (many raw_at)))
 
 abbrev pub attribute_all : ObjectIdentifier → All PKCS12Attribute
-attribute_all k = if bytes_eq (oid_octets k) friendly_name_oid then name_all else (if bytes_eq (oid_octets k) local_key_id_oid then key_id_all else other_attribute_all k)
+attribute_all k = if bytes_eq (oid_octets k) friendly_name_oid then name_all
+    else (if bytes_eq (oid_octets k) local_key_id_oid then key_id_all else other_attribute_all k)
 
 unfoldable pub attribute_at : Front PKCS12Attribute
 attribute_at = within 0x30 (on oid_at attribute_all)
@@ -150,17 +166,21 @@ abbrev pub shrouded_all : All SafeBagKind
 shrouded_all = made kind.Pkcs8ShroudedKeyBag (whole encrypted_key_at)
 
 abbrev pub other_kind_all : ObjectIdentifier → All SafeBagKind
-other_kind_all k = made (λ e. kind.OtherBagKind (record { bag_id = k; bag_value = e })) (whole raw_at)
+other_kind_all k = made
+    (λ e. kind.OtherBagKind (record { bag_id = k; bag_value = e })) (whole raw_at)
 
 abbrev pub kind_all : ObjectIdentifier → All SafeBagKind
-kind_all k = if bytes_eq (oid_octets k) cert_bag_oid then cert_kind_all else (if bytes_eq (oid_octets k) shrouded_key_bag_oid then shrouded_all else other_kind_all k)
+kind_all k = if bytes_eq (oid_octets k) cert_bag_oid then cert_kind_all
+    else (if bytes_eq (oid_octets k) shrouded_key_bag_oid then shrouded_all else other_kind_all k)
 
 -- the value by itself: one element, read to its end by its kind
 abbrev pub kind_at : ObjectIdentifier → Front SafeBagKind
 kind_at k b = raw_at b >>= λ x. kind_all k x.0 >>= λ v. Ok (v, x.1)
 
 unfoldable pub bag_at : Front SafeBag
-bag_at = within 0x30 (on oid_at (λ k. on (within 0xa0 (kind_all k)) (λ x. made (λ vs. record { bag = x; attributes = vs }) attributes_all)))
+bag_at = within 0x30 (on oid_at (λ k.
+    on (within 0xa0 (kind_all k))
+    (λ x. made (λ vs. record { bag = x; attributes = vs }) attributes_all)))
 
 unfoldable pub bags_at : Front (List SafeBag)
 bags_at = within 0x30 (many bag_at)
@@ -168,4 +188,6 @@ bags_at = within 0x30 (many bag_at)
 -- ---- stores
 
 unfoldable pub pfx_at : Front PFX
-pfx_at = within 0x30 (on (uint_at 0xff) (λ n. on content_at (λ c. made (λ m. record { version = n; auth_safe = c; mac_data = m }) (perhaps mac_at))))
+pfx_at = within 0x30 (on (uint_at 0xff) (λ n.
+    on content_at (λ c. made (λ m. record { version = n; auth_safe = c; mac_data = m })
+    (perhaps mac_at))))

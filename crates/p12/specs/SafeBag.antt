@@ -20,16 +20,20 @@ use Rattle.p12.specs.declared.safe_bag.SafeBag.{SafeBag}
 -- the value of a bag whose identifier is k
 abbrev pub KindCase : ObjectIdentifier → List ℕ → SafeBagKind → Type 0
 KindCase k q (kind.CertBag c) = (oid_octets k ≡ cert_bag_oid) × CertBagText q c
-KindCase k q (kind.Pkcs8ShroudedKeyBag e) = (oid_octets k ≡ shrouded_key_bag_oid) × EncryptedKeyText q e
-KindCase k q (kind.OtherBagKind o) = (oid_octets k ≢ cert_bag_oid) × (oid_octets k ≢ shrouded_key_bag_oid) × (o.bag_id ≡ k) × Raw q o.bag_value
+KindCase k q (kind.Pkcs8ShroudedKeyBag e) = (oid_octets k ≡ shrouded_key_bag_oid)
+    × EncryptedKeyText q e
+KindCase k q (kind.OtherBagKind o) = (oid_octets k ≢ cert_bag_oid)
+    × (oid_octets k ≢ shrouded_key_bag_oid) × (o.bag_id ≡ k) × Raw q o.bag_value
 
 -- a bag's value by itself
 abbrev pub KindText : ObjectIdentifier → List ℕ → SafeBagKind → Type 0
 KindText k b v = KindCase k b v × IsElement b
 
--- SafeBag ::= SEQUENCE { bagId OBJECT IDENTIFIER, bagValue [0] EXPLICIT ANY, bagAttributes SET OF PKCS12Attribute OPTIONAL }
+-- SafeBag ::= SEQUENCE { bagId OBJECT IDENTIFIER, bagValue [0] EXPLICIT ANY, bagAttributes SET OF
+-- PKCS12Attribute OPTIONAL }
 abbrev pub BagText : List ℕ → SafeBag → Type 0
-BagText = Sequence (On Oid (λ k. Field (Within 0xa0 (KindCase k)) (λ g. g.bag) (Field AttributesText (λ g. g.attributes) End)))
+BagText = Sequence (On Oid (λ k. Field (Within 0xa0 (KindCase k)) (λ g. g.bag)
+    (Field AttributesText (λ g. g.attributes) End)))
 
 -- SafeContents ::= SEQUENCE OF SafeBag: these octets list these bags
 unfoldable pub IsBags : List ℕ → List SafeBag → Type 0
@@ -63,7 +67,8 @@ key_of (kind.OtherBagKind o) q = None
 -- an encrypted key has fewer than 2 ^ 32 octets, and its salt fewer than 2 ^ 59
 abbrev pub KindFits : SafeBagKind → Type 0
 KindFits (kind.CertBag c) = ⊤
-KindFits (kind.Pkcs8ShroudedKeyBag e) = (length e.encrypted_data < 2 ^ 32) × (length (salt_of e.encryption_algorithm) < 2 ^ 59)
+KindFits (kind.Pkcs8ShroudedKeyBag e) = (length e.encrypted_data < 2 ^ 32)
+    × (length (salt_of e.encryption_algorithm) < 2 ^ 59)
 KindFits (kind.OtherBagKind o) = ⊤
 
 abbrev pub BagFits : SafeBag → Type 0

@@ -1,4 +1,5 @@
--- Values that are equal up to the order of their sets, and values that are read again from what is written of them.
+-- Values that are equal up to the order of their sets, and values that are read again from what is
+-- written of them.
 use Rattle.std.specs.Prelude.{◌≡◌, ℕ, List}
 use Rattle.asn1_core.specs.Der.{IsShort}
 use Rattle.asn1_core.specs.Sets.{SameSet, Decodes, IsRead}
@@ -22,7 +23,8 @@ abbrev pub IsReadAgain : {A : Type 0} → (List ℕ → A → Type 0) → (A →
 IsReadAgain {A = A} R canon = (v : A) → IsRead R v → R (canon v) v
 
 -- the same up to the order of sets
-abbrev pub IsReadAsSame : {A : Type 0} → (List ℕ → A → Type 0) → (A → A → Type 0) → (A → List ℕ) → Type 0
+abbrev pub IsReadAsSame : {A : Type 0} → (List ℕ → A → Type 0) → (A → A → Type 0) → (A → List ℕ)
+    → Type 0
 IsReadAsSame {A = A} R S canon = (v : A) → IsRead R v → Decodes R S (canon v) v
 
 -- each value that some text has can be written
@@ -33,6 +35,9 @@ CanBeWritten {A = A} R writable = (v : A) → IsRead R v → writable v
 abbrev pub IsOneText : {A : Type 0} → (A → A → Type 0) → (A → List ℕ) → Type 0
 IsOneText {A = A} S canon = (v w : A) → S v w → canon v ≡ canon w
 
--- what is written of a value that some text has is read as the same value, and of that the same octets are written
-abbrev pub IsWrittenAlike : {A : Type 0} → (List ℕ → A → Type 0) → (A → A → Type 0) → (A → List ℕ) → Type 0
-IsWrittenAlike {A = A} R S canon = (v w : A) → IsRead R v → R (canon v) w × IsShort (canon v) → S w v × (canon w ≡ canon v)
+-- what is written of a value that some text has is read as the same value, and of that the same
+-- octets are written
+abbrev pub IsWrittenAlike : {A : Type 0} → (List ℕ → A → Type 0) → (A → A → Type 0) → (A → List ℕ)
+    → Type 0
+IsWrittenAlike {A = A} R S canon = (v w : A) → IsRead R v → R (canon v) w × IsShort (canon v)
+    → S w v × (canon w ≡ canon v)

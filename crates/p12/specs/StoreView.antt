@@ -6,4 +6,8 @@ use Rattle.p12.specs.declared.pfx.PFX.{PFX}
 use Rattle.p12.specs.declared.pfx.StoreView.{StoreView}
 
 abbrev pub seen_store : StoreView → PFX
-seen_store s = record { version = s.version; auth_safe = seen_content s.auth_safe; mac_data = seen_option seen_mac s.mac_data }
+seen_store s = record {
+  version = s.version;
+  auth_safe = seen_content s.auth_safe;
+  mac_data = seen_option seen_mac s.mac_data;
+}

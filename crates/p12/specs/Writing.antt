@@ -1,4 +1,5 @@
--- What the calls return that write a value: its canonical text (X.690 sections 8 to 11), or why there is none.
+-- What the calls return that write a value: its canonical text (X.690 sections 8 to 11), or why
+-- there is none.
 use Rattle.std.specs.Prelude.{◌≡◌, ℕ, List, length, Result, Ok, Err, None, ⊤}
 use Rattle.asn1_core.specs.Der.{IsShort}
 use Rattle.asn1_core.specs.Writing.{Sink, Cause, IsOverlong, Writes, in_memory}
@@ -16,11 +17,14 @@ MakesText can text (Ok t) = (t ≡ text) × IsShort text × can
 MakesText can text (Err e) = RefusesText can text e
 
 -- the text was written whole, or a front of it and the result says why
-abbrev pub WritesText : {W : Type 0} → Sink W → Type 0 → List ℕ → W → Result (Unit {0}) Asn1Error → W → Type 0
-WritesText S can text old r new = Writes (in_memory S) (¬ can) (IsOverlong (length text)) text old r new
+abbrev pub WritesText : {W : Type 0} → Sink W → Type 0 → List ℕ → W → Result (Unit {0}) Asn1Error
+    → W → Type 0
+WritesText S can text old r new =
+    Writes (in_memory S) (¬ can) (IsOverlong (length text)) text old r new
 
--- the same of the text in memory of its own, by the errors of this crate: Malformed only where the value cannot be
--- written, TooLong only where its text has more than 2 ^ 32 - 1 octets, Memory at any point
+-- the same of the text in memory of its own, by the errors of this crate: Malformed only where the
+-- value cannot be written, TooLong only where its text has more than 2 ^ 32 - 1 octets, Memory at
+-- any point
 abbrev pub EncodesText : Type 0 → List ℕ → Result (List ℕ) Error → Type 0
 EncodesText can text (Ok t) = (t ≡ text) × IsShort text × can
 EncodesText can text (Err errors.Malformed) = ¬ can

@@ -353,7 +353,8 @@ impl ContentInfo {
     /// content of a store holds. `Malformed` only where one of them cannot be written, `TooLong` only where the text has
     /// more than 2^32 - 1 octets, and `Memory`.
     pub fn all_to_der(alloc: Global, contents: &[ContentInfo]) -> Result<Octets, Error>
-        ensures { EncodesText (All WritableContent contents.now) (contents_canon contents.now) result }
+        ensures { EncodesText (All WritableContent contents.now) (contents_canon contents.now)
+            result }
     {
         let list = Within {
             tag: Tag::SEQUENCE,

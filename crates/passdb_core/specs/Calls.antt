@@ -23,7 +23,8 @@ MalformedOnly P Memory = ⊤
 MalformedOnly P Rng = ⊥
 
 -- 16 octets were drawn, and the name has the fresh entry of the password under them.
-pub record Renews (b : Book) (name w : List ℕ) (told told_after : Option (List ℕ)) (es : Entries) : Type 0 where
+pub record Renews (b : Book) (name w : List ℕ) (told told_after : Option (List ℕ)) (es : Entries)
+    : Type 0 where
   pub salt : List ℕ
   pub count : length salt ≡ 16
   pub took : Consumes told told_after salt
@@ -33,8 +34,10 @@ pub record Renews (b : Book) (name w : List ℕ) (told told_after : Option (List
 abbrev pub FailsToDraw : Option (List ℕ) → Option (List ℕ) → ℕ → ℕ → Type 0
 FailsToDraw told told_after before now = Lacks before now told 16 × Keeps told told_after
 
--- A command has this reply: it drew as many octets as it draws, took its steps, and left these entries.
-pub record Does (b : Book) (c : Command) (told told_after : Option (List ℕ)) (steps steps_after : ℕ) (y : Reply) (es : Entries) : Type 0 where
+-- A command has this reply: it drew as many octets as it draws, took its steps, and left these
+-- entries.
+pub record Does (b : Book) (c : Command) (told told_after : Option (List ℕ)) (steps steps_after : ℕ)
+    (y : Reply) (es : Entries) : Type 0 where
   pub reply : y ≡ (does_to b.rounds b.entries c).reply
   pub drawn : List ℕ
   pub count : length drawn ≡ draws (does_to b.rounds b.entries c).change
@@ -47,8 +50,10 @@ abbrev pub CannotDraw : Book → Command → Option (List ℕ) → Option (List 
 CannotDraw b c told told_after before now =
     (draws (does_to b.rounds b.entries c).change ≡ 16) × FailsToDraw told told_after before now
 
--- Commands ran to their end on the octets that were drawn, and came to these replies and entries in these steps.
-pub record Runs (b : Book) (cs : List Command) (told told_after : Option (List ℕ)) (steps steps_after : ℕ) (ys : List Reply) (es : Entries) : Type 0 where
+-- Commands ran to their end on the octets that were drawn, and came to these replies and entries in
+-- these steps.
+pub record Runs (b : Book) (cs : List Command) (told told_after : Option (List ℕ))
+    (steps steps_after : ℕ) (ys : List Reply) (es : Entries) : Type 0 where
   pub drawn : List ℕ
   pub took : Consumes told told_after drawn
   pub ends : Run
@@ -58,8 +63,10 @@ pub record Runs (b : Book) (cs : List Command) (told told_after : Option (List �
   pub entries : es ≡ ends.entries
   pub cost : steps_after ≡ steps + ends.steps
 
--- On the octets that were drawn, and on all that were told, the commands come to one that has to draw more; and a draw failed.
-pub record RunsShort (b : Book) (cs : List Command) (told told_after : Option (List ℕ)) (before now : ℕ) : Type 0 where
+-- On the octets that were drawn, and on all that were told, the commands come to one that has to
+-- draw more; and a draw failed.
+pub record RunsShort (b : Book) (cs : List Command) (told told_after : Option (List ℕ))
+    (before now : ℕ) : Type 0 where
   pub rose : Rose before now
   pub drawn : List ℕ
   pub took : Consumes told told_after drawn

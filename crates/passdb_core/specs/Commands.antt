@@ -21,7 +21,8 @@ name_of (check name w) = name
 name_of (change name old new) = name
 name_of (remove name) = name
 
--- What becomes of the entry of the command's name: it stays, or it goes, or there is a fresh one of this password.
+-- What becomes of the entry of the command's name: it stays, or it goes, or there is a fresh one of
+-- this password.
 pub data Change : Type 0 where
   stays : Change
   goes : Change
@@ -76,7 +77,8 @@ becomes r name (made w) es z = put es name (fresh r w z)
 abbrev pub entries_after : ℕ → Entries → Command → List ℕ → Entries
 entries_after r es c z = becomes r (name_of c) (does_to r es c).change es z
 
--- What commands came to: their replies, the entries, the octets that are still to be drawn, and the steps.
+-- What commands came to: their replies, the entries, the octets that are still to be drawn, and the
+-- steps.
 pub record Run : Type 0 where
   pub replies : List Reply
   pub entries : Entries
@@ -85,10 +87,15 @@ pub record Run : Type 0 where
 
 -- a run after a first reply and the steps of its command
 abbrev pub after : Reply → ℕ → Run → Run
-after reply steps more = record { replies = reply ∷ more.replies; entries = more.entries; left = more.left; steps = steps + more.steps }
+after reply steps more = record {
+  replies = reply ∷ more.replies;
+  entries = more.entries;
+  left = more.left;
+  steps = steps + more.steps;
+}
 
--- What commands come to one after the other, in a file of r rounds, where these octets are to be drawn; none where a command has to draw
--- and fewer octets remain than it draws.
+-- What commands come to one after the other, in a file of r rounds, where these octets are to be
+-- drawn; none where a command has to draw and fewer octets remain than it draws.
 unfoldable pub run : ℕ → List Command → Entries → List ℕ → Option Run
 run r [] es d = Some (record { replies = []; entries = es; left = d; steps = 0 })
 run r (c ∷ cs) es d =

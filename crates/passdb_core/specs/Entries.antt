@@ -63,10 +63,12 @@ IsNoFile text = (es : Entries) → IsFile text es → ⊥
 abbrev pub OneTextHasOneFile : Type 0
 OneTextHasOneFile = (text : List ℕ) (es fs : Entries) → IsFile text es → IsFile text fs → es ≡ fs
 
--- The text of entries is their file, and that of no others: so reading it is not refused, and gives these entries.
+-- The text of entries is their file, and that of no others: so reading it is not refused, and gives
+-- these entries.
 abbrev pub WrittenFilesAreRead : Type 0
 WrittenFilesAreRead = (es : Entries) → AreEntries es
-    → IsFile (text_of es) es × ((fs : Entries) → IsFile (text_of es) fs → fs ≡ es) × (IsNoFile (text_of es) → ⊥)
+    → IsFile (text_of es) es × ((fs : Entries) → IsFile (text_of es) fs → fs ≡ es)
+    × (IsNoFile (text_of es) → ⊥)
 
 -- A password file: its entries, and the rounds of fresh ones.
 pub record Book : Type 0 where

@@ -33,7 +33,8 @@ abbrev pub HasNoFront : List ℕ → Type 0
 HasNoFront text = (es : Entries) (rest : List ℕ) → IsFront text es rest → ⊥
 
 -- At the front of the text is the line of an entry whose name is above those of es.
-pub record IsNext (text : List ℕ) (es : Entries) (name : List ℕ) (e : Entry) (rest : List ℕ) : Type 0 where
+pub record IsNext (text : List ℕ) (es : Entries) (name : List ℕ) (e : Entry) (rest : List ℕ)
+    : Type 0 where
   pub named : IsIdent name
   pub entry : IsEntry e
   pub above : Above es name

@@ -41,7 +41,13 @@ impl Model for Entry {
     } };
 
     ghost invariant = { λ e. entry.IsEntry
-        (record { method = e.algorithm; settings = e.params; params = e.written; salt = e.salt; hash = e.hash }) };
+        (record {
+          method = e.algorithm;
+          settings = e.params;
+          params = e.written;
+          salt = e.salt;
+          hash = e.hash;
+        }) };
 
     ghost inverse = { λ e. record {
       algorithm = e.method;

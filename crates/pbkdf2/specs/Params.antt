@@ -16,7 +16,8 @@ IsLength name value n = (name ≡ codes "l") × (value ≡ decimal n) × (n ≤ 
 -- the pair turns the settings s into the settings t
 abbrev pub PairLeads : List ℕ → List ℕ → Settings → Settings → Type 0
 PairLeads name value s t =
-    (IsRounds name value t.rounds × (t.output_len ≡ s.output_len)) ⊎ (IsLength name value t.output_len × (t.rounds ≡ s.rounds))
+    (IsRounds name value t.rounds × (t.output_len ≡ s.output_len))
+    ⊎ (IsLength name value t.output_len × (t.rounds ≡ s.rounds))
 
 -- the fault of a pair: its number is none or out of its bounds, or its name is neither `i` nor `l`
 abbrev pub PairFault : List ℕ → List ℕ → Error → Type 0
@@ -34,17 +35,20 @@ Leads (p ∷ ps) s t = (m : Settings) × (PairLeads (name_in p) (value_in p) s m
 abbrev pub Fails : List (List ℕ) → Settings → Error → Type 0
 Fails [] s e = ⊥
 Fails (p ∷ ps) s e =
-    PairFault (name_in p) (value_in p) e ⊎ ((m : Settings) × (PairLeads (name_in p) (value_in p) s m × Fails ps m e))
+    PairFault (name_in p) (value_in p) e
+    ⊎ ((m : Settings) × (PairLeads (name_in p) (value_in p) s m × Fails ps m e))
 
 -- the parameter text gives these settings; what it does not have is as recommended
 abbrev pub GivesSettings : List ℕ → Settings → Type 0
 GivesSettings t s = Leads (pairs_of t) recommended s × (10 ≤ s.output_len)
 
--- the parameter text is refused: by its first faulty pair, or else as the output would have fewer than 10 octets
+-- the parameter text is refused: by its first faulty pair, or else as the output would have fewer
+-- than 10 octets
 abbrev pub Refuses : List ℕ → Error → Type 0
 Refuses t e =
     Fails (pairs_of t) recommended e
-    ⊎ ((s : Settings) × (Leads (pairs_of t) recommended s × (s.output_len < 10) × (e ≡ ParamsInvalid)))
+    ⊎ ((s : Settings) × (Leads (pairs_of t) recommended s × (s.output_len < 10)
+    × (e ≡ ParamsInvalid)))
 
 -- the parameter text of settings: the rounds, then the length
 abbrev pub params_text : Settings → List ℕ
@@ -52,4 +56,5 @@ params_text s = decimal_pair (codes "i") s.rounds ++ 44 ∷ decimal_pair (codes 
 
 -- settings within their bounds have a parameter text, and it gives them back
 abbrev pub WrittenIsReadBack : Type 0
-WrittenIsReadBack = (s : Settings) → InBounds s → IsParams (params_text s) × GivesSettings (params_text s) s
+WrittenIsReadBack = (s : Settings) → InBounds s
+    → IsParams (params_text s) × GivesSettings (params_text s) s

@@ -1,4 +1,5 @@
--- PBKDF2 (RFC 8018 section 5.2) over a function f of a message: the pseudorandom function under the password.
+-- PBKDF2 (RFC 8018 section 5.2) over a function f of a message: the pseudorandom function under the
+-- password.
 use Rattle.std.specs.Prelude.{◌≡◌, ◌<◌, ◌≤◌, length, ℕ, zero, suc, ◌+◌, ◌-◌, ◌/◌, List, [], ◌++◌, take, max}
 use Rattle.std.specs.Int.{w32, to_be_bytes}
 use Rattle.block_core.specs.Bits.{xor_each}
@@ -32,14 +33,17 @@ pbkdf2 f u salt r n = take n (blocks f salt r (block_count n u))
 
 -- a shorter output is a prefix of a longer one, for outputs of u octets
 abbrev pub ShorterIsPrefix : Type 0
-ShorterIsPrefix = (f : List ℕ → List ℕ) (u : ℕ) (salt : List ℕ) (r m n : ℕ) → 0 < u → ((t : List ℕ) → length (f t) ≡ u)
+ShorterIsPrefix = (f : List ℕ → List ℕ) (u : ℕ) (salt : List ℕ) (r m n : ℕ) → 0 < u
+    → ((t : List ℕ) → length (f t) ≡ u)
     → m ≤ n → take m (pbkdf2 f u salt r n) ≡ pbkdf2 f u salt r m
 
 -- zero rounds are one round
 abbrev pub ZeroIsOne : Type 0
-ZeroIsOne = (f : List ℕ → List ℕ) (u : ℕ) (salt : List ℕ) (n : ℕ) → pbkdf2 f u salt 0 n ≡ pbkdf2 f u salt 1 n
+ZeroIsOne = (f : List ℕ → List ℕ) (u : ℕ) (salt : List ℕ) (n : ℕ)
+    → pbkdf2 f u salt 0 n ≡ pbkdf2 f u salt 1 n
 
 -- an output has as many octets as are asked for
 abbrev pub HasItsLength : Type 0
-HasItsLength = (f : List ℕ → List ℕ) (u : ℕ) (salt : List ℕ) (r n : ℕ) → 0 < u → ((t : List ℕ) → length (f t) ≡ u)
+HasItsLength = (f : List ℕ → List ℕ) (u : ℕ) (salt : List ℕ) (r n : ℕ) → 0 < u
+    → ((t : List ℕ) → length (f t) ≡ u)
     → length (pbkdf2 f u salt r n) ≡ n

@@ -20,4 +20,5 @@ recommended = record { rounds = 600000; output_len = 32 }
 
 -- the text is the number n below 2^32: decimal digits, with or without a plus in front
 abbrev pub IsNumber : List ℕ → ℕ → Type 0
-IsNumber t n = IsNumeral 10 (without_leading_plus t) × (n ≡ digits_value 10 (without_leading_plus t)) × (n < 2 ^ 32)
+IsNumber t n = IsNumeral 10 (without_leading_plus t)
+    × (n ≡ digits_value 10 (without_leading_plus t)) × (n < 2 ^ 32)

@@ -18,7 +18,8 @@ value_in p = after_first (λ b. b == 61) p
 
 -- a piece that has an `=`, a name in front of it that is not `v`, and a value after it
 abbrev pub IsPair : List ℕ → Type 0
-IsPair p = (position_or_len (λ b. b == 61) p < length p) × IsIdent (name_in p) × (name_in p ≢ codes "v") × IsValue (value_in p)
+IsPair p = (position_or_len (λ b. b == 61) p < length p) × IsIdent (name_in p)
+    × (name_in p ≢ codes "v") × IsValue (value_in p)
 
 -- no piece has this name
 abbrev pub LacksName : List ℕ → List (List ℕ) → Type 0
@@ -47,6 +48,8 @@ abbrev pub with_pair : List ℕ → List ℕ → List ℕ
 with_pair [] p = p
 with_pair (c ∷ cs) p = (c ∷ cs) ++ 44 ∷ p
 
--- the name is allowed and not there yet, and the text with `name=n` at its end has at most 127 octets
+-- the name is allowed and not there yet, and the text with `name=n` at its end has at most 127
+-- octets
 abbrev pub TakesDecimal : List ℕ → List ℕ → ℕ → Type 0
-TakesDecimal t name n = IsIdent name × (name ≢ codes "v") × LacksName name (pairs_of t) × (length (with_pair t (decimal_pair name n)) ≤ 127)
+TakesDecimal t name n = IsIdent name × (name ≢ codes "v") × LacksName name (pairs_of t)
+    × (length (with_pair t (decimal_pair name n)) ≤ 127)

@@ -1,5 +1,5 @@
--- PHC strings: `$id`, then `$v=n`, `$name=value,name=value`, `$salt` and `$hash`, each where it is there
--- (the PHC string format, "Specification").
+-- PHC strings: `$id`, then `$v=n`, `$name=value,name=value`, `$salt` and `$hash`, each where it is
+-- there (the PHC string format, "Specification").
 use Rattle.std.specs.Prelude.{◌≡◌, ◌≢◌, ℕ, All, ◌<◌, ◌^◌, Option, Some, None, IfSome, List, [], ◌∷◌, ◌++◌, decimal}
 use Rattle.base64.specs.Engines.{standard_no_pad}
 use Rattle.base64.specs.GeneralPurpose.{encode_of}

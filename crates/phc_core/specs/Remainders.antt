@@ -25,11 +25,14 @@ SaltRest r v = IfSome v.0 IsSalt × IfSome v.1 IsOutput × Salted v.0 v.1 × (r 
 
 -- the remainder has these parameters, salt and hash
 abbrev pub ParamsRest : Option (List ℕ) → List ℕ × Option (List ℕ) × Option (List ℕ) → Type 0
-ParamsRest r v = IsParams v.0 × IfSome v.1 IsSalt × IfSome v.2 IsOutput × Salted v.1 v.2 × (r ≡ params_rest v.0 v.1 v.2)
+ParamsRest r v = IsParams v.0 × IfSome v.1 IsSalt × IfSome v.2 IsOutput × Salted v.1 v.2
+    × (r ≡ params_rest v.0 v.1 v.2)
 
 -- the remainder has this version and these parameters, salt and hash
-abbrev pub VersionRest : Option (List ℕ) → Option ℕ × List ℕ × Option (List ℕ) × Option (List ℕ) → Type 0
-VersionRest r v = IfSome v.0 (λ n. n < 2 ^ 32) × IsParams v.1 × IfSome v.2 IsSalt × IfSome v.3 IsOutput × Salted v.2 v.3 × (r ≡ version_rest v.0 v.1 v.2 v.3)
+abbrev pub VersionRest : Option (List ℕ) → Option ℕ × List ℕ × Option (List ℕ) × Option (List ℕ)
+    → Type 0
+VersionRest r v = IfSome v.0 (λ n. n < 2 ^ 32) × IsParams v.1 × IfSome v.2 IsSalt
+    × IfSome v.3 IsOutput × Salted v.2 v.3 × (r ≡ version_rest v.0 v.1 v.2 v.3)
 
 -- the remainder has no hash that can be read
 abbrev pub NoHashRest : Option (List ℕ) → Type 0

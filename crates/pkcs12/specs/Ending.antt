@@ -5,7 +5,8 @@ use Rattle.pkcs12.specs.declared.ending.Ending.TheVariants.{Usage, ReadFault, Wr
 use Rattle.frame.specs.Status.{status_code}
 use Rattle.transfer.specs.Status.{status_of}
 
--- the number that the program ends with: for a store that is refused it is that of the refusal's status
+-- the number that the program ends with: for a store that is refused it is that of the refusal's
+-- status
 unfoldable pub code_of : Ending → ℕ
 code_of Usage = 2
 code_of ReadFault = 3

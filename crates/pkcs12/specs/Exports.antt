@@ -8,10 +8,11 @@ use Rattle.transfer.specs.Sealing.{SealsAll}
 use Rattle.transfer.specs.Verdicts.{StoreOpens}
 use Rattle.pkcs12.specs.Others.{has_others}
 
--- The store opens under its password within the limit, and has no other bags unless these are skipped. Its certificates are written
--- in order, and under a new password the keys that are written are sealed in so many rounds, within the limit of these; without one
--- no key is.
-pub record Exports (rounds : ℕ) (part : Part) (new_password : Option (List ℕ)) (allow_empty : Bool) (seal_limit : ℕ) (skips : Bool) (limit : ℕ) (store password : List ℕ)
+-- The store opens under its password within the limit, and has no other bags unless these are
+-- skipped. Its certificates are written in order, and under a new password the keys that are
+-- written are sealed in so many rounds, within the limit of these; without one no key is.
+pub record Exports (rounds : ℕ) (part : Part) (new_password : Option (List ℕ)) (allow_empty : Bool)
+    (seal_limit : ℕ) (skips : Bool) (limit : ℕ) (store password : List ℕ)
     (certificates documents : List (List ℕ)) : Type 0 where
   pub contents : List (List SafeBag)
   pub keys : List (List ℕ)

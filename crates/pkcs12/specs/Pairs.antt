@@ -14,7 +14,8 @@ has_key_id id label = is_id id label.local_key_id
 
 -- the place of the first of these certificates that has the local key id of the key
 abbrev pub pair_of : List Label → Label → Option ℕ
-pair_of certificates key = option_and_then (λ id. position (has_key_id id) certificates) key.local_key_id
+pair_of certificates key = option_and_then
+    (λ id. position (has_key_id id) certificates) key.local_key_id
 
 -- the place that there was; else this one, if the test passes
 abbrev pub first_of : Option ℕ → Bool → ℕ → Option ℕ

@@ -24,8 +24,8 @@ AreRounds rounds = (1 ≤ rounds) × (rounds ≤ rounds_limit)
 abbrev pub Refuses : List ℕ → List ℕ → ℕ → Result (Unit {0}) Refusal → Refusal → Type 0
 Refuses old new needed r e = (r ≡ Err e) × (new ≡ old) × (needed ≡ 0)
 
--- The number that is needed is that of the text's octets. Where the output has room for them the text is at its front, and else
--- nothing was written.
+-- The number that is needed is that of the text's octets. Where the output has room for them the
+-- text is at its front, and else nothing was written.
 pub record Fills (text old new : List ℕ) (needed : ℕ) (r : Result (Unit {0}) Refusal) : Type 0 where
   pub size : needed ≡ length text
   pub whole : length text ≤ length old → (r ≡ Ok tt) × (new ≡ text ++ drop (length text) old)
@@ -33,20 +33,24 @@ pub record Fills (text old new : List ℕ) (needed : ℕ) (r : Result (Unit {0})
 
 -- The text is handed on, or there was no memory for it.
 abbrev pub Hands : List ℕ → List ℕ → List ℕ → ℕ → Result (Unit {0}) Refusal → Type 0
-Hands text old new needed r = Fills text old new needed r ⊎ Refuses old new needed r (Store cause.Memory)
+Hands text old new needed r = Fills text old new needed r
+    ⊎ Refuses old new needed r (Store cause.Memory)
 
 -- what is returned for what the store came to: its text, or the refusal
-abbrev pub Follows : {T : Type 0} → (T → List ℕ) → Result T TransferError → List ℕ → List ℕ → ℕ → Result (Unit {0}) Refusal → Type 0
+abbrev pub Follows : {T : Type 0} → (T → List ℕ) → Result T TransferError → List ℕ → List ℕ → ℕ
+    → Result (Unit {0}) Refusal → Type 0
 Follows text (Ok t) old new needed r = Hands (text t) old new needed r
 Follows text (Err e) old new needed r = Refuses old new needed r (Store e)
 
 -- ---- The transfer
 
 -- What the transfer of a store came to, and what was returned for it.
-pub record StoreTransferred (b p q random : List ℕ) (rounds limit : ℕ) (old new : List ℕ) (needed : ℕ) (r : Result (Unit {0}) Refusal) : Type 0 where
+pub record StoreTransferred (b p q random : List ℕ) (rounds limit : ℕ) (old new : List ℕ)
+    (needed : ℕ) (r : Result (Unit {0}) Refusal) : Type 0 where
   pub transferred : Result Transferred TransferError
   -- it is transferred under the new password in these rounds, over these random octets
-  pub opened : IfOk transferred (λ t. TransfersDrawn b p limit rounds q random t.certificates t.documents)
+  pub opened : IfOk transferred
+      (λ t. TransfersDrawn b p limit rounds q random t.certificates t.documents)
   -- it is refused for its first cause
   pub refused : IfErr transferred (IsRefusedDrawn b p limit random)
   -- and each comes exactly where its cause holds, apart from being out of memory
@@ -54,15 +58,18 @@ pub record StoreTransferred (b p q random : List ℕ) (rounds limit : ℕ) (old 
   pub follows : Follows (λ t. pem_text t.certificates t.documents) transferred old new needed r
 
 -- The result of a transfer: the rounds are tested first, then the password, then the store.
-pub record TransferAnswers (b p q random : List ℕ) (rounds limit : ℕ) (old new : List ℕ) (needed : ℕ) (r : Result (Unit {0}) Refusal) : Type 0 where
+pub record TransferAnswers (b p q random : List ℕ) (rounds limit : ℕ) (old new : List ℕ)
+    (needed : ℕ) (r : Result (Unit {0}) Refusal) : Type 0 where
   pub rounds_first : (AreRounds rounds → ⊥) → Refuses old new needed r Rounds
   pub then_password : AreRounds rounds → (IsPassword p → ⊥) → Refuses old new needed r Password
-  pub then_store : AreRounds rounds → IsPassword p → StoreTransferred b p q random rounds limit old new needed r
+  pub then_store : AreRounds rounds → IsPassword p
+      → StoreTransferred b p q random rounds limit old new needed r
 
 -- ---- Opening
 
 -- What the opening of a store came to, and what was returned for it.
-pub record StoreOpened (b p : List ℕ) (limit : ℕ) (old new : List ℕ) (needed : ℕ) (r : Result (Unit {0}) Refusal) : Type 0 where
+pub record StoreOpened (b p : List ℕ) (limit : ℕ) (old new : List ℕ) (needed : ℕ)
+    (r : Result (Unit {0}) Refusal) : Type 0 where
   pub opened : Result Opened TransferError
   -- it is opened to these bags and keys
   pub opens : IfOk opened (λ o. OpensWithin b p limit o.contents o.keys)
@@ -73,14 +80,16 @@ pub record StoreOpened (b p : List ℕ) (limit : ℕ) (old new : List ℕ) (need
   pub follows : Follows (λ o. opened_text o.contents o.keys) opened old new needed r
 
 -- The result of an opening: the password is tested first, then the store.
-pub record OpenAnswers (b p : List ℕ) (limit : ℕ) (old new : List ℕ) (needed : ℕ) (r : Result (Unit {0}) Refusal) : Type 0 where
+pub record OpenAnswers (b p : List ℕ) (limit : ℕ) (old new : List ℕ) (needed : ℕ)
+    (r : Result (Unit {0}) Refusal) : Type 0 where
   pub password_first : (IsPassword p → ⊥) → Refuses old new needed r Password
   pub then_store : IsPassword p → StoreOpened b p limit old new needed r
 
 -- ---- The list
 
 -- What the list of a store came to, and what was returned for it.
-pub record StoreListed (b p : List ℕ) (limit : ℕ) (old new : List ℕ) (needed : ℕ) (r : Result (Unit {0}) Refusal) : Type 0 where
+pub record StoreListed (b p : List ℕ) (limit : ℕ) (old new : List ℕ) (needed : ℕ)
+    (r : Result (Unit {0}) Refusal) : Type 0 where
   pub listed : Result (List ℕ) TransferError
   -- it is the table of what the store holds
   pub lists : IfOk listed (ListsWithin b p limit)
@@ -91,14 +100,16 @@ pub record StoreListed (b p : List ℕ) (limit : ℕ) (old new : List ℕ) (need
   pub follows : Follows (λ t. t) listed old new needed r
 
 -- The result of a list: the password is tested first, then the store.
-pub record ListAnswers (b p : List ℕ) (limit : ℕ) (old new : List ℕ) (needed : ℕ) (r : Result (Unit {0}) Refusal) : Type 0 where
+pub record ListAnswers (b p : List ℕ) (limit : ℕ) (old new : List ℕ) (needed : ℕ)
+    (r : Result (Unit {0}) Refusal) : Type 0 where
   pub password_first : (IsPassword p → ⊥) → Refuses old new needed r Password
   pub then_store : IsPassword p → StoreListed b p limit old new needed r
 
 -- ---- Another password
 
 -- What the change of a store's password came to, and what was returned for it.
-pub record StoreChanged (b p q random : List ℕ) (limit : ℕ) (old new : List ℕ) (needed : ℕ) (r : Result (Unit {0}) Refusal) : Type 0 where
+pub record StoreChanged (b p q random : List ℕ) (limit : ℕ) (old new : List ℕ) (needed : ℕ)
+    (r : Result (Unit {0}) Refusal) : Type 0 where
   pub changed : Result (List ℕ) TransferError
   -- it is changed to this text, over these random octets
   pub changes : IfOk changed (ChangesDrawn b p q limit random)
@@ -109,7 +120,8 @@ pub record StoreChanged (b p q random : List ℕ) (limit : ℕ) (old new : List 
   pub follows : Follows (λ c. c) changed old new needed r
 
 -- The result of a change: the passwords are tested first, then the store.
-pub record ChangeAnswers (b p q random : List ℕ) (limit : ℕ) (old new : List ℕ) (needed : ℕ) (r : Result (Unit {0}) Refusal) : Type 0 where
+pub record ChangeAnswers (b p q random : List ℕ) (limit : ℕ) (old new : List ℕ) (needed : ℕ)
+    (r : Result (Unit {0}) Refusal) : Type 0 where
   pub password_first : (IsPassword p → ⊥) → Refuses old new needed r Password
   pub then_new_password : IsPassword p → (IsPassword q → ⊥) → Refuses old new needed r Password
   pub then_store : IsPassword p → IsPassword q → StoreChanged b p q random limit old new needed r

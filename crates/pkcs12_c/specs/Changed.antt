@@ -5,14 +5,18 @@ use Rattle.transfer.specs.declared.store.error.TransferError.{TransferError}
 
 -- The store is changed to the text c within the limit, and these random octets are to spare.
 abbrev pub ChangesDrawn : List ℕ → List ℕ → List ℕ → ℕ → List ℕ → List ℕ → Type 0
-ChangesDrawn b p q limit random c = (spare : List ℕ) × (steps : ℕ) × Rekeys b p q limit (Some random) (Some spare) 0 steps c
+ChangesDrawn b p q limit random c = (spare : List ℕ) × (steps : ℕ)
+    × Rekeys b p q limit (Some random) (Some spare) 0 steps c
 
--- The store is refused for e, the first cause, within the limit; or there was no memory, or there are too few random octets, or the
--- changed store would have more octets than a store may have.
-pub record IsRefusedChange (b p : List ℕ) (limit : ℕ) (random : List ℕ) (e : TransferError) : Type 0 where
+-- The store is refused for e, the first cause, within the limit; or there was no memory, or there
+-- are too few random octets, or the changed store would have more octets than a store may have.
+pub record IsRefusedChange (b p : List ℕ) (limit : ℕ) (random : List ℕ) (e : TransferError)
+    : Type 0 where
   pub steps : ℕ
   pub within : steps ≤ limit
   pub faults : ℕ
   pub faults_after : ℕ
   pub spare : List ℕ
-  pub cause : RefusedFor (IsRefused b p limit 0 steps) (RunsShort b p limit (Some random) faults faults_after 0 steps) (GrowsTooLong b p limit (Some random) (Some spare) 0 steps) e
+  pub cause : RefusedFor (IsRefused b p limit 0 steps)
+      (RunsShort b p limit (Some random) faults faults_after 0 steps)
+      (GrowsTooLong b p limit (Some random) (Some spare) 0 steps) e

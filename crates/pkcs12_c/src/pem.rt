@@ -60,7 +60,8 @@ fn add_certificate(alloc: Global, bag: &SafeBag, text: &mut Octets) -> Result<()
 
 /// Adds a text for each X.509 certificate among the bags.
 fn add_certificates(alloc: Global, bags: &[SafeBag], text: &mut Octets) -> Result<(), Error>
-    ensures ok { OnOk result (text.new ≡ text.old ++ certificate_texts (certificates_among bags.now)) }
+    ensures ok { OnOk result
+        (text.new ≡ text.old ++ certificate_texts (certificates_among bags.now)) }
     ensures err { IfErr result (λ e. e ≡ Error.Memory) }
 {
     for bag in bags {

@@ -1,5 +1,5 @@
--- The key derivation of RFC 7292 appendix B.2, with blocks of 64 octets, over a hash function h whose digests have
--- u octets.
+-- The key derivation of RFC 7292 appendix B.2, with blocks of 64 octets, over a hash function h
+-- whose digests have u octets.
 use Rattle.std.specs.Prelude.{ℕ, zero, suc, ◌+◌, ◌-◌, ◌*◌, ◌/◌, ◌%◌, ◌^◌, List, [], ◌++◌, length, take, map, replicate, slice_index}
 use Rattle.std.specs.List.{flat_map, range_with_len}
 use Rattle.pkcs12_kdf.specs.Numbers.{number, octets, numbers}
@@ -41,4 +41,5 @@ turns n u = (n + (u - 1)) / u
 
 -- n octets under the password q and the salt, in r iterations
 unfoldable pub derive12 : (List ℕ → List ℕ) → ℕ → List ℕ → List ℕ → ℕ → ℕ → ℕ → List ℕ
-derive12 h u q salt r id n = take n (answers (answer h r id) (numbers (fill salt ++ fill q)) (turns n u))
+derive12 h u q salt r id n =
+    take n (answers (answer h r id) (numbers (fill salt ++ fill q)) (turns n u))

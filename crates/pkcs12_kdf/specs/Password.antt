@@ -1,4 +1,5 @@
--- The password of a store (RFC 7292 appendix B.1): UTF-16, the higher octet of each unit first, and two zero octets.
+-- The password of a store (RFC 7292 appendix B.1): UTF-16, the higher octet of each unit first, and
+-- two zero octets.
 use Rattle.std.specs.Prelude.{ℕ, List, [], ◌∷◌, ◌++◌}
 use Rattle.std.specs.List.{flat_map}
 use Rattle.std.specs.Int.{w16, to_be_bytes}

@@ -18,8 +18,10 @@ kind_of (DesCbc v) = 7
 -- the cipher of a kind
 abbrev pub of_kind : ℕ → List ℕ → Option EncryptionScheme
 of_kind k v =
-    if nat_eq k 1 then Some (Aes128Cbc v) else (if nat_eq k 2 then Some (Aes192Cbc v) else (if nat_eq k 3 then Some (Aes256Cbc v)
-    else (if nat_eq k 4 then Some (Aes128Gcm v) else (if nat_eq k 5 then Some (Aes256Gcm v) else (if nat_eq k 6 then Some (DesEde3Cbc v)
+    if nat_eq k 1 then Some (Aes128Cbc v)
+    else (if nat_eq k 2 then Some (Aes192Cbc v) else (if nat_eq k 3 then Some (Aes256Cbc v)
+    else (if nat_eq k 4 then Some (Aes128Gcm v)
+    else (if nat_eq k 5 then Some (Aes256Gcm v) else (if nat_eq k 6 then Some (DesEde3Cbc v)
     else (if nat_eq k 7 then Some (DesCbc v) else None))))))
 
 abbrev pub alike : EncryptionScheme → EncryptionScheme → Bool

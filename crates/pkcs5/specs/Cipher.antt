@@ -1,5 +1,5 @@
--- The cipher of PBES2 (RFC 8018 appendices A.4 and B.2, RFC 5084 section 3.2): an algorithm whose parameters are its
--- initialization vector or nonce.
+-- The cipher of PBES2 (RFC 8018 appendices A.4 and B.2, RFC 5084 section 3.2): an algorithm whose
+-- parameters are its initialization vector or nonce.
 use Rattle.std.specs.Prelude.{◌≡◌, ℕ, List, ◌++◌, length}
 use Rattle.asn1_core.specs.Der.{oid, octets}
 use Rattle.asn1_core.specs.Texts.{Within}

@@ -12,7 +12,8 @@ use Rattle.scrypt_core.specs.declared.params.Params.{Params as Costs}
 
 -- PBKDF2 over HMAC-SHA-256 in so many rounds, with no stated length of the key, and a cipher
 abbrev pub pbkdf2_sha256 : ℕ → List ℕ → EncryptionScheme → Parameters
-pbkdf2_sha256 rounds salt cipher = record { kdf = Pbkdf2 (pbkdf2_params salt rounds None HmacWithSha256); encryption = cipher }
+pbkdf2_sha256 rounds salt cipher =
+    record { kdf = Pbkdf2 (pbkdf2_params salt rounds None HmacWithSha256); encryption = cipher }
 
 -- scrypt under these costs, with no stated length of the key
 abbrev pub scrypt_of : Costs → List ℕ → ScryptParams
@@ -31,7 +32,10 @@ RefusesScrypt costs salt = (32 < length salt) ⊎ ((65535 < costs.r) ⊎ (65535 
 
 -- what is recommended: scrypt of 2^14 turns, blocks of 8 and one piece, and AES-256 in CBC mode
 abbrev pub recommended : List ℕ → List ℕ → Parameters
-recommended iv salt = record { kdf = Scrypt (scrypt_params salt 16384 8 1 None); encryption = Aes256Cbc iv }
+recommended iv salt = record {
+  kdf = Scrypt (scrypt_params salt 16384 8 1 None);
+  encryption = Aes256Cbc iv;
+}
 
 -- the same by PBKDF2, in 600,000 rounds
 abbrev pub by_pbkdf2 : List ℕ → List ℕ → Parameters

@@ -28,7 +28,8 @@ abbrev pub IsKdf : Kdf → Type 0
 IsKdf (Pbkdf2 v) = ArePbkdf2Params v
 IsKdf (Scrypt v) = AreScryptParams v
 
--- which texts spell a function: its identifier, and a spelling of its parameters; those of scrypt have one
+-- which texts spell a function: its identifier, and a spelling of its parameters; those of scrypt
+-- have one
 abbrev pub SpellsKdf : List ℕ → Kdf → Type 0
 SpellsKdf b (Pbkdf2 v) = (p : List ℕ) × SpellsPbkdf2Params p v × (b ≡ seq (oid pbkdf2_oid ++ p))
 SpellsKdf b (Scrypt v) = b ≡ seq (kdf_content (Scrypt v))

@@ -1,5 +1,6 @@
--- What PBES2 derives from a password, and which text a ciphertext opens to (RFC 8018 sections 5.2 and 6.2). Encryption is
--- never defined: a cipher is a permutation under each key, so the ciphertext of a text is the one that opens to it.
+-- What PBES2 derives from a password, and which text a ciphertext opens to (RFC 8018 sections 5.2
+-- and 6.2). Encryption is never defined: a cipher is a permutation under each key, so the
+-- ciphertext of a text is the one that opens to it.
 use Rattle.std.specs.Prelude.{◌≡◌, ⊤, if◌then◌else◌, ◌&&◌, ℕ, ◌+◌, ◌-◌, ◌*◌, ◌^◌, ◌<◌, ◌%◌, ◌==◌, nat_lt, max, Bool, true, List, length, take, drop, slice_index, Option, Some, None, IfSome}
 use Rattle.std.specs.Str.{bytes_eq}
 use Rattle.sha1.specs.Sha1.{sha1}
@@ -26,7 +27,8 @@ use Rattle.pkcs5.specs.declared.pbes2.parameters.Parameters.{Parameters}
 
 -- ---- the key (RFC 8018 section 5.2 and appendix B.1, RFC 7914 section 6)
 
--- the pseudorandom function under a password: HMAC over its hash, whose blocks have 64 or 128 octets
+-- the pseudorandom function under a password: HMAC over its hash, whose blocks have 64 or 128
+-- octets
 unfoldable pub prf_of : Pbkdf2Prf → List ℕ → List ℕ → List ℕ
 prf_of HmacWithSha1 q = hmac sha1 64 q
 prf_of HmacWithSha224 q = hmac sha224 64 q
@@ -54,7 +56,8 @@ sha256_key rounds q salt = pbkdf2 (hmac sha256 64 q) 32 salt rounds 32
 -- scrypt takes the costs: the first is a power of two, and they are within the bounds
 abbrev pub TakesCosts : Kdf → Type 0
 TakesCosts (Pbkdf2 p) = ⊤
-TakesCosts (Scrypt p) = (log_n : ℕ) × (p.cost_parameter ≡ 2 ^ log_n) × Lawful log_n p.block_size p.parallelization
+TakesCosts (Scrypt p) = (log_n : ℕ) × (p.cost_parameter ≡ 2 ^ log_n)
+    × Lawful log_n p.block_size p.parallelization
 
 -- where a length of the key is stated, it is n
 abbrev pub StatesLength : Kdf → ℕ → Type 0
@@ -84,12 +87,14 @@ pub record IsBlocks (n : ℕ) (c : List ℕ) : Type 0 where
   pub some : 0 < length c
   pub whole : length c % n ≡ 0
 
--- CBC: a ciphertext, and the text that it decrypts to with its padding, where D is the inverse of the cipher on blocks of n octets
+-- CBC: a ciphertext, and the text that it decrypts to with its padding, where D is the inverse of
+-- the cipher on blocks of n octets
 pub record Decrypts (n : ℕ) (D : List ℕ → List ℕ) (iv c m : List ℕ) : Type 0 where
   pub blocks : IsBlocks n c
   pub text : uncbc D n iv c ≡ padded m n
 
--- GCM: a ciphertext with its tag of 16 octets, and the text that is sealed so, where E is the cipher
+-- GCM: a ciphertext with its tag of 16 octets, and the text that is sealed so, where E is the
+-- cipher
 pub record Unseals (E : List ℕ → List ℕ) (nonce c m : List ℕ) : Type 0 where
   pub long : length c ≡ length m + 16
   pub text : gcm E nonce m ≡ c
@@ -104,9 +109,11 @@ OpensBy (Aes256Gcm nonce) key c m = Unseals (aes_256 key) nonce c m
 OpensBy (DesEde3Cbc iv) key c m = Decrypts 8 (inv_tdes key) iv c m
 OpensBy (DesCbc iv) key c m = Decrypts 8 (inv_des key) iv c m
 
--- what a buffer holds of a ciphertext that opens to no text: in CBC its decrypted blocks, where it is whole blocks
+-- what a buffer holds of a ciphertext that opens to no text: in CBC its decrypted blocks, where it
+-- is whole blocks
 abbrev pub LeftBlocks : ℕ → (List ℕ → List ℕ) → List ℕ → List ℕ → List ℕ → Type 0
-LeftBlocks n D iv before now = (IsBlocks n before → now ≡ uncbc D n iv before) × (¬ IsBlocks n before → now ≡ before)
+LeftBlocks n D iv before now = (IsBlocks n before → now ≡ uncbc D n iv before)
+    × (¬ IsBlocks n before → now ≡ before)
 
 -- by the cipher; in GCM the buffer is left as it was
 unfoldable pub LeftBy : EncryptionScheme → List ℕ → List ℕ → List ℕ → Type 0
@@ -118,7 +125,8 @@ LeftBy (Aes256Gcm nonce) key before now = now ≡ before
 LeftBy (DesEde3Cbc iv) key before now = LeftBlocks 8 (inv_tdes key) iv before now
 LeftBy (DesCbc iv) key before now = LeftBlocks 8 (inv_des key) iv before now
 
--- what comes after len octets of text in a buffer where they were decrypted: the padding in CBC, and in GCM the tag
+-- what comes after len octets of text in a buffer where they were decrypted: the padding in CBC,
+-- and in GCM the tag
 unfoldable pub IsBehind : EncryptionScheme → List ℕ → List ℕ → ℕ → Type 0
 IsBehind (Aes128Cbc iv) before now len = now ≡ padded (take len now) 16
 IsBehind (Aes192Cbc iv) before now len = now ≡ padded (take len now) 16
@@ -128,7 +136,8 @@ IsBehind (Aes256Gcm nonce) before now len = drop len now ≡ drop len before
 IsBehind (DesEde3Cbc iv) before now len = now ≡ padded (take len now) 8
 IsBehind (DesCbc iv) before now len = now ≡ padded (take len now) 8
 
--- the length of the ciphertext of n octets of text: in CBC the next greater multiple of a block, and in GCM 16 octets more
+-- the length of the ciphertext of n octets of text: in CBC the next greater multiple of a block,
+-- and in GCM 16 octets more
 abbrev pub ciphertext_size : EncryptionScheme → ℕ → ℕ
 ciphertext_size (Aes128Cbc iv) n = n + pad_count 16 n
 ciphertext_size (Aes192Cbc iv) n = n + pad_count 16 n
@@ -170,7 +179,8 @@ unpadded n t =
 
 -- what a ciphertext opens to in CBC, and in GCM
 unfoldable pub decrypted : ℕ → (List ℕ → List ℕ) → List ℕ → List ℕ → Option (List ℕ)
-decrypted n D iv c = if nat_lt 0 (length c) && (length c % n == 0) then unpadded n (uncbc D n iv c) else None
+decrypted n D iv c = if nat_lt 0 (length c) && (length c % n == 0) then unpadded n (uncbc D n iv c)
+    else None
 
 unfoldable pub unsealed : (List ℕ → List ℕ) → List ℕ → List ℕ → Option (List ℕ)
 unsealed E nonce c =

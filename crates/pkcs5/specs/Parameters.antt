@@ -13,7 +13,8 @@ parameters k c = record { kdf = k; encryption = c }
 
 -- the value octets: the function, and the cipher
 abbrev pub ParametersOf : List ℕ → Parameters → Type 0
-ParametersOf b v = (k : List ℕ) × (c : List ℕ) × KdfText k v.kdf × CipherText c v.encryption × (b ≡ k ++ c)
+ParametersOf b v = (k : List ℕ) × (c : List ℕ) × KdfText k v.kdf × CipherText c v.encryption
+    × (b ≡ k ++ c)
 
 abbrev pub ParametersText : List ℕ → Parameters → Type 0
 ParametersText = Within 0x30 ParametersOf
@@ -29,4 +30,5 @@ AreParameters v = IsKdf v.kdf × IsCipher v.encryption
 
 -- which texts spell the parameters: a spelling of the function, and the cipher
 abbrev pub SpellsParameters : List ℕ → Parameters → Type 0
-SpellsParameters b v = (k : List ℕ) × SpellsKdf k v.kdf × (b ≡ seq (k ++ seq (cipher_content v.encryption)))
+SpellsParameters b v = (k : List ℕ) × SpellsKdf k v.kdf
+    × (b ≡ seq (k ++ seq (cipher_content v.encryption)))

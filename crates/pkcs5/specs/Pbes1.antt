@@ -1,4 +1,5 @@
--- PBES1 (RFC 8018 section 6.1 and appendix A.3): an algorithm of six, SEQUENCE { algorithm, PBEParameter }.
+-- PBES1 (RFC 8018 section 6.1 and appendix A.3): an algorithm of six, SEQUENCE { algorithm,
+-- PBEParameter }.
 use Rattle.std.specs.Prelude.{◌≡◌, ◌≤◌, ℕ, List, ◌++◌, length}
 use Rattle.asn1_core.specs.Der.{oid, octets, uint, el}
 use Rattle.asn1_core.specs.Texts.{Within, Uint}
@@ -38,7 +39,8 @@ pbe_cipher PbeWithMd5AndRc2Cbc = Rc2Cbc
 pbe_cipher PbeWithSha1AndDesCbc = DesCbc
 pbe_cipher PbeWithSha1AndRc2Cbc = Rc2Cbc
 
--- ---- PBEParameter (appendix A.3): SEQUENCE { salt OCTET STRING (SIZE(8)), iterationCount INTEGER }
+-- ---- PBEParameter (appendix A.3): SEQUENCE { salt OCTET STRING (SIZE(8)), iterationCount INTEGER
+-- }
 
 abbrev pub pbe_params : List ℕ → ℕ → Parameters
 pbe_params s n = record { salt = s; iteration_count = n }
@@ -47,7 +49,8 @@ abbrev pub PbeSaltOf : List ℕ → List ℕ → Type 0
 PbeSaltOf b s = (s ≡ b) × (length s ≡ 8)
 
 abbrev pub PbeParamsOf : List ℕ → Parameters → Type 0
-PbeParamsOf b v = (s : List ℕ) × (n : List ℕ) × Within 0x04 PbeSaltOf s v.salt × Uint 65535 n v.iteration_count × (b ≡ s ++ n)
+PbeParamsOf b v = (s : List ℕ) × (n : List ℕ) × Within 0x04 PbeSaltOf s v.salt
+    × Uint 65535 n v.iteration_count × (b ≡ s ++ n)
 
 abbrev pub PbeParamsText : List ℕ → Parameters → Type 0
 PbeParamsText = Within 0x30 PbeParamsOf

@@ -1,4 +1,5 @@
--- PBKDF2-params (RFC 8018 appendix A.2): SEQUENCE { salt, iterationCount, keyLength OPTIONAL, prf DEFAULT algid-hmacWithSHA1 }.
+-- PBKDF2-params (RFC 8018 appendix A.2): SEQUENCE { salt, iterationCount, keyLength OPTIONAL, prf
+-- DEFAULT algid-hmacWithSHA1 }.
 use Rattle.std.specs.Prelude.{◌≡◌, ◌≤◌, ℕ, List, ◌++◌, Option, Some, None}
 use Rattle.asn1_core.specs.Der.{octets, uint, seq, el}
 use Rattle.asn1_core.specs.Fields.{OrNothing}
@@ -16,7 +17,8 @@ pbkdf2_params s n k f = record { salt = s; iteration_count = n; key_length = k; 
 -- the value octets: the four parts; HMAC over SHA-1 may be left out
 abbrev pub Pbkdf2ParamsOf : List ℕ → Pbkdf2Params → Type 0
 Pbkdf2ParamsOf b v = (s : List ℕ) × (n : List ℕ) × (k : List ℕ) × (f : List ℕ)
-    × Within 0x04 SaltOf s v.salt × Uint 4294967295 n v.iteration_count × Perhaps (Uint 65535) k v.key_length × OrNothing HmacWithSha1 PrfText f v.prf
+    × Within 0x04 SaltOf s v.salt × Uint 4294967295 n v.iteration_count
+    × Perhaps (Uint 65535) k v.key_length × OrNothing HmacWithSha1 PrfText f v.prf
     × (b ≡ s ++ n ++ k ++ f)
 
 abbrev pub Pbkdf2ParamsText : List ℕ → Pbkdf2Params → Type 0
@@ -38,12 +40,15 @@ before_prf v = octets v.salt ++ uint v.iteration_count ++ canon_option uint v.ke
 
 -- the value octets that are written
 abbrev pub pbkdf2_params_content : Pbkdf2Params → List ℕ
-pbkdf2_params_content v = before_prf v ++ canon_option (λ f. el 0x30 (prf_content f)) (stated_prf v.prf)
+pbkdf2_params_content v = before_prf v ++ canon_option
+    (λ f. el 0x30 (prf_content f)) (stated_prf v.prf)
 
 -- each number fits its type, and the salt is not too long
 abbrev pub ArePbkdf2Params : Pbkdf2Params → Type 0
-ArePbkdf2Params v = IsSalt v.salt × (v.iteration_count ≤ 4294967295) × writable_option (λ n. n ≤ 65535) v.key_length
+ArePbkdf2Params v = IsSalt v.salt × (v.iteration_count ≤ 4294967295)
+    × writable_option (λ n. n ≤ 65535) v.key_length
 
 -- which texts spell the parameters: HMAC over SHA-1 is left out, or the function is spelled
 abbrev pub SpellsPbkdf2Params : List ℕ → Pbkdf2Params → Type 0
-SpellsPbkdf2Params b v = (f : List ℕ) × OrNothing HmacWithSha1 SpellsPrf f v.prf × (b ≡ seq (before_prf v ++ f))
+SpellsPbkdf2Params b v = (f : List ℕ) × OrNothing HmacWithSha1 SpellsPrf f v.prf
+    × (b ≡ seq (before_prf v ++ f))

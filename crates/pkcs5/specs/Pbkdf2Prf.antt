@@ -1,4 +1,5 @@
--- The pseudorandom function of PBKDF2 (RFC 8018 appendix B.1): an algorithm whose parameters are NULL, and here may be left out.
+-- The pseudorandom function of PBKDF2 (RFC 8018 appendix B.1): an algorithm whose parameters are
+-- NULL, and here may be left out.
 use Rattle.std.specs.Prelude.{◌≡◌, ◌⊎◌, ℕ, List, [], ◌++◌}
 use Rattle.asn1_core.specs.Der.{oid, null, seq}
 use Rattle.asn1_core.specs.Texts.{Within}

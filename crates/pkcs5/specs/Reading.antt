@@ -1,5 +1,6 @@
--- What is read where: each text to its one value, or the refusal that comes. The relations of the other files say what the texts
--- are; these functions say besides which refusal comes where there is none.
+-- What is read where: each text to its one value, or the refusal that comes. The relations of the
+-- other files say what the texts are; these functions say besides which refusal comes where there
+-- is none.
 use Rattle.std.specs.Prelude.{ℕ, List, length, nat_lt, if◌then◌else◌, Option, Some, None, Result, Ok, ◌==◌, Err, nat_eq}
 use Rattle.asn1_core.specs.Reading.{All, where_ok, Fault, UnknownOid, Front, ◌>>=◌, any_tag, ended, whole, within, known, on, option_at, uint_at, Bad, left, known_in}
 use Rattle.std.specs.Str.{bytes_eq}
@@ -71,8 +72,10 @@ prf_or_default None = HmacWithSha1
 prf_or_default (Some f) = f
 
 abbrev pub pbkdf2_params_of : All Pbkdf2Params
-pbkdf2_params_of = on (within 0x04 salt_of) (λ s. on (uint_at 4294967295) (λ n. on (option_at (λ t. t == 0x02) (uint_at 65535)) (λ k.
-    on (option_at (λ t. t == 0x30) (within 0x30 prf_of)) (λ f. ended (pbkdf2_params s n k (prf_or_default f))))))
+pbkdf2_params_of = on (within 0x04 salt_of) (λ s. on (uint_at 4294967295) (λ n.
+    on (option_at (λ t. t == 0x02) (uint_at 65535)) (λ k.
+    on (option_at (λ t. t == 0x30) (within 0x30 prf_of))
+    (λ f. ended (pbkdf2_params s n k (prf_or_default f))))))
 
 abbrev pub pbkdf2_params_at : Front Pbkdf2Params
 pbkdf2_params_at = within 0x30 pbkdf2_params_of
@@ -84,7 +87,8 @@ pbkdf2_params_in p = whole pbkdf2_params_at (el p.0 p.1)
 -- ---- the parameters of scrypt
 
 abbrev pub scrypt_params_of : All ScryptParams
-scrypt_params_of = on (within 0x04 salt_of) (λ s. on (uint_at 18446744073709551615) (λ n. on (uint_at 65535) (λ r. on (uint_at 65535) (λ p.
+scrypt_params_of = on (within 0x04 salt_of) (λ s. on (uint_at 18446744073709551615) (λ n.
+    on (uint_at 65535) (λ r. on (uint_at 65535) (λ p.
     on (option_at (λ t. t == 0x02) (uint_at 65535)) (λ k. ended (scrypt_params s n r p k))))))
 
 abbrev pub scrypt_params_at : Front ScryptParams
@@ -100,7 +104,8 @@ scrypt_params_in p = whole scrypt_params_at (el p.0 p.1)
 abbrev pub kdf_with : ObjectIdentifier → ℕ × List ℕ → Result Kdf Fault
 kdf_with o p =
     if bytes_eq (oid_octets o) pbkdf2_oid then (pbkdf2_params_in p >>= λ v. Ok (Pbkdf2 v))
-    else (if bytes_eq (oid_octets o) scrypt_oid then (scrypt_params_in p >>= λ v. Ok (Scrypt v)) else Err (UnknownOid o))
+    else (if bytes_eq (oid_octets o) scrypt_oid then (scrypt_params_in p >>= λ v. Ok (Scrypt v))
+    else Err (UnknownOid o))
 
 -- the function that an algorithm is: it has to have parameters
 unfoldable pub kdf_in : AnyAlgorithm → Result Kdf Fault
@@ -128,11 +133,16 @@ cipher_named o iv =
 
 -- the identifier is looked up before the length of the initialization vector is judged
 abbrev pub cipher_with : ObjectIdentifier → List ℕ → Result cipher.EncryptionScheme Fault
-cipher_with o iv = known_in (UnknownOid o) (cipher_named o iv) >>= λ c. where_ok (length iv == iv_size c) c
+cipher_with o iv = known_in (UnknownOid o) (cipher_named o iv)
+    >>= λ c. where_ok (length iv == iv_size c) c
 
 -- the cipher that an algorithm is: its parameters have to be an OCTET STRING
 unfoldable pub cipher_in : AnyAlgorithm → Result cipher.EncryptionScheme Fault
-cipher_in a = elim a.parameters [ None ↦ Err Bad | Some p ↦ whole (within 0x04 left) (el p.0 p.1) >>= cipher_with a.oid ]
+cipher_in a = elim a.parameters [
+  | None ↦ Err Bad
+  | Some p ↦ whole (within 0x04 left) (el p.0 p.1)
+      >>= cipher_with a.oid
+]
 
 -- octets after the parameters come last
 abbrev pub cipher_of : All cipher.EncryptionScheme
@@ -178,7 +188,8 @@ pbe_named o =
     else (if bytes_eq (oid_octets o) pbe_with_md5_and_des_cbc_oid then Some PbeWithMd5AndDesCbc
     else (if bytes_eq (oid_octets o) pbe_with_md5_and_rc2_cbc_oid then Some PbeWithMd5AndRc2Cbc
     else (if bytes_eq (oid_octets o) pbe_with_sha1_and_des_cbc_oid then Some PbeWithSha1AndDesCbc
-    else (if bytes_eq (oid_octets o) pbe_with_sha1_and_rc2_cbc_oid then Some PbeWithSha1AndRc2Cbc else None)))))
+    else (if bytes_eq (oid_octets o) pbe_with_sha1_and_rc2_cbc_oid then Some PbeWithSha1AndRc2Cbc
+    else None)))))
 
 -- by the identifier, which has to be one of the six, and then the parameters
 unfoldable pub pbe_with : ObjectIdentifier → ℕ × List ℕ → Result Algorithm Fault
@@ -199,7 +210,8 @@ pbe_at = within 0x30 pbe_of
 -- by the identifier, PBES2's or one of PBES1; a scheme of another identifier is none
 abbrev pub scheme_with : ObjectIdentifier → ℕ × List ℕ → Result scheme.EncryptionScheme Fault
 scheme_with o p =
-    if bytes_eq (oid_octets o) pbes2_oid then (parameters_in p >>= λ v. Ok (Pbes2 v)) else (pbe_with o p >>= λ a. Ok (Pbes1 a))
+    if bytes_eq (oid_octets o) pbes2_oid then (parameters_in p >>= λ v. Ok (Pbes2 v))
+    else (pbe_with o p >>= λ a. Ok (Pbes1 a))
 
 -- the scheme that an algorithm is: it has to have parameters
 unfoldable pub scheme_in : AnyAlgorithm → Result scheme.EncryptionScheme Fault

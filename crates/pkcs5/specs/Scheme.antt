@@ -1,5 +1,5 @@
--- A scheme of encryption under a password (RFC 8018 section 6): an algorithm, one of PBES1 (appendix A.3) or
--- PBES2 (appendix A.4).
+-- A scheme of encryption under a password (RFC 8018 section 6): an algorithm, one of PBES1
+-- (appendix A.3) or PBES2 (appendix A.4).
 use Rattle.std.specs.Prelude.{◌≡◌, ⊤, ℕ, List, ◌++◌}
 use Rattle.asn1_core.specs.Der.{oid, seq, el}
 use Rattle.asn1_core.specs.Texts.{Within}
@@ -46,7 +46,8 @@ abbrev pub IsScheme : EncryptionScheme → Type 0
 IsScheme (Pbes1 a) = ArePbeParams a.parameters
 IsScheme (Pbes2 v) = AreParameters v
 
--- which texts spell a scheme: its identifier, and a spelling of its parameters; one of PBES1 has one
+-- which texts spell a scheme: its identifier, and a spelling of its parameters; one of PBES1 has
+-- one
 abbrev pub SpellsScheme : List ℕ → EncryptionScheme → Type 0
 SpellsScheme b (Pbes1 a) = b ≡ seq (pbe_content a)
 SpellsScheme b (Pbes2 v) = (p : List ℕ) × SpellsParameters p v × (b ≡ seq (oid pbes2_oid ++ p))

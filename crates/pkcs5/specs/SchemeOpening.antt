@@ -1,5 +1,5 @@
--- What the calls of a scheme return: under PBES2 (RFC 8018 section 6.2) what those of its parameters do, and nothing is opened or
--- sealed under PBES1.
+-- What the calls of a scheme return: under PBES2 (RFC 8018 section 6.2) what those of its
+-- parameters do, and nothing is opened or sealed under PBES1.
 use Rattle.std.specs.Prelude.{◌≡◌, ℕ, List}
 use Rattle.pkcs5.specs.Kinds.{IsDes}
 use Rattle.pkcs5.specs.Opening.{FitsKey, IsBehind, Opens, ciphertext_size}
@@ -9,7 +9,8 @@ use Rattle.pkcs5.specs.declared.error.Error.TheVariants as errors
 use Rattle.pkcs5.specs.declared.encryption_scheme.EncryptionScheme.{EncryptionScheme}
 use Rattle.pkcs5.specs.declared.encryption_scheme.EncryptionScheme.TheVariants.{Pbes1, Pbes2}
 
--- the ciphertext c opens to the text m under the password q, and the function gives a key for the cipher
+-- the ciphertext c opens to the text m under the password q, and the function gives a key for the
+-- cipher
 abbrev pub SchemeOpens : EncryptionScheme → List ℕ → List ℕ → List ℕ → Type 0
 SchemeOpens (Pbes1 a) q c m = ⊥
 SchemeOpens (Pbes2 par) q c m = FitsKey par × Opens par q c m

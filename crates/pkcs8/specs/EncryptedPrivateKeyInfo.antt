@@ -1,4 +1,5 @@
--- EncryptedPrivateKeyInfo (RFC 5958 section 3): SEQUENCE { encryptionAlgorithm AlgorithmIdentifier, encryptedData OCTET STRING }.
+-- EncryptedPrivateKeyInfo (RFC 5958 section 3): SEQUENCE { encryptionAlgorithm AlgorithmIdentifier,
+-- encryptedData OCTET STRING }.
 use Rattle.std.specs.Prelude.{◌≡◌, ℕ, List, ◌++◌}
 use Rattle.asn1_core.specs.Der.{el, seq, octets, IsShort}
 use Rattle.asn1_core.specs.Reading.{Front, All, on, ended, within}
@@ -13,10 +14,13 @@ abbrev pub encrypted_key : {W : Type 0} → EncryptionScheme → W → Encrypted
 encrypted_key s d = record { encryption_algorithm = s; encrypted_data = d }
 
 -- the value octets of an encrypted key, whose ciphertext has texts by D
-abbrev pub EncryptedKeyOf : {W : Type 0} → (List ℕ → W → Type 0) → List ℕ → EncryptedPrivateKeyInfo W → Type 0
-EncryptedKeyOf D b v = (s : List ℕ) × (d : List ℕ) × SchemeText s v.encryption_algorithm × D d v.encrypted_data × (b ≡ s ++ d)
+abbrev pub EncryptedKeyOf : {W : Type 0} → (List ℕ → W → Type 0) → List ℕ
+    → EncryptedPrivateKeyInfo W → Type 0
+EncryptedKeyOf D b v = (s : List ℕ) × (d : List ℕ) × SchemeText s v.encryption_algorithm
+    × D d v.encrypted_data × (b ≡ s ++ d)
 
-abbrev pub EncryptedKeyText : {W : Type 0} → (List ℕ → W → Type 0) → List ℕ → EncryptedPrivateKeyInfo W → Type 0
+abbrev pub EncryptedKeyText : {W : Type 0} → (List ℕ → W → Type 0) → List ℕ
+    → EncryptedPrivateKeyInfo W → Type 0
 EncryptedKeyText D = Within 0x30 (EncryptedKeyOf D)
 
 -- b is a text of the encrypted key, of at most 2 ^ 32 - 1 octets
@@ -34,8 +38,10 @@ abbrev pub encrypted_key_text : EncryptionScheme → List ℕ → List ℕ
 encrypted_key_text s c = seq (encrypted_key_content octets s c)
 
 -- which texts spell an encrypted key: a spelling of its scheme, and one of its ciphertext
-abbrev pub SpellsEncryptedKey : {B : Type 0} → (List ℕ → B → Type 0) → List ℕ → EncryptionScheme → B → Type 0
-SpellsEncryptedKey spell b s d = (a : List ℕ) × (q : List ℕ) × SpellsScheme a s × spell q d × (b ≡ el 0x30 (a ++ q))
+abbrev pub SpellsEncryptedKey : {B : Type 0} → (List ℕ → B → Type 0) → List ℕ → EncryptionScheme → B
+    → Type 0
+SpellsEncryptedKey spell b s d = (a : List ℕ) × (q : List ℕ) × SpellsScheme a s × spell q d
+    × (b ≡ el 0x30 (a ++ q))
 
 -- ---- reading
 

@@ -25,7 +25,8 @@ of_asn1 asn1.Memory = errors.Memory
 
 -- an error of encryption, here
 abbrev pub of_pkcs5 : Pkcs5Error → Error
-of_pkcs5 (pkcs5.AlgorithmParametersInvalid o) = errors.EncryptedPrivateKey (pkcs5.AlgorithmParametersInvalid o)
+of_pkcs5 (pkcs5.AlgorithmParametersInvalid o) =
+    errors.EncryptedPrivateKey (pkcs5.AlgorithmParametersInvalid o)
 of_pkcs5 pkcs5.DecryptFailed = errors.EncryptedPrivateKey pkcs5.DecryptFailed
 of_pkcs5 pkcs5.EncryptFailed = errors.EncryptedPrivateKey pkcs5.EncryptFailed
 of_pkcs5 pkcs5.NoPbes1CryptSupport = errors.EncryptedPrivateKey pkcs5.NoPbes1CryptSupport

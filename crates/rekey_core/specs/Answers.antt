@@ -13,16 +13,19 @@ use Rattle.transfer.specs.declared.store.error.TransferError.{TransferError}
 use Rattle.rekey_core.specs.Changes.{FirstRefusal, RekeysAll, SettledAll, changes}
 use Rattle.rekey_core.specs.Words.{Command, IsCommand}
 
--- Done comes only where the store is changed from each password to the next, and then the text is a line with the store that comes of it.
+-- Done comes only where the store is changed from each password to the next, and then the text is a
+-- line with the store that comes of it.
 abbrev pub MakesLine : Command → Effects → List ℕ → List ℕ → Type 0
 MakesLine c e store text = (changed : List ℕ)
-    × RekeysAll store c.passwords c.limit e.draw.told e.draw.told_after e.steps e.steps_after changed
+    × RekeysAll store c.passwords c.limit e.draw.told e.draw.told_after e.steps e.steps_after
+    changed
     × (text ≡ digits_line (codes "store ") changed)
 
 -- A refusal is that of the first change that has one.
 abbrev pub RefusesStore : Command → Effects → List ℕ → Status → Type 0
 RefusesStore c e store s = (cause : TransferError) × (s ≡ status_of cause)
-    × FirstRefusal store c.passwords c.limit e.draw.told e.draw.told_after e.draw.faults e.draw.faults_after e.steps e.steps_after cause
+    × FirstRefusal store c.passwords c.limit e.draw.told e.draw.told_after e.draw.faults
+    e.draw.faults_after e.steps e.steps_after cause
 
 -- the status of a result
 abbrev pub IsStatusOf : Result (List ℕ) TransferError → Status → Type 0
@@ -31,7 +34,8 @@ IsStatusOf (Err e) s = s ≡ status_of e
 
 -- Each status comes where its cause holds, out of memory apart.
 abbrev pub ExactStore : Command → Option (List ℕ) → List ℕ → Status → Type 0
-ExactStore c drawn store s = (r : Result (List ℕ) TransferError) × SettledAll store c.passwords c.limit drawn r × IsStatusOf r s
+ExactStore c drawn store s = (r : Result (List ℕ) TransferError)
+    × SettledAll store c.passwords c.limit drawn r × IsStatusOf r s
 
 -- the most steps of a command: its limit for each change
 abbrev pub steps_limit : Command → ℕ

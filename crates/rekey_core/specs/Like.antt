@@ -16,7 +16,8 @@ rekeying = record { opens = unlock; opens_content = plain_text; drawn = drawn_fo
 abbrev pub IsAnew : List ℕ → AlgorithmIdentifier → AlgorithmIdentifier → Type 0
 IsAnew z a b = IsResealed rekeying z a b
 
-abbrev pub OpensAlike : List ℕ → List ℕ → AlgorithmIdentifier → List ℕ → AlgorithmIdentifier → List ℕ → Type 0
+abbrev pub OpensAlike : List ℕ → List ℕ → AlgorithmIdentifier → List ℕ → AlgorithmIdentifier
+    → List ℕ → Type 0
 OpensAlike p q a c b d = OpensEqually rekeying p q a c b d
 
 abbrev pub KindLike : List ℕ → List ℕ → List ℕ → SafeBagKind → SafeBagKind → Type 0

@@ -35,22 +35,33 @@ abbrev pub store_anew : ℕ → MacData → List ℕ → List ℕ → List Conte
 store_anew version m q salt es = record {
   version = version;
   auth_safe = content.Data (contents_canon es);
-  mac_data = Some (mac_of m.mac.digest_algorithm (bmp_password q) (contents_canon es) salt m.iterations);
+  mac_data = Some (mac_of m.mac.digest_algorithm (bmp_password q)
+      (contents_canon es) salt m.iterations);
 }
 
--- The store that is made of contents that are sealed anew is a change of the old one, and its text is read as it.
+-- The store that is made of contents that are sealed anew is a change of the old one, and its text
+-- is read as it.
 abbrev pub MadeStoresAreChanges : Type 0
-MadeStoresAreChanges = (b v p q : List ℕ) (s : PFX) (m : MacData) (cs es : List ContentInfo) (d salt : List ℕ) → IsStore b s → s.auth_safe ≡ content.Data v → s.mac_data ≡ Some m
-    → is_mac_digest m.mac.digest_algorithm ≡ true → 1 ≤ m.iterations → IsContents v cs → EachDrawn (ContentSealed p q) cs es d → length salt ≡ 8
-    → IsShort (contents_canon es) → IsShort (store_canon (store_anew s.version m q salt es)) → Changes b p (store_canon (store_anew s.version m q salt es)) q (d ++ salt)
+MadeStoresAreChanges =
+    (b v p q : List ℕ) (s : PFX) (m : MacData) (cs es : List ContentInfo) (d salt : List ℕ)
+    → IsStore b s → s.auth_safe ≡ content.Data v → s.mac_data ≡ Some m
+    → is_mac_digest m.mac.digest_algorithm ≡ true → 1 ≤ m.iterations → IsContents v cs
+    → EachDrawn (ContentSealed p q) cs es d → length salt ≡ 8
+    → IsShort (contents_canon es) → IsShort (store_canon (store_anew s.version m q salt es))
+    → Changes b p (store_canon (store_anew s.version m q salt es)) q (d ++ salt)
 
 -- Its text is as long as it is stated.
 abbrev pub MadeStoresAreSized : Type 0
-MadeStoresAreSized = (p q : List ℕ) (version : ℕ) (m : MacData) (cs es : List ContentInfo) (gss : List (List SafeBag)) (d salt : List ℕ) → is_mac_digest m.mac.digest_algorithm ≡ true
-    → EachDrawn (ContentSealed p q) cs es d → Each (HoldsBags p) cs gss → length salt ≡ 8 → length (store_canon (store_anew version m q salt es)) ≡ changed_size version m p cs gss
+MadeStoresAreSized =
+    (p q : List ℕ) (version : ℕ) (m : MacData) (cs es : List ContentInfo)
+    (gss : List (List SafeBag)) (d salt : List ℕ) → is_mac_digest m.mac.digest_algorithm ≡ true
+    → EachDrawn (ContentSealed p q) cs es d → Each (HoldsBags p) cs gss → length salt ≡ 8
+    → length (store_canon (store_anew version m q salt es)) ≡ changed_size version m p cs gss
 
--- The text b is that of a store of this version and MAC, made of contents that are sealed anew, and it is short enough.
-pub record TextSealed (p q : List ℕ) (version : ℕ) (m : MacData) (cs : List ContentInfo) (drawn b : List ℕ) : Type 0 where
+-- The text b is that of a store of this version and MAC, made of contents that are sealed anew, and
+-- it is short enough.
+pub record TextSealed (p q : List ℕ) (version : ℕ) (m : MacData) (cs : List ContentInfo)
+    (drawn b : List ℕ) : Type 0 where
   pub contents : List ContentInfo
   pub taken : List ℕ
   pub salt : List ℕ
@@ -61,10 +72,12 @@ pub record TextSealed (p q : List ℕ) (version : ℕ) (m : MacData) (cs : List 
   pub short : length b ≤ store_limit
 
 -- The contents hold these bags under the password p, and these are the keys among them.
-pub record HeldOpen (p : List ℕ) (cs : List ContentInfo) (gss : List (List SafeBag)) (keys : List (List ℕ)) : Type 0 where
+pub record HeldOpen (p : List ℕ) (cs : List ContentInfo) (gss : List (List SafeBag))
+    (keys : List (List ℕ)) : Type 0 where
   pub bags : Each (HoldsBags p) cs gss
   pub are_opened : Each (KeyOpens p) (all_shrouded gss) keys
 
 -- The text of a store with plain contents and a MAC.
 abbrev pub IsMacked : List ℕ → Type 0
-IsMacked b = (s : PFX) × (v : List ℕ) × (m : MacData) × IsStore b s × (s.auth_safe ≡ content.Data v) × (s.mac_data ≡ Some m)
+IsMacked b = (s : PFX) × (v : List ℕ) × (m : MacData) × IsStore b s × (s.auth_safe ≡ content.Data v)
+    × (s.mac_data ≡ Some m)

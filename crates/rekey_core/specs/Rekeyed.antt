@@ -29,8 +29,10 @@ draws b p limit a = change_draws a.opens.parts a.bags
 abbrev pub size : (b p : List ℕ) (limit : ℕ) → IsAllowed b p limit → ℕ
 size b p limit a = changed_size a.opens.store.version a.opens.mac p a.opens.parts a.bags
 
--- The store is changed to the text c, which is short enough, by exactly the octets that it draws, and the steps are the work of opening it.
-pub record Rekeys (b p q : List ℕ) (limit : ℕ) (left left_after : Option (List ℕ)) (steps steps_after : ℕ) (c : List ℕ) : Type 0 where
+-- The store is changed to the text c, which is short enough, by exactly the octets that it draws,
+-- and the steps are the work of opening it.
+pub record Rekeys (b p q : List ℕ) (limit : ℕ) (left left_after : Option (List ℕ))
+    (steps steps_after : ℕ) (c : List ℕ) : Type 0 where
   pub allowed : IsAllowed b p limit
   pub drawn : List ℕ
   pub exactly : length drawn ≡ draws b p limit allowed
@@ -42,16 +44,21 @@ pub record Rekeys (b p q : List ℕ) (limit : ℕ) (left left_after : Option (Li
 
 -- The store is refused for e, after the steps that were taken.
 abbrev pub IsRefused : List ℕ → List ℕ → ℕ → ℕ → ℕ → TransferError → Type 0
-IsRefused b p limit steps steps_after e = (n : ℕ) × HasVerdict b p limit (refused e) n × (steps_after ≡ steps + n)
+IsRefused b p limit steps steps_after e = (n : ℕ) × HasVerdict b p limit (refused e) n
+    × (steps_after ≡ steps + n)
 
--- The store opens, and the draw failed: where it tells its octets, for lack of those that the change draws.
-pub record RunsShort (b p : List ℕ) (limit : ℕ) (left : Option (List ℕ)) (faults faults_after steps steps_after : ℕ) : Type 0 where
+-- The store opens, and the draw failed: where it tells its octets, for lack of those that the
+-- change draws.
+pub record RunsShort (b p : List ℕ) (limit : ℕ) (left : Option (List ℕ))
+    (faults faults_after steps steps_after : ℕ) : Type 0 where
   pub allowed : IsAllowed b p limit
   pub short : Lacks faults faults_after left (draws b p limit allowed)
   pub counted : steps_after ≡ steps + allowed.work
 
--- The store opens and the octets were drawn, but the text of the changed store would have more octets than a store may have.
-pub record GrowsTooLong (b p : List ℕ) (limit : ℕ) (left left_after : Option (List ℕ)) (steps steps_after : ℕ) : Type 0 where
+-- The store opens and the octets were drawn, but the text of the changed store would have more
+-- octets than a store may have.
+pub record GrowsTooLong (b p : List ℕ) (limit : ℕ) (left left_after : Option (List ℕ))
+    (steps steps_after : ℕ) : Type 0 where
   pub allowed : IsAllowed b p limit
   pub drawn : List ℕ
   pub exactly : length drawn ≡ draws b p limit allowed
@@ -59,8 +66,8 @@ pub record GrowsTooLong (b p : List ℕ) (limit : ℕ) (left left_after : Option
   pub long : store_limit < size b p limit allowed
   pub counted : steps_after ≡ steps + allowed.work
 
--- Out of memory may come at any point, a failed draw only where R holds, TooLong only where it is the first cause of the store or T
--- holds, and any other refusal only where it is the first cause.
+-- Out of memory may come at any point, a failed draw only where R holds, TooLong only where it is
+-- the first cause of the store or T holds, and any other refusal only where it is the first cause.
 abbrev pub RefusedFor : (TransferError → Type 0) → Type 0 → Type 0 → TransferError → Type 0
 RefusedFor F R T Memory = ⊤
 RefusedFor F R T Rng = R
@@ -74,12 +81,17 @@ pub record IsUndrawn (e : TransferError) : Type 0 where
   pub not_too_long : e ≢ TooLong
 
 -- Each result comes where its cause holds, out of memory apart.
-pub record IsSettled (b p : List ℕ) (limit : ℕ) (left : Option (List ℕ)) (r : Result (List ℕ) TransferError) : Type 0 where
+pub record IsSettled (b p : List ℕ) (limit : ℕ) (left : Option (List ℕ))
+    (r : Result (List ℕ) TransferError) : Type 0 where
   -- a store that a cause refuses is refused for that cause
   pub refuses : (e : TransferError) → FirstCause b p limit (Some e) → IsRefusal r e
-  -- a store that no cause refuses is changed where the text is short enough, and is too long where it is not, unless the draw fails
+  -- a store that no cause refuses is changed where the text is short enough, and is too long where
+  -- it is not, unless the draw fails
   pub fits : (a : IsAllowed b p limit) → size b p limit a ≤ store_limit → IsOk r ⊎ IsRefusal r Rng
-  pub grows : (a : IsAllowed b p limit) → store_limit < size b p limit a → IsRefusal r TooLong ⊎ (r ≡ Err Rng)
+  pub grows : (a : IsAllowed b p limit) → store_limit < size b p limit a
+      → IsRefusal r TooLong ⊎ (r ≡ Err Rng)
   -- and, where the draw tells its octets, it fails exactly where it has too few
-  pub lacks : (a : IsAllowed b p limit) → IfSome left (λ d. length d < draws b p limit a → IsRefusal r Rng)
-  pub suffices : (a : IsAllowed b p limit) → IfSome left (λ d. draws b p limit a ≤ length d → r ≡ Err Rng → ⊥)
+  pub lacks : (a : IsAllowed b p limit)
+      → IfSome left (λ d. length d < draws b p limit a → IsRefusal r Rng)
+  pub suffices : (a : IsAllowed b p limit)
+      → IfSome left (λ d. draws b p limit a ≤ length d → r ≡ Err Rng → ⊥)

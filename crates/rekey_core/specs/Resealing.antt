@@ -1,5 +1,5 @@
--- Parts of a store that are sealed anew under another password and under drawn octets. How the old ones open, and under what algorithm the new
--- ones are sealed, are parameters.
+-- Parts of a store that are sealed anew under another password and under drawn octets. How the old
+-- ones open, and under what algorithm the new ones are sealed, are parameters.
 use Rattle.std.specs.Prelude.{ℕ, ◌≡◌, List, [], ◌∷◌, ◌++◌, length, Option, Some}
 use Rattle.asn1_core.specs.Sets.{SameSet}
 use Rattle.p12.specs.AlgorithmIdentifier.{unlock}
@@ -29,12 +29,15 @@ pub record Resealing : Type 0 where
   -- the algorithm that takes its place, under these drawn octets
   pub target : AlgorithmIdentifier → List ℕ → AlgorithmIdentifier
 
--- R of the things one by one, each under the octets that were drawn for it; these follow each other, and are all of them
-abbrev pub EachDrawn : {A B : Type 0} → (List ℕ → A → B → Type 0) → List A → List B → List ℕ → Type 0
+-- R of the things one by one, each under the octets that were drawn for it; these follow each
+-- other, and are all of them
+abbrev pub EachDrawn : {A B : Type 0} → (List ℕ → A → B → Type 0) → List A → List B → List ℕ
+    → Type 0
 EachDrawn R [] [] d = d ≡ []
 EachDrawn R [] (y ∷ ys) d = ⊥
 EachDrawn R (x ∷ xs) [] d = ⊥
-EachDrawn R (x ∷ xs) (y ∷ ys) d = (z : List ℕ) × (rest : List ℕ) × (d ≡ z ++ rest) × R z x y × EachDrawn R xs ys rest
+EachDrawn R (x ∷ xs) (y ∷ ys) d = (z : List ℕ) × (rest : List ℕ) × (d ≡ z ++ rest) × R z x y
+    × EachDrawn R xs ys rest
 
 -- a part under the algorithm a takes its target, under these drawn octets
 pub record IsResealed (w : Resealing) (z : List ℕ) (a b : AlgorithmIdentifier) : Type 0 where
@@ -42,18 +45,21 @@ pub record IsResealed (w : Resealing) (z : List ℕ) (a b : AlgorithmIdentifier)
   pub algorithm : b ≡ w.target a z
 
 -- c opens under p to the text that d opens to under q
-pub record OpensEqually (w : Resealing) (p q : List ℕ) (a : AlgorithmIdentifier) (c : List ℕ) (b : AlgorithmIdentifier) (d : List ℕ) : Type 0 where
+pub record OpensEqually (w : Resealing) (p q : List ℕ) (a : AlgorithmIdentifier) (c : List ℕ)
+    (b : AlgorithmIdentifier) (d : List ℕ) : Type 0 where
   pub text : List ℕ
   pub opens : w.opens a p c ≡ Some text
   pub opens_anew : unlock b q d ≡ Some text
 
--- an encrypted key opens to the same octets, under the target of its algorithm; any other value is equal
+-- an encrypted key opens to the same octets, under the target of its algorithm; any other value is
+-- equal
 abbrev pub KindResealed : Resealing → List ℕ → List ℕ → List ℕ → SafeBagKind → SafeBagKind → Type 0
 KindResealed w p q z (kind.CertBag c) l = (z ≡ []) × (l ≡ kind.CertBag c)
 KindResealed w p q z (kind.OtherBagKind o) l = (z ≡ []) × (l ≡ kind.OtherBagKind o)
 KindResealed w p q z (kind.Pkcs8ShroudedKeyBag k) (kind.Pkcs8ShroudedKeyBag l) =
     IsResealed w z k.encryption_algorithm l.encryption_algorithm
-    × OpensEqually w p q k.encryption_algorithm k.encrypted_data l.encryption_algorithm l.encrypted_data
+    × OpensEqually w p q k.encryption_algorithm k.encrypted_data l.encryption_algorithm
+    l.encrypted_data
 KindResealed w p q z (kind.Pkcs8ShroudedKeyBag k) (kind.CertBag c) = ⊥
 KindResealed w p q z (kind.Pkcs8ShroudedKeyBag k) (kind.OtherBagKind o) = ⊥
 
@@ -66,15 +72,17 @@ pub record BagResealed (w : Resealing) (p q z : List ℕ) (g h : SafeBag) : Type
 abbrev pub FormResealed : Resealing → List ℕ → ContentInfo → ContentInfo → Type 0
 FormResealed w z (content.Data v) (content.Data x) = z ≡ []
 FormResealed w z (content.EncryptedData d) (content.EncryptedData e) =
-    IsResealed w z d.encrypted_content_info.content_encryption_algorithm e.encrypted_content_info.content_encryption_algorithm
+    IsResealed w z d.encrypted_content_info.content_encryption_algorithm
+    e.encrypted_content_info.content_encryption_algorithm
 FormResealed w z (content.Data v) (content.EncryptedData e) = ⊥
 FormResealed w z (content.Data v) (content.OtherContext o) = ⊥
 FormResealed w z (content.EncryptedData d) (content.Data x) = ⊥
 FormResealed w z (content.EncryptedData d) (content.OtherContext o) = ⊥
 FormResealed w z (content.OtherContext o) e = ⊥
 
--- the bags that both contents open to are resealed, one by one. The octets of its own part were drawn before those of its keys, and
--- the plain octets of the new one are the canonical text of its bags
+-- the bags that both contents open to are resealed, one by one. The octets of its own part were
+-- drawn before those of its keys, and the plain octets of the new one are the canonical text of its
+-- bags
 pub record ContentResealed (w : Resealing) (p q d : List ℕ) (c e : ContentInfo) : Type 0 where
   pub own : List ℕ
   pub of_keys : List ℕ
@@ -87,10 +95,12 @@ pub record ContentResealed (w : Resealing) (p q d : List ℕ) (c e : ContentInfo
   pub like : EachDrawn (BagResealed w p q) bags bags_anew of_keys
   pub canonical : plain_text q e ≡ Some (bags_canon bags_anew)
 
--- The store s under the password p was changed to the store t under q, by the octets d: the versions are equal; the MAC of t agrees,
--- under the digest and the count of that of s, and its salt is the last 8 of the octets; and the contents of both are resealed, in
--- their order, under the octets before.
-pub record StoreResealed (w : Resealing) (p : List ℕ) (s : PFX) (q : List ℕ) (t : PFX) (d : List ℕ) : Type 0 where
+-- The store s under the password p was changed to the store t under q, by the octets d: the
+-- versions are equal; the MAC of t agrees, under the digest and the count of that of s, and its
+-- salt is the last 8 of the octets; and the contents of both are resealed, in their order, under
+-- the octets before.
+pub record StoreResealed (w : Resealing) (p : List ℕ) (s : PFX) (q : List ℕ) (t : PFX) (d : List ℕ)
+    : Type 0 where
   pub version : t.version ≡ s.version
   pub text : List ℕ
   pub text_anew : List ℕ
@@ -113,7 +123,8 @@ pub record StoreResealed (w : Resealing) (p : List ℕ) (s : PFX) (q : List ℕ)
   pub of_8 : length mac_anew.salt ≡ 8
   pub like : EachDrawn (ContentResealed w p q) parts parts_anew of_parts
 
--- The text b of a store under p was changed to the text c of one under q, which is the canonical one.
+-- The text b of a store under p was changed to the text c of one under q, which is the canonical
+-- one.
 pub record Reseals (w : Resealing) (b p c q d : List ℕ) : Type 0 where
   pub store : PFX
   pub store_anew : PFX

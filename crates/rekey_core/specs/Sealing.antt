@@ -30,7 +30,8 @@ bag_draws g = sum_by key_draws (shrouded_in g.bag)
 abbrev pub bags_draw : List SafeBag → ℕ
 bags_draw gs = sum_by bag_draws gs
 
--- the key under the password q of what takes the place of PBES2 under these parameters: its salt was drawn after the IV
+-- the key under the password q of what takes the place of PBES2 under these parameters: its salt
+-- was drawn after the IV
 abbrev pub IsKeyAnew : Parameters → List ℕ → List ℕ → List ℕ → Type 0
 IsKeyAnew par z q key = key ≡ sha256_key (rounds_of par.kdf) q (drop 16 z)
 
@@ -46,7 +47,8 @@ pub record Supplies (p : List ℕ) (gs : List SafeBag) (keys more : List (List �
   pub are_opened : Each (KeyOpens p) (shrouded_among gs) front
 
 -- the bags gs are sealed anew as hs, by the octets that were taken from those that were drawn
-pub record BagsSealed (p q : List ℕ) (gs : List SafeBag) (drawn drawn_after : List ℕ) (hs : List SafeBag) : Type 0 where
+pub record BagsSealed (p q : List ℕ) (gs : List SafeBag) (drawn drawn_after : List ℕ)
+    (hs : List SafeBag) : Type 0 where
   pub took : List ℕ
   pub splits : drawn ≡ took ++ drawn_after
   pub sealed : EachDrawn (BagSealed p q) gs hs took
@@ -65,13 +67,15 @@ pub record ContentSealed (p q d : List ℕ) (c e : ContentInfo) : Type 0 where
   pub short : IsShort (bags_canon bags_anew)
 
 -- The keys in front of these are those among the bags of all contents, and more come after them.
-pub record SuppliesAll (p : List ℕ) (gss : List (List SafeBag)) (keys more : List (List ℕ)) : Type 0 where
+pub record SuppliesAll (p : List ℕ) (gss : List (List SafeBag)) (keys more : List (List ℕ))
+    : Type 0 where
   pub front : List (List ℕ)
   pub splits : keys ≡ front ++ more
   pub are_opened : Each (KeyOpens p) (all_shrouded gss) front
 
 -- the contents cs are sealed anew as es, by the octets that were taken from those that were drawn
-pub record ContentsSealed (p q : List ℕ) (cs : List ContentInfo) (drawn drawn_after : List ℕ) (es : List ContentInfo) : Type 0 where
+pub record ContentsSealed (p q : List ℕ) (cs : List ContentInfo) (drawn drawn_after : List ℕ)
+    (es : List ContentInfo) : Type 0 where
   pub took : List ℕ
   pub splits : drawn ≡ took ++ drawn_after
   pub sealed : EachDrawn (ContentSealed p q) cs es took

@@ -1,4 +1,5 @@
--- How long the text of a changed store is: as that of a store in which salts, IVs, ciphertexts and the digest are only counted.
+-- How long the text of a changed store is: as that of a store in which salts, IVs, ciphertexts and
+-- the digest are only counted.
 use Rattle.std.specs.Prelude.{ℕ, ◌+◌, List, [], ◌∷◌, length, map, replicate, Option, Some, None}
 use Rattle.mac_modes.specs.Padding.{pad_count}
 use Rattle.p12.specs.AlgorithmIdentifier.{unlock}
@@ -22,8 +23,8 @@ blank n = replicate n 0
 abbrev pub blank_algorithm : AlgorithmIdentifier → AlgorithmIdentifier
 blank_algorithm a = anew a (blank (drawn_for a))
 
--- how many octets a text of n has once it is sealed anew under the algorithm that is stated for this one: padded up to a multiple of 8
--- under Triple DES, of 16 under AES
+-- how many octets a text of n has once it is sealed anew under the algorithm that is stated for
+-- this one: padded up to a multiple of 8 under Triple DES, of 16 under AES
 abbrev pub sealed_size : AlgorithmIdentifier → ℕ → ℕ
 sealed_size Sha1 n = 0
 sealed_size Sha256 n = 0
@@ -40,7 +41,9 @@ size_in (Some m) = length m
 abbrev pub blank_key : List ℕ → EncryptedPrivateKeyInfo → EncryptedPrivateKeyInfo
 blank_key p k = record {
   encryption_algorithm = blank_algorithm k.encryption_algorithm;
-  encrypted_data = blank (sealed_size k.encryption_algorithm (size_in (unlock k.encryption_algorithm p k.encrypted_data)));
+  encrypted_data = blank
+      (sealed_size k.encryption_algorithm
+      (size_in (unlock k.encryption_algorithm p k.encrypted_data)));
 }
 
 abbrev pub blank_kind : List ℕ → SafeBagKind → SafeBagKind
@@ -60,7 +63,14 @@ abbrev pub blank_content : List ℕ → ContentInfo → List SafeBag → Content
 blank_content p (content.Data v) gs = content.Data (blank_text p gs)
 blank_content p (content.EncryptedData d) gs =
     let a = d.encrypted_content_info.content_encryption_algorithm in
-    content.EncryptedData (record { encrypted_content_info = record { content_encryption_algorithm = blank_algorithm a; encrypted_content = blank (sealed_size a (length (blank_text p gs))) } })
+    content.EncryptedData
+    (record {
+      encrypted_content_info =
+          record {
+            content_encryption_algorithm = blank_algorithm a;
+            encrypted_content = blank (sealed_size a (length (blank_text p gs)));
+          };
+    })
 blank_content p (content.OtherContext o) gs = content.OtherContext o
 
 abbrev pub blank_contents : List ℕ → List ContentInfo → List (List SafeBag) → List ContentInfo
@@ -78,11 +88,24 @@ digest_size (Pbes2 par) = 0
 digest_size (OtherAlg o) = 0
 
 abbrev pub blank_mac : MacData → MacData
-blank_mac m = record { mac = record { digest_algorithm = m.mac.digest_algorithm; digest = blank (digest_size m.mac.digest_algorithm) }; salt = blank 8; iterations = m.iterations }
+blank_mac m = record {
+  mac = record {
+    digest_algorithm = m.mac.digest_algorithm;
+    digest = blank (digest_size m.mac.digest_algorithm);
+  };
+  salt = blank 8;
+  iterations = m.iterations;
+}
 
--- a store of this version and MAC, whose contents hold these bags under the password p, once it is changed
+-- a store of this version and MAC, whose contents hold these bags under the password p, once it is
+-- changed
 abbrev pub blank_store : ℕ → MacData → List ℕ → List ContentInfo → List (List SafeBag) → PFX
-blank_store version m p cs gss = record { version = version; auth_safe = content.Data (contents_canon (blank_contents p cs gss)); mac_data = Some (blank_mac m) }
+blank_store version m p cs gss =
+    record {
+      version = version;
+      auth_safe = content.Data (contents_canon (blank_contents p cs gss));
+      mac_data = Some (blank_mac m);
+    }
 
 -- how many octets its text has
 unfoldable pub changed_size : ℕ → MacData → List ℕ → List ContentInfo → List (List SafeBag) → ℕ

@@ -3,7 +3,7 @@ ghost use Rattle.std.specs.Prelude.{◌≡◌, ◌≢◌, List, ℕ, map, IfSome
 ghost use Rattle.std.specs.String.{string_bytes};
 ghost use Rattle.frame.specs.Calls.{call_of};
 ghost use Rattle.frame.specs.InputText.{IsInput};
-ghost use Rattle.frame.specs.Stream.{stream};
+ghost use Rattle.frame.specs.Stream.{stream_of};
 ghost use Rattle.frame.specs.declared.status.Status.{Status};
 ghost use Rattle.rekey_core.specs.Answers.{Answers};
 ghost use Rattle.rekey_core.specs.Words.{IsNoCommand};
@@ -36,13 +36,11 @@ pub fn rekey_run<I: Source, O: Sink, D: Draw, L: Ledger>(
     steps: &mut Steps<L>,
 ) -> Status
     // When each status comes, where each has to come, what is written and the steps.
-    ensures answers { let read = stream (I.left input.old) (I.left input.new) (I.faults input.old)
-        (I.faults input.new) in
-        let drawn = stream (D.left draw.old) (D.left draw.new) (D.faults draw.old)
-        (D.faults draw.new) in
-        let written = stream (O.written output.old) (O.written output.new) (O.faults output.old)
-        (O.faults output.new) in
-        Answers (map string_bytes words.now) (call_of read drawn steps.old steps.new) written result }
+    ensures answers { let read = stream_of I.left I.faults input.old input.new in
+        let drawn = stream_of D.left D.faults draw.old draw.new in
+        let written = stream_of O.written O.faults output.old output.new in
+        Answers (map string_bytes words.now) (call_of read drawn steps.old steps.new) written
+        result }
     // On `Usage` nothing is read or drawn and no step taken.
     ensures untouched { IsNoCommand (map string_bytes words.now) → (input.new ≡ input.old)
         × (draw.new ≡ draw.old) × (steps.new ≡ steps.old) }

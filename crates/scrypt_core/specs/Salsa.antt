@@ -1,4 +1,5 @@
--- Salsa20/8 (RFC 7914 section 3) on 64 octets, which are sixteen words, the lowest octet of each first.
+-- Salsa20/8 (RFC 7914 section 3) on 64 octets, which are sixteen words, the lowest octet of each
+-- first.
 use Rattle.std.specs.Prelude.{ℕ, zero, suc, ◌+◌, ◌*◌, ◌%◌, ◌^◌, List, [], ◌∷◌, map, bit_xor, slice_index, slice_set}
 use Rattle.std.specs.List.{range_with_len, flat_map}
 use Rattle.std.specs.Int.{w32, rotate_left, from_le_bytes, to_le_bytes}
@@ -9,7 +10,8 @@ add32 x y = (x + y) % 2 ^ 32
 
 -- the word at t, xored with the sum of those at x and y, rotated left by k
 abbrev pub turned : ℕ → ℕ → ℕ → ℕ → List ℕ → List ℕ
-turned t x y k w = slice_set w t (bit_xor (slice_index w t) (rotate_left w32 (add32 (slice_index w x) (slice_index w y)) k))
+turned t x y k w = slice_set w t
+    (bit_xor (slice_index w t) (rotate_left w32 (add32 (slice_index w x) (slice_index w y)) k))
 
 -- four words, each turned by the two before it
 unfoldable pub quarter : ℕ → ℕ → ℕ → ℕ → List ℕ → List ℕ
@@ -29,7 +31,8 @@ double_rounds (suc n) w = double_round (double_rounds n w)
 -- the words of octets
 abbrev pub words : List ℕ → List ℕ
 words b = map (λ i. from_le_bytes w32
-    (slice_index b (4 * i) ∷ slice_index b (4 * i + 1) ∷ slice_index b (4 * i + 2) ∷ slice_index b (4 * i + 3) ∷ [])) (range_with_len 0 16)
+    (slice_index b (4 * i) ∷ slice_index b (4 * i + 1) ∷ slice_index b (4 * i + 2)
+    ∷ slice_index b (4 * i + 3) ∷ [])) (range_with_len 0 16)
 
 -- the sums of two lists of words
 abbrev pub sums : List ℕ → List ℕ → List ℕ

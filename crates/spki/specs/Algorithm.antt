@@ -1,4 +1,5 @@
--- AlgorithmIdentifier (RFC 5280 section 4.1.1.2): SEQUENCE { algorithm OBJECT IDENTIFIER, parameters ANY OPTIONAL }.
+-- AlgorithmIdentifier (RFC 5280 section 4.1.1.2): SEQUENCE { algorithm OBJECT IDENTIFIER,
+-- parameters ANY OPTIONAL }.
 use Rattle.std.specs.Prelude.{◌≡◌, ℕ, Bool, List, ◌++◌, Option}
 use Rattle.der_core.specs.Optional.{canon_option, SpellsOption}
 use Rattle.asn1_core.specs.Der.{el, oid}
@@ -13,10 +14,12 @@ abbrev pub algorithm : {V : Type 0} → ObjectIdentifier → Option V → Algori
 algorithm o p = record { oid = o; parameters = p }
 
 -- the value octets of an algorithm whose parameters have texts by P
-abbrev pub AlgorithmOf : {V : Type 0} → (List ℕ → V → Type 0) → List ℕ → AlgorithmIdentifier V → Type 0
+abbrev pub AlgorithmOf : {V : Type 0} → (List ℕ → V → Type 0) → List ℕ → AlgorithmIdentifier V
+    → Type 0
 AlgorithmOf P b v = (p : List ℕ) × Perhaps P p v.parameters × (b ≡ oid (oid_octets v.oid) ++ p)
 
-abbrev pub AlgorithmText : {V : Type 0} → (List ℕ → V → Type 0) → List ℕ → AlgorithmIdentifier V → Type 0
+abbrev pub AlgorithmText : {V : Type 0} → (List ℕ → V → Type 0) → List ℕ → AlgorithmIdentifier V
+    → Type 0
 AlgorithmText P = Within 0x30 (AlgorithmOf P)
 
 -- ---- writing
@@ -26,8 +29,10 @@ abbrev pub algorithm_content : {A : Type 0} → (A → List ℕ) → ObjectIdent
 algorithm_content canon o p = oid (oid_octets o) ++ canon_option canon p
 
 -- which texts spell an algorithm: its identifier, and a spelling of its parameters
-abbrev pub SpellsAlgorithm : {A : Type 0} → (List ℕ → A → Type 0) → List ℕ → ObjectIdentifier → Option A → Type 0
-SpellsAlgorithm spell b o p = (q : List ℕ) × SpellsOption spell q p × (b ≡ el 0x30 (oid (oid_octets o) ++ q))
+abbrev pub SpellsAlgorithm : {A : Type 0} → (List ℕ → A → Type 0) → List ℕ → ObjectIdentifier
+    → Option A → Type 0
+SpellsAlgorithm spell b o p = (q : List ℕ) × SpellsOption spell q p
+    × (b ≡ el 0x30 (oid (oid_octets o) ++ q))
 
 -- ---- reading
 

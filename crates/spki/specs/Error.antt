@@ -22,5 +22,6 @@ abbrev pub error_text : Error → List ℕ
 error_text errors.AlgorithmParametersMissing = codes "AlgorithmIdentifier parameters missing"
 error_text (errors.Asn1 e) = codes "ASN.1 error: " ++ text_below e
 error_text errors.KeyMalformed = codes "SPKI cryptographic key data malformed"
-error_text (errors.OidUnknown o) = codes "unknown/unsupported algorithm OID: " ++ arcs_text (arcs (oid_octets o))
+error_text (errors.OidUnknown o) =
+    codes "unknown/unsupported algorithm OID: " ++ arcs_text (arcs (oid_octets o))
 error_text errors.Memory = codes "out of memory"

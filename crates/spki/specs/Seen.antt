@@ -1,5 +1,6 @@
--- What is seen of algorithms and public keys whose parts are any elements: each element by its tag octet and its value, the key by
--- its number of unused bits and its octets. The borrowed forms and those in memory of their own are seen alike.
+-- What is seen of algorithms and public keys whose parts are any elements: each element by its tag
+-- octet and its value, the key by its number of unused bits and its octets. The borrowed forms and
+-- those in memory of their own are seen alike.
 use Rattle.std.specs.Prelude.{ℕ, List}
 use Rattle.asn1_core.specs.Der.{IsShort}
 use Rattle.asn1_core.specs.Texts.{seen_option, Within}
@@ -31,8 +32,11 @@ abbrev pub owned_algorithm : AlgorithmIdentifier Any → AnyAlgorithm
 owned_algorithm a = algorithm a.oid (seen_option owned_any a.parameters)
 
 -- of a public key by what is seen of its parameters and of its key
-abbrev pub seen_public_key : {P K : Type 0} → (P → ℕ × List ℕ) → (K → ℕ × List ℕ) → SubjectPublicKeyInfo P K → AnyPublicKey
-seen_public_key p k v = public_key (algorithm v.algorithm.oid (seen_option p v.algorithm.parameters)) (k v.subject_public_key)
+abbrev pub seen_public_key : {P K : Type 0} → (P → ℕ × List ℕ) → (K → ℕ × List ℕ)
+    → SubjectPublicKeyInfo P K → AnyPublicKey
+seen_public_key p k v =
+    public_key (algorithm v.algorithm.oid (seen_option p v.algorithm.parameters))
+    (k v.subject_public_key)
 
 -- b is a text of the algorithm, of at most 2 ^ 32 - 1 octets
 abbrev pub IsAlgorithm : List ℕ → AnyAlgorithm → Type 0

@@ -1,4 +1,5 @@
--- The one text of an algorithm and of a public key whose parts are any elements, and what is read where a text spells a value.
+-- The one text of an algorithm and of a public key whose parts are any elements, and what is read
+-- where a text spells a value.
 use Rattle.std.specs.Prelude.{◌≡◌, ◌↔◌, ℕ, List, [], ◌∷◌, ◌++◌, Option, Some, None, Ok, IsTrue}
 use Rattle.asn1_core.specs.Der.{el, seq, oid, is_tag, IsShort}
 use Rattle.asn1_core.specs.Oid.{oid_octets}
@@ -14,7 +15,8 @@ abbrev pub algorithm_text : AnyAlgorithm → List ℕ
 algorithm_text a = seq (oid (oid_octets a.oid) ++ parameters_text a.parameters)
 
 abbrev pub public_key_text : AnyPublicKey → List ℕ
-public_key_text k = seq (algorithm_text k.algorithm ++ el 0x03 (k.subject_public_key.0 ∷ k.subject_public_key.1))
+public_key_text k = seq
+    (algorithm_text k.algorithm ++ el 0x03 (k.subject_public_key.0 ∷ k.subject_public_key.1))
 
 -- parameters, if there are any, have a tag octet
 abbrev pub AreParameters : Option (ℕ × List ℕ) → Type 0

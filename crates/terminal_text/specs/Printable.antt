@@ -21,13 +21,15 @@ is_shown category = true
 abbrev pub is_printable : ℕ → Bool
 is_printable c = is_shown (general_category c)
 
--- the character is printed as it is; between quotation marks, these (34) and backslashes (92) are not
+-- the character is printed as it is; between quotation marks, these (34) and backslashes (92) are
+-- not
 abbrev pub stays : Bool → ℕ → Bool
 stays in_quotes c = is_printable c && not (in_quotes && (c == 34 || c == 92))
 
 -- the octets of a character as it is printed: its own in UTF-8, or its number in hexadecimal digits
 abbrev pub printed_char : Bool → ℕ → List ℕ
-printed_char in_quotes c = cond (stays in_quotes c) (encode_utf8 c) (codes "\\u{" ++ digits 16 false c ++ codes "}")
+printed_char in_quotes c =
+    cond (stays in_quotes c) (encode_utf8 c) (codes "\\u{" ++ digits 16 false c ++ codes "}")
 
 -- the first 200 characters of a text
 unfoldable pub printed_front : Bool → List ℕ → List ℕ
@@ -35,7 +37,9 @@ printed_front in_quotes text = flat_map (printed_char in_quotes) (take 200 (char
 
 -- how many there are, where there are more
 unfoldable pub printed_count : List ℕ → List ℕ
-printed_count text = cond (nat_lt 200 (length (chars text))) (codes ".. (" ++ decimal (length (chars text)) ++ codes " characters)") []
+printed_count text =
+    cond (nat_lt 200 (length (chars text)))
+    (codes ".. (" ++ decimal (length (chars text)) ++ codes " characters)") []
 
 -- a text as it is printed
 abbrev pub printed : List ℕ → List ℕ

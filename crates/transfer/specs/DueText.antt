@@ -5,4 +5,5 @@ use Rattle.frame.specs.DueText.{digits_line}
 
 -- A line for each certificate, then one for each document.
 abbrev pub out : List (List ℕ) → List (List ℕ) → List ℕ
-out certificates documents = flat_map (digits_line (codes "cert ")) certificates ++ flat_map (digits_line (codes "key ")) documents
+out certificates documents = flat_map (digits_line (codes "cert ")) certificates
+    ++ flat_map (digits_line (codes "key ")) documents

@@ -26,7 +26,8 @@ Kept from to old new = (take from new ≡ take from old) × (drop to new ≡ dro
 -- Places one after the other, between two numbers of octets.
 abbrev pub InOrder : ℕ → List Place → ℕ → Type 0
 InOrder from [] to = ⊤
-InOrder from (p ∷ ps) to = (from ≤ p.start) × (p.start + p.len ≤ to) × InOrder (p.start + p.len) ps to
+InOrder from (p ∷ ps) to = (from ≤ p.start) × (p.start + p.len ≤ to)
+    × InOrder (p.start + p.len) ps to
 
 -- ---- Contents
 
@@ -35,20 +36,24 @@ abbrev pub BagsAt : List ℕ → Place → List SafeBag → Type 0
 BagsAt text place gs = IsBags (at_place place text) gs
 
 -- A content opens to bags that then are at a place within its own; nothing else is changed.
-pub record ContentOpensAt (p : List ℕ) (v : ContentView) (old new : List ℕ) (place : Place) : Type 0 where
+pub record ContentOpensAt (p : List ℕ) (v : ContentView) (old new : List ℕ) (place : Place)
+    : Type 0 where
   pub bags : List SafeBag
   pub opens : HoldsBags p (seen_content v) bags
   pub are : BagsAt new place bags
   pub kept : (from to : ℕ) → ContentBetween from to v → Kept from to old new
-  pub within : (from to : ℕ) → ContentBetween from to v → (from ≤ place.start) × (place.start + place.len ≤ to)
+  pub within : (from to : ℕ) → ContentBetween from to v
+      → (from ≤ place.start) × (place.start + place.len ≤ to)
 
 -- The bags of contents are at places, one after the other.
 pub record StandAt (text : List ℕ) (places : List Place) (gss : List (List SafeBag)) : Type 0 where
   pub each : Each (BagsAt text) places gss
   pub order : InOrder 0 places (length text)
 
--- Contents were opened by so much work: their bags are at places in a text, and T is decided by what their keys come to.
-pub record AreOpened (T : Verdict → ℕ → Type 0) (p : List ℕ) (limit : ℕ) (text : List ℕ) (places : List Place) (spent : ℕ) : Type 0 where
+-- Contents were opened by so much work: their bags are at places in a text, and T is decided by
+-- what their keys come to.
+pub record AreOpened (T : Verdict → ℕ → Type 0) (p : List ℕ) (limit : ℕ) (text : List ℕ)
+    (places : List Place) (spent : ℕ) : Type 0 where
   pub bags : List (List SafeBag)
   pub stand : StandAt text places bags
   pub short : length text ≤ store_limit
@@ -75,7 +80,8 @@ abbrev pub LockFits : KeyLock → Type 0
 LockFits l = length (salt_of l.algorithm) < 2 ^ 59
 
 -- After the locks so far come those of the encrypted keys among bags.
-pub record AddsLocks (text : List ℕ) (place : Place) (gs : List SafeBag) (old new : List KeyLock) : Type 0 where
+pub record AddsLocks (text : List ℕ) (place : Place) (gs : List SafeBag) (old new : List KeyLock)
+    : Type 0 where
   pub made : List KeyLock
   pub grows : new ≡ old ++ made
   pub are : locked_keys text made ≡ shrouded_among gs
@@ -84,7 +90,8 @@ pub record AddsLocks (text : List ℕ) (place : Place) (gs : List SafeBag) (old 
 
 -- A private key beside a text of it, which is part of a store.
 abbrev pub IsOpenedKey : OpenedKey → Type 0
-IsOpenedKey k = IsPrivateKey k.text.now (seen_private_key borrowed_any (λ s. s.octets.now) (λ s. seen_bits s.unused_bits s.octets.now) k.key)
+IsOpenedKey k = IsPrivateKey k.text.now (seen_private_key borrowed_any (λ s. s.octets.now)
+    (λ s. seen_bits s.unused_bits s.octets.now) k.key)
     × (length k.text.now ≤ store_limit)
 
 -- the texts of opened keys

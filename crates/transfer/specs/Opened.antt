@@ -12,4 +12,5 @@ OpensWithin b p limit bags keys = (n : ℕ) × StoreOpens b p bags keys n × (n 
 
 -- the store is refused for e, the first cause, within the limit; or there was no memory
 abbrev pub IsRefusedWithin : List ℕ → List ℕ → ℕ → TransferError → Type 0
-IsRefusedWithin b p limit = RefusedBy (λ e. (n : ℕ) × HasVerdict b p limit (refused e) n × (n ≤ limit)) ⊥
+IsRefusedWithin b p limit =
+    RefusedBy (λ e. (n : ℕ) × HasVerdict b p limit (refused e) n × (n ≤ limit)) ⊥

@@ -1,4 +1,5 @@
--- What a store is opened to, or refused for: the causes in their order, each with the steps that were taken by then.
+-- What a store is opened to, or refused for: the causes in their order, each with the steps that
+-- were taken by then.
 use Rattle.std.specs.Prelude.{◌⊎◌, ℕ, ◌+◌, ◌<◌, ◌≤◌, ◌≡◌, false, List, [], ◌∷◌, length, Option, Some, None}
 use Rattle.std.specs.List.{flat_map, sum_by}
 use Rattle.p12.specs.declared.algorithm_identifier.AlgorithmIdentifier.{AlgorithmIdentifier}
@@ -26,9 +27,10 @@ use Rattle.transfer.specs.TransferError.{RefusedBy}
 
 -- ---- Locked texts
 
--- A locked text under a running sum: the first of its faults before it is opened. `rest` says what is wrong with the
--- opened text. The third column: the steps that were taken at this text.
-abbrev pub LockFault : List ℕ → ℕ → ℕ → AlgorithmIdentifier → List ℕ → (List ℕ → TransferError → ℕ → Type 0) → TransferError → ℕ → Type 0
+-- A locked text under a running sum: the first of its faults before it is opened. `rest` says what
+-- is wrong with the opened text. The third column: the steps that were taken at this text.
+abbrev pub LockFault : List ℕ → ℕ → ℕ → AlgorithmIdentifier → List ℕ
+    → (List ℕ → TransferError → ℕ → Type 0) → TransferError → ℕ → Type 0
 LockFault p limit sum a c rest =
     Row (openable a ≡ false) Unsupported 0
     (Row (count a ≡ 0) ZeroIterations 0
@@ -49,11 +51,16 @@ abbrev pub ContentCause : List ℕ → ℕ → ℕ → ContentInfo → TransferE
 ContentCause p limit sum (content.Data v) e n = NoBags v × (e ≡ ContentMalformed) × (n ≡ 0)
 ContentCause p limit sum (content.EncryptedData d) e n =
     let a = d.encrypted_content_info.content_encryption_algorithm in
-    LockFault p limit sum a d.encrypted_content_info.encrypted_content (λ m e n. NoBags m × (e ≡ ContentMalformed) × (n ≡ cost a)) e n
+    LockFault p limit sum a d.encrypted_content_info.encrypted_content
+    (λ m e n. NoBags m × (e ≡ ContentMalformed) × (n ≡ cost a)) e n
 ContentCause p limit sum (content.OtherContext o) e n = (e ≡ Unsupported) × (n ≡ 0)
 
 abbrev pub of_contents : List ℕ → ℕ → PartKind ContentInfo (List SafeBag) TransferError
-of_contents p limit = record { share = content_share; OpensTo = HoldsBags p; Fault = ContentCause p limit }
+of_contents p limit = record {
+  share = content_share;
+  OpensTo = HoldsBags p;
+  Fault = ContentCause p limit;
+}
 
 -- ---- Bags
 
@@ -88,7 +95,8 @@ IsKeyText m = (k : AnyPrivateKey) × IsPrivateKey m k
 abbrev pub NoKeyText : List ℕ → Type 0
 NoKeyText m = (k : AnyPrivateKey) → IsPrivateKey m k → ⊥
 
--- It is that of one, and was part of a store. (Not to be that of none says the same, and is a fact with one proof, as a field of a type has to be.)
+-- It is that of one, and was part of a store. (Not to be that of none says the same, and is a fact
+-- with one proof, as a field of a type has to be.)
 abbrev pub IsStoredKey : List ℕ → Type 0
 IsStoredKey m = (NoKeyText m → ⊥) × (length m ≤ store_limit)
 
@@ -100,7 +108,8 @@ KeyOpens p k m = (unlock k.encryption_algorithm p k.encrypted_data ≡ Some m) �
 abbrev pub KeyFault : List ℕ → ℕ → ℕ → EncryptedPrivateKeyInfo → TransferError → ℕ → Type 0
 KeyFault p limit sum k e n =
     let a = k.encryption_algorithm in
-    LockFault p limit sum a k.encrypted_data (λ m e n. NoKeyText m × (e ≡ KeyMalformed) × (n ≡ cost a)) e n
+    LockFault p limit sum a k.encrypted_data
+    (λ m e n. NoKeyText m × (e ≡ KeyMalformed) × (n ≡ cost a)) e n
 
 abbrev pub of_keys : List ℕ → ℕ → PartKind EncryptedPrivateKeyInfo (List ℕ) TransferError
 of_keys p limit = record { share = key_share; OpensTo = KeyOpens p; Fault = KeyFault p limit }
@@ -112,18 +121,24 @@ pub data Verdict : Type 0 where
   refused : TransferError → Verdict
   opened : List (List SafeBag) → List (List ℕ) → Verdict
 
--- The rows for parts in their order: the first that has a fault, or else what they open to decides further.
-abbrev pub PartsTable : {A B : Type 0} → PartKind A B TransferError → ℕ → ℕ → List A → (List B → Verdict → ℕ → Type 0) → Verdict → ℕ → Type 0
+-- The rows for parts in their order: the first that has a fault, or else what they open to decides
+-- further.
+abbrev pub PartsTable : {A B : Type 0} → PartKind A B TransferError → ℕ → ℕ → List A
+    → (List B → Verdict → ℕ → Type 0) → Verdict → ℕ → Type 0
 PartsTable {A} {B} K limit sum xs rest w n =
-    ((e : TransferError) × (k : ℕ) × IsFirstFault K limit sum xs e k × (w ≡ refused e) × (n ≡ sum + k))
+    ((e : TransferError) × (k : ℕ) × IsFirstFault K limit sum xs e k × (w ≡ refused e)
+    × (n ≡ sum + k))
     ⊎ ((ys : List B) × AreOpen K limit sum xs ys × rest ys w n)
 
 -- The encrypted keys among the bags, in store order, come after all contents.
 abbrev pub KeysTable : List ℕ → ℕ → ℕ → List (List SafeBag) → Verdict → ℕ → Type 0
-KeysTable p limit sum gss = PartsTable (of_keys p limit) limit sum (all_shrouded gss) (λ ks w n. (w ≡ opened gss ks) × (n ≡ sum + sum_by key_share (all_shrouded gss)))
+KeysTable p limit sum gss = PartsTable (of_keys p limit) limit sum (all_shrouded gss)
+    (λ ks w n. (w ≡ opened gss ks) × (n ≡ sum + sum_by key_share (all_shrouded gss)))
 
 unfoldable pub ContentsTable : List ℕ → ℕ → ℕ → List ContentInfo → Verdict → ℕ → Type 0
-ContentsTable p limit sum cs = PartsTable (of_contents p limit) limit sum cs (KeysTable p limit (sum + sum_by content_share cs))
+ContentsTable p limit sum cs =
+    PartsTable (of_contents p limit) limit sum cs
+    (KeysTable p limit (sum + sum_by content_share cs))
 
 unfoldable pub MacTable : List ℕ → ℕ → List ℕ → MacData → Verdict → ℕ → Type 0
 MacTable p limit v m =
@@ -141,8 +156,8 @@ StoreTable p limit s =
     Row (s.mac_data ≡ None) (refused MacMissing) 0
     (Of (λ m. s.mac_data ≡ Some m) (λ m. MacTable p limit v m))))
 
--- The octets b under the password p and the limit: the first row that holds decides what the store comes to, and the
--- steps that were taken by then.
+-- The octets b under the password p and the limit: the first row that holds decides what the store
+-- comes to, and the steps that were taken by then.
 unfoldable pub HasVerdict : List ℕ → List ℕ → ℕ → Verdict → ℕ → Type 0
 HasVerdict b p limit =
     Row (store_limit < length b) (refused TooLong) 0
@@ -152,7 +167,8 @@ HasVerdict b p limit =
 -- The first cause to refuse the store, or none.
 abbrev pub FirstCause : List ℕ → List ℕ → ℕ → Option TransferError → Type 0
 FirstCause b p limit (Some e) = (n : ℕ) × HasVerdict b p limit (refused e) n
-FirstCause b p limit None = (gss : List (List SafeBag)) × (ks : List (List ℕ)) × (n : ℕ) × HasVerdict b p limit (opened gss ks) n
+FirstCause b p limit None = (gss : List (List SafeBag)) × (ks : List (List ℕ)) × (n : ℕ)
+    × HasVerdict b p limit (opened gss ks) n
 
 -- A refusal other than when out of memory has F, with the steps that were taken.
 abbrev pub RefusedAfter : (TransferError → ℕ → Type 0) → ℕ → ℕ → TransferError → Type 0

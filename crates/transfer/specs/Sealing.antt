@@ -31,18 +31,24 @@ abbrev pub AreDrawn : ℕ → List ℕ → List (List ℕ) → List (List ℕ) �
 AreDrawn rounds q [] [] d = d ≡ []
 AreDrawn rounds q [] (b ∷ bs) d = ⊥
 AreDrawn rounds q (k ∷ ks) [] d = ⊥
-AreDrawn rounds q (k ∷ ks) (b ∷ bs) d = (first : List ℕ) × (rest : List ℕ) × (d ≡ first ++ rest) × IsDrawn rounds q first k b × AreDrawn rounds q ks bs rest
+AreDrawn rounds q (k ∷ ks) (b ∷ bs) d = (first : List ℕ) × (rest : List ℕ) × (d ≡ first ++ rest)
+    × IsDrawn rounds q first k b × AreDrawn rounds q ks bs rest
 
 -- The same over a draw: as many documents as keys, and 32 octets a key drawn.
-pub record SealsAll (rounds : ℕ) (q : List ℕ) (old new : Option (List ℕ)) (keys documents : List (List ℕ)) : Type 0 where
+pub record SealsAll (rounds : ℕ) (q : List ℕ) (old new : Option (List ℕ))
+    (keys documents : List (List ℕ)) : Type 0 where
   pub drawn : List ℕ
   pub by : AreDrawn rounds q keys documents drawn
   pub took : Consumes old new drawn
   pub each_one : length documents ≡ length keys
   pub each_32 : length drawn ≡ 32 * length keys
 
--- Of sealed keys each document is at the place of its key, under the IV and the salt at that place of the drawn octets.
+-- Of sealed keys each document is at the place of its key, under the IV and the salt at that place
+-- of the drawn octets.
 abbrev pub DrawnInPlace : Type 0
-DrawnInPlace = (rounds : ℕ) (q : List ℕ) (keys documents : List (List ℕ)) (drawn : List ℕ) → AreDrawn rounds q keys documents drawn
-    → (i : ℕ) (key document : List ℕ) → i < length keys → key ≡ get_or keys i key → document ≡ get_or documents i document
-    → IsDocument document rounds (take 16 (drop (32 * i) drawn)) (take 16 (drop (32 * i + 16) drawn)) q key
+DrawnInPlace = (rounds : ℕ) (q : List ℕ) (keys documents : List (List ℕ)) (drawn : List ℕ)
+    → AreDrawn rounds q keys documents drawn
+    → (i : ℕ) (key document : List ℕ) → i < length keys → key ≡ get_or keys i key
+    → document ≡ get_or documents i document
+    → IsDocument document rounds (take 16 (drop (32 * i) drawn))
+    (take 16 (drop (32 * i + 16) drawn)) q key

@@ -19,7 +19,8 @@ error_name KeyMalformed = codes "KeyMalformed"
 error_name Rng = codes "Rng"
 error_name Memory = codes "out of memory"
 
--- Running out of memory may come at any point, a failed draw only where R holds, and any other refusal e only where P e.
+-- Running out of memory may come at any point, a failed draw only where R holds, and any other
+-- refusal e only where P e.
 abbrev pub RefusedBy : (TransferError → Type 0) → Type 0 → TransferError → Type 0
 RefusedBy P R Memory = ⊤
 RefusedBy P R Rng = R

@@ -23,18 +23,22 @@ pub record IsMacOk (p v : List ℕ) (m : MacData) : Type 0 where
   pub some_rounds : 1 ≤ m.iterations
   pub agrees : mac_agrees m (bmp_password p) v ≡ true
 
--- The text of a store lists these contents, each opens to these bags, and the encrypted keys among them to these texts.
-pub record IsOpening (p v : List ℕ) (cs : List ContentInfo) (gss : List (List SafeBag)) (ks : List (List ℕ)) : Type 0 where
+-- The text of a store lists these contents, each opens to these bags, and the encrypted keys among
+-- them to these texts.
+pub record IsOpening (p v : List ℕ) (cs : List ContentInfo) (gss : List (List SafeBag))
+    (ks : List (List ℕ)) : Type 0 where
   pub contents : IsContents v cs
   pub bags : Each (HoldsBags p) cs gss
   pub keys : Each (KeyOpens p) (all_shrouded gss) ks
 
--- the work of a store: the count of its MAC, then the share of each content, then that of each encrypted key
+-- the work of a store: the count of its MAC, then the share of each content, then that of each
+-- encrypted key
 abbrev pub work : MacData → List ContentInfo → List (List SafeBag) → ℕ
 work m cs gss = m.iterations + sum_by content_share cs + sum_by key_share (all_shrouded gss)
 
 -- A store opens to these bags and keys, by so much work, whatever the limit.
-pub record StoreOpens (b p : List ℕ) (gss : List (List SafeBag)) (ks : List (List ℕ)) (n : ℕ) : Type 0 where
+pub record StoreOpens (b p : List ℕ) (gss : List (List SafeBag)) (ks : List (List ℕ)) (n : ℕ)
+    : Type 0 where
   pub short : length b ≤ store_limit
   pub store : PFX
   pub is : IsStore b store
@@ -49,7 +53,8 @@ pub record StoreOpens (b p : List ℕ) (gss : List (List SafeBag)) (ks : List (L
 
 -- A store is valid under a password and a limit.
 abbrev pub IsValid : List ℕ → List ℕ → ℕ → Type 0
-IsValid b p limit = (gss : List (List SafeBag)) × (ks : List (List ℕ)) × (n : ℕ) × StoreOpens b p gss ks n × (n ≤ limit)
+IsValid b p limit = (gss : List (List SafeBag)) × (ks : List (List ℕ)) × (n : ℕ)
+    × StoreOpens b p gss ks n × (n ≤ limit)
 
 -- A table gives at most one result and one number of steps.
 abbrev pub Sole : {V : Type 0} → (V → ℕ → Type 0) → Type 0
@@ -61,16 +66,20 @@ OneVerdict = (b p : List ℕ) (limit : ℕ) → Sole (HasVerdict b p limit)
 
 -- A store opens in one way: to the same bags and keys, by the same work.
 abbrev pub OneOpening : Type 0
-OneOpening = (b p : List ℕ) (gss hss : List (List SafeBag)) (ks js : List (List ℕ)) (n m : ℕ) → StoreOpens b p gss ks n → StoreOpens b p hss js m → (gss ≡ hss) × (ks ≡ js) × (n ≡ m)
+OneOpening = (b p : List ℕ) (gss hss : List (List SafeBag)) (ks js : List (List ℕ)) (n m : ℕ)
+    → StoreOpens b p gss ks n → StoreOpens b p hss js m → (gss ≡ hss) × (ks ≡ js) × (n ≡ m)
 
 -- Each list of octets has a verdict, after a number of steps, under each password and each limit.
 abbrev pub EachHasVerdict : Type 0
 EachHasVerdict = (b p : List ℕ) (limit : ℕ) → (w : Verdict) × (n : ℕ) × HasVerdict b p limit w n
 
--- A store comes to be opened exactly where it opens within the limit, and then its work is the number of steps.
+-- A store comes to be opened exactly where it opens within the limit, and then its work is the
+-- number of steps.
 abbrev pub OpenedExactly : Type 0
-OpenedExactly = (b p : List ℕ) (limit : ℕ) (gss : List (List SafeBag)) (ks : List (List ℕ)) (n : ℕ) → HasVerdict b p limit (opened gss ks) n ↔ (StoreOpens b p gss ks n × (n ≤ limit))
+OpenedExactly = (b p : List ℕ) (limit : ℕ) (gss : List (List SafeBag)) (ks : List (List ℕ)) (n : ℕ)
+    → HasVerdict b p limit (opened gss ks) n ↔ (StoreOpens b p gss ks n × (n ≤ limit))
 
 -- No cause refuses a store exactly where it is valid.
 abbrev pub ValidExactly : Type 0
-ValidExactly = (b p : List ℕ) (limit : ℕ) → ((e : TransferError) → FirstCause b p limit (Some e) → ⊥) ↔ IsValid b p limit
+ValidExactly = (b p : List ℕ) (limit : ℕ)
+    → ((e : TransferError) → FirstCause b p limit (Some e) → ⊥) ↔ IsValid b p limit

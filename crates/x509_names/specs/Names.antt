@@ -24,7 +24,8 @@ name_attribute kind value = record { kind = kind; value = value }
 
 -- AttributeTypeAndValue ::= SEQUENCE { type OBJECT IDENTIFIER, value ANY }
 abbrev pub AttributeText : List ℕ → NameAttribute → Type 0
-AttributeText = Sequence (On (Inside 0x06) (λ kind. On Raw (λ value. Ended (name_attribute kind value))))
+AttributeText = Sequence (On (Inside 0x06) (λ kind.
+    On Raw (λ value. Ended (name_attribute kind value))))
 
 -- there is an attribute
 abbrev pub has_some : List NameAttribute → Bool
@@ -43,11 +44,16 @@ IsName b names = Sequence (Many RelativeText) b names × IsShort b
 -- the octets of the identifiers of common types, and their names, as OpenSSL has them
 abbrev pub type_names : List (List ℕ × List ℕ)
 type_names =
-    (0x55 ∷ 4 ∷ 3 ∷ [], codes "CN") ∷ (0x55 ∷ 4 ∷ 4 ∷ [], codes "SN") ∷ (0x55 ∷ 4 ∷ 5 ∷ [], codes "serialNumber")
-    ∷ (0x55 ∷ 4 ∷ 6 ∷ [], codes "C") ∷ (0x55 ∷ 4 ∷ 7 ∷ [], codes "L") ∷ (0x55 ∷ 4 ∷ 8 ∷ [], codes "ST")
-    ∷ (0x55 ∷ 4 ∷ 9 ∷ [], codes "street") ∷ (0x55 ∷ 4 ∷ 10 ∷ [], codes "O") ∷ (0x55 ∷ 4 ∷ 11 ∷ [], codes "OU")
-    ∷ (0x55 ∷ 4 ∷ 12 ∷ [], codes "title") ∷ (0x55 ∷ 4 ∷ 13 ∷ [], codes "description") ∷ (0x55 ∷ 4 ∷ 17 ∷ [], codes "postalCode")
-    ∷ (0x55 ∷ 4 ∷ 42 ∷ [], codes "GN") ∷ (0x55 ∷ 4 ∷ 43 ∷ [], codes "initials") ∷ (0x55 ∷ 4 ∷ 46 ∷ [], codes "dnQualifier")
+    (0x55 ∷ 4 ∷ 3 ∷ [], codes "CN") ∷ (0x55 ∷ 4 ∷ 4 ∷ [], codes "SN")
+    ∷ (0x55 ∷ 4 ∷ 5 ∷ [], codes "serialNumber")
+    ∷ (0x55 ∷ 4 ∷ 6 ∷ [], codes "C") ∷ (0x55 ∷ 4 ∷ 7 ∷ [], codes "L")
+    ∷ (0x55 ∷ 4 ∷ 8 ∷ [], codes "ST")
+    ∷ (0x55 ∷ 4 ∷ 9 ∷ [], codes "street") ∷ (0x55 ∷ 4 ∷ 10 ∷ [], codes "O")
+    ∷ (0x55 ∷ 4 ∷ 11 ∷ [], codes "OU")
+    ∷ (0x55 ∷ 4 ∷ 12 ∷ [], codes "title") ∷ (0x55 ∷ 4 ∷ 13 ∷ [], codes "description")
+    ∷ (0x55 ∷ 4 ∷ 17 ∷ [], codes "postalCode")
+    ∷ (0x55 ∷ 4 ∷ 42 ∷ [], codes "GN") ∷ (0x55 ∷ 4 ∷ 43 ∷ [], codes "initials")
+    ∷ (0x55 ∷ 4 ∷ 46 ∷ [], codes "dnQualifier")
     ∷ (0x09 ∷ 0x92 ∷ 0x26 ∷ 0x89 ∷ 0x93 ∷ 0xf2 ∷ 0x2c ∷ 0x64 ∷ 1 ∷ 1 ∷ [], codes "UID")
     ∷ (0x09 ∷ 0x92 ∷ 0x26 ∷ 0x89 ∷ 0x93 ∷ 0xf2 ∷ 0x2c ∷ 0x64 ∷ 1 ∷ 25 ∷ [], codes "DC")
     ∷ (0x2a ∷ 0x86 ∷ 0x48 ∷ 0x86 ∷ 0xf7 ∷ 0x0d ∷ 1 ∷ 9 ∷ 1 ∷ [], codes "emailAddress") ∷ []
@@ -66,7 +72,8 @@ abbrev pub numbers_of : List ℕ → Option ObjectIdentifier → List ℕ
 numbers_of kind (Some o) = arcs_text (arcs kind)
 numbers_of kind None = hex_text kind
 
--- the numbers of an identifier with points between them; where the octets are no identifier, `#` and their digits
+-- the numbers of an identifier with points between them; where the octets are no identifier, `#`
+-- and their digits
 unfoldable pub numbers_text : List ℕ → List ℕ
 numbers_text kind = numbers_of kind (as_oid kind)
 
@@ -97,7 +104,8 @@ NoName b = (names : List (List NameAttribute)) → IsName b names → ⊥
 
 -- t is the text of the octets b: of the name that they are, or `#` and their digits
 abbrev pub IsNameText : List ℕ → List ℕ → Type 0
-IsNameText b t = ((names : List (List NameAttribute)) × IsName b names × (t ≡ name_text names)) ⊎ (NoName b × (t ≡ hex_text b))
+IsNameText b t = ((names : List (List NameAttribute)) × IsName b names × (t ≡ name_text names))
+    ⊎ (NoName b × (t ≡ hex_text b))
 
 -- what is seen of attributes that are lent
 abbrev pub seen_attribute : Attribute → NameAttribute

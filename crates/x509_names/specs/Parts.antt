@@ -13,8 +13,14 @@ pub record CertificateParts : Type 0 where
   pub subject : List ℕ
 
 -- these parts
-abbrev pub certificate_parts : List ℕ → List ℕ → Option (List ℕ × List ℕ) → List ℕ → CertificateParts
-certificate_parts serial issuer validity subject = record { serial_number = serial; issuer = issuer; validity = validity; subject = subject }
+abbrev pub certificate_parts : List ℕ → List ℕ → Option (List ℕ × List ℕ) → List ℕ
+    → CertificateParts
+certificate_parts serial issuer validity subject = record {
+  serial_number = serial;
+  issuer = issuer;
+  validity = validity;
+  subject = subject;
+}
 
 -- any octets, for the value x
 abbrev pub Anything : {A : Type 0} → A → List ℕ → A → Type 0
@@ -29,11 +35,14 @@ abbrev pub OrNone : {A : Type 0} → (List ℕ → A → Type 0) → List ℕ �
 OrNone R b (Some v) = R b v
 OrNone R b None = (v : _) → R b v → IsShort b → ⊥
 
--- the front of TBSCertificate ::= SEQUENCE { version [0] OPTIONAL, serialNumber INTEGER, signature SEQUENCE, issuer,
+-- the front of TBSCertificate ::= SEQUENCE { version [0] OPTIONAL, serialNumber INTEGER, signature
+-- SEQUENCE, issuer,
 --     validity SEQUENCE, subject, .. }; the validity counts where it has two elements and no more
 abbrev pub SignedFront : List ℕ → CertificateParts → Type 0
-SignedFront = Sequence (On (Perhaps (Inside 0xa0)) (λ version. On (Inside 0x02) (λ serial. On (Inside 0x30) (λ signature. On Raw (λ issuer.
-    On (Within 0x30 (OrNone TwoElements)) (λ validity. On Raw (λ subject. Anything (certificate_parts serial issuer validity subject))))))))
+SignedFront = Sequence (On (Perhaps (Inside 0xa0)) (λ version. On (Inside 0x02) (λ serial.
+    On (Inside 0x30) (λ signature. On Raw (λ issuer.
+    On (Within 0x30 (OrNone TwoElements)) (λ validity.
+    On Raw (λ subject. Anything (certificate_parts serial issuer validity subject))))))))
 
 -- the front of Certificate ::= SEQUENCE { tbsCertificate TBSCertificate, .. }
 abbrev pub CertificateFront : List ℕ → CertificateParts → Type 0
@@ -45,4 +54,5 @@ HasParts b p = (rest : List ℕ) × Taken CertificateFront b p rest
 
 -- what is seen of parts that are lent
 abbrev pub seen_parts : Parts → CertificateParts
-seen_parts p = certificate_parts p.serial_number.now p.issuer.now (seen_option (λ times. (times.0.now, times.1.now)) p.validity) p.subject.now
+seen_parts p = certificate_parts p.serial_number.now p.issuer.now
+    (seen_option (λ times. (times.0.now, times.1.now)) p.validity) p.subject.now

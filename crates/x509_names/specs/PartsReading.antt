@@ -1,4 +1,5 @@
--- Reading the parts of a certificate from left to right. Nothing to believe here: it reads exactly the relation.
+-- Reading the parts of a certificate from left to right. Nothing to believe here: it reads exactly
+-- the relation.
 use Rattle.std.specs.Prelude.{ℕ, ◌==◌, List, Option, Some, None, Result, Ok, Err}
 use Rattle.asn1_core.specs.Reading.{All, Fault, Front, ended, inside_at, on, option_at, raw_at, within}
 use Rattle.x509_names.specs.Parts.{CertificateParts, certificate_parts}
@@ -24,7 +25,8 @@ unfoldable pub validity_at : Front (Option (List ℕ × List ℕ))
 validity_at = within 0x30 (or_none two_elements)
 
 unfoldable pub signed_all : All CertificateParts
-signed_all = on version_at (λ v. on (inside_at 0x02) (λ n. on (inside_at 0x30) (λ a. on raw_at (λ i. on validity_at (λ w. on raw_at (λ s. anything (certificate_parts n i w s)))))))
+signed_all = on version_at (λ v. on (inside_at 0x02) (λ n. on (inside_at 0x30) (λ a. on raw_at (λ i.
+    on validity_at (λ w. on raw_at (λ s. anything (certificate_parts n i w s)))))))
 
 unfoldable pub signed_at : Front CertificateParts
 signed_at = within 0x30 signed_all

@@ -22,10 +22,11 @@ number_at i d = 10 * (slice_index d i - 48) + (slice_index d (i + 1) - 48)
 abbrev pub century : List ℕ → List ℕ
 century d = cond (nat_lt (number_at 0 d) 50) (codes "20") (codes "19")
 
--- The element e is a time, and d are its digits YYYYMMDDHHMMSS: those of a GeneralizedTime, or the century and those
--- of a UTCTime.
+-- The element e is a time, and d are its digits YYYYMMDDHHMMSS: those of a GeneralizedTime, or the
+-- century and those of a UTCTime.
 abbrev pub HasTime : List ℕ → List ℕ → Type 0
-HasTime e d = Digits 0x18 14 e d ⊎ ((short : List ℕ) × Digits 0x17 12 e short × (d ≡ century short ++ short))
+HasTime e d = Digits 0x18 14 e d
+    ⊎ ((short : List ℕ) × Digits 0x17 12 e short × (d ≡ century short ++ short))
 
 -- e is no time in the form of DER
 abbrev pub NoTime : List ℕ → Type 0
@@ -38,7 +39,9 @@ separated between first second third = first ++ between ∷ second ++ between �
 -- YYYY-MM-DD HH:MM:SS UTC
 abbrev pub written : List ℕ → List ℕ
 written d =
-    separated 45 (slice_range d 0 4) (slice_range d 4 6) (slice_range d 6 8) ++ 32 ∷ separated 58 (slice_range d 8 10) (slice_range d 10 12) (slice_range d 12 14) ++ codes " UTC"
+    separated 45 (slice_range d 0 4) (slice_range d 4 6) (slice_range d 6 8) ++ 32
+    ∷ separated 58 (slice_range d 8 10) (slice_range d 10 12) (slice_range d 12 14)
+    ++ codes " UTC"
 
 -- t is the text of the element e
 abbrev pub IsTimeText : List ℕ → List ℕ → Type 0
@@ -53,11 +56,13 @@ is_leap year = year % 4 == 0 && (not (year % 100 == 0) || year % 400 == 0)
 -- how many days the month has
 abbrev pub days_in : ℕ → ℕ → ℕ
 days_in year month =
-    cond (month == 2) (cond (is_leap year) 29 28) (cond (month == 4 || month == 6 || month == 9 || month == 11) 30 31)
+    cond (month == 2) (cond (is_leap year) 29 28)
+    (cond (month == 4 || month == 6 || month == 9 || month == 11) 30 31)
 
 -- the day is one of the Gregorian calendar
 abbrev pub IsDate : List ℕ → Type 0
-IsDate d = IsInRange 1 12 (number_at 4 d) × IsInRange 1 (days_in (100 * number_at 0 d + number_at 2 d) (number_at 4 d)) (number_at 6 d)
+IsDate d = IsInRange 1 12 (number_at 4 d)
+    × IsInRange 1 (days_in (100 * number_at 0 d + number_at 2 d) (number_at 4 d)) (number_at 6 d)
 
 -- the hour, minute and second are ones of a day, without leap seconds
 abbrev pub IsClock : List ℕ → Type 0

@@ -49,10 +49,13 @@ latin_at tag = within tag latin_of
 abbrev pub is_latin : ℕ → Bool
 is_latin tag = tag == 0x12 || tag == 0x13 || tag == 0x14 || tag == 0x16 || tag == 0x1a
 
--- the characters in UTF-8 of an element of this tag: of a UTF8String, a BMPString or one of the others
+-- the characters in UTF-8 of an element of this tag: of a UTF8String, a BMPString or one of the
+-- others
 abbrev pub string_of : ℕ → All (List ℕ)
 string_of tag b =
-    cond (tag == 0x0c) (whole utf8_at b) (cond (tag == 0x1e) (whole bmp_at b) (cond (is_latin tag) (whole (latin_at tag) b) (Err Bad)))
+    cond (tag == 0x0c) (whole utf8_at b)
+    (cond (tag == 0x1e) (whole bmp_at b)
+    (cond (is_latin tag) (whole (latin_at tag) b) (Err Bad)))
 
 -- the same of an element of any tag
 unfoldable pub characters : All (List ℕ)
@@ -63,6 +66,7 @@ abbrev pub or_hex : List ℕ → Result (List ℕ) Fault → List ℕ
 or_hex b (Ok t) = escaped t
 or_hex b (Err f) = hex_text b
 
--- a value, a whole element: its characters where it is a string of characters, else `#` and its digits
+-- a value, a whole element: its characters where it is a string of characters, else `#` and its
+-- digits
 unfoldable pub value_text : List ℕ → List ℕ
 value_text b = or_hex b (characters b)

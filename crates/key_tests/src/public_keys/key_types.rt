@@ -82,7 +82,8 @@ const ECDSA_WITH_SHA256: ObjectIdentifier = ObjectIdentifier {
 impl AssociatedAlgorithmIdentifier for KeptKey {
     ghost use Rattle.std.specs.Prelude.{[], ◌∷◌, refl};
     ghost use Rattle.std.proofs.lemmas.Bool.{leb-true};
-    ghost use Rattle.octet_core.specs.Padded.{padded, is_padded};
+    ghost use Rattle.octet_core.specs.Padded.{padded};
+    ghost use Rattle.octet_core.specs.PaddedLaws.{is_padded};
     ghost use Rattle.asn1_core.specs.Oid.{built};
 
     type Params = ObjectIdentifier;
@@ -119,7 +120,8 @@ impl SignatureBitStringEncoding for KeptSignature {
 impl SignatureAlgorithmIdentifier for KeptKey {
     ghost use Rattle.std.specs.Prelude.{None, [], ◌∷◌, refl};
     ghost use Rattle.std.proofs.lemmas.Bool.{leb-true};
-    ghost use Rattle.octet_core.specs.Padded.{padded, is_padded};
+    ghost use Rattle.octet_core.specs.Padded.{padded};
+    ghost use Rattle.octet_core.specs.PaddedLaws.{is_padded};
     ghost use Rattle.asn1_core.specs.Oid.{built};
 
     type Params = Null;

@@ -3,7 +3,7 @@ ghost use Rattle.std.specs.Prelude.{◌≡◌, ◌≢◌, List, ℕ, map, IfSome
 ghost use Rattle.std.specs.String.{string_bytes};
 ghost use Rattle.frame.specs.Calls.{call_of};
 ghost use Rattle.frame.specs.InputText.{IsInput};
-ghost use Rattle.frame.specs.Stream.{stream};
+ghost use Rattle.frame.specs.Stream.{stream_of};
 ghost use Rattle.frame.specs.declared.status.Status.{Status};
 ghost use Rattle.transfer.specs.Answers.{Answers};
 ghost use Rattle.transfer.specs.Sample.{IsNoSample, IsSample, SampleAnswers};
@@ -36,25 +36,25 @@ pub fn run<I: Source, O: Sink, D: Draw, L: Ledger>(
     output: &mut O,
     steps: &mut Steps<L>,
 ) -> Status
-    // Where the arguments are not those of a sample: the causes of each status, where each has to come, what is written and the steps.
-    ensures answers { let read = stream (I.left input.old) (I.left input.new) (I.faults input.old)
-        (I.faults input.new) in
-        let drawn = stream (D.left draw.old) (D.left draw.new) (D.faults draw.old)
-        (D.faults draw.new) in
-        let written = stream (O.written output.old) (O.written output.new) (O.faults output.old)
-        (O.faults output.new) in
+    // Where the arguments are not those of a sample: the causes of each status, where each has to
+    // come, what is written and the steps.
+    ensures answers { let read = stream_of I.left I.faults input.old input.new in
+        let drawn = stream_of D.left D.faults draw.old draw.new in
+        let written = stream_of O.written O.faults output.old output.new in
         IsNoSample (map string_bytes words.now)
-        → Answers (map string_bytes words.now) (call_of read drawn steps.old steps.new) written result }
+        → Answers (map string_bytes words.now) (call_of read drawn steps.old steps.new) written
+        result }
     // Where they are: what is written, and the steps.
-    ensures sample { let written = stream (O.written output.old) (O.written output.new)
-        (O.faults output.old) (O.faults output.new) in
+    ensures sample { let written = stream_of O.written O.faults output.old output.new in
         (keys : ℕ) → IsSample (map string_bytes words.now) keys
         → SampleAnswers keys steps.old steps.new written result }
-    // Where the arguments are no command's, nothing is read or drawn and no step taken; for a sample nothing is read or drawn.
+    // Where the arguments are no command's, nothing is read or drawn and no step taken; for a
+    // sample nothing is read or drawn.
     ensures untouched { IsNoCommand (map string_bytes words.now) → (input.new ≡ input.old)
         × (draw.new ≡ draw.old)
         × (IsNoSample (map string_bytes words.now) → steps.new ≡ steps.old) }
-    // Where there is a second line the draw is as it was, and so it is on each status but these four.
+    // Where there is a second line the draw is as it was, and so it is on each status but these
+    // four.
     ensures line { IfSome (I.left input.old) (λ x. (store line : List ℕ)
         → IsInput x store (Some line) → draw.new ≡ draw.old) }
     ensures undrawn { result ≢ Status.Done → result ≢ Status.Rng → result ≢ Status.Memory

@@ -39,8 +39,8 @@ fn open_key<'a, L: Ledger>(
         × (steps.new ≡ steps.old + key_share (key_with algorithm.now octets.old))) }
     ensures key { IfOk result IsOpenedKey }
     ensures refused { IfErr result (RefusedAfter
-        (KeyFault password.now budget.old.limit budget.old.spent (key_with algorithm.now octets.old))
-        steps.old steps.new) }
+        (KeyFault password.now budget.old.limit budget.old.spent
+        (key_with algorithm.now octets.old)) steps.old steps.new) }
     ensures at_most { TakesWithin budget.old steps.old steps.new }
 {
     let view = algorithm.view();

@@ -33,8 +33,8 @@ pub(crate) fn open_front<L: Ledger>(
         × Spends budget.old budget.new (cost (seen_algorithm algorithm.now))
         × (steps.new ≡ steps.old + cost (seen_algorithm algorithm.now))) }
     ensures refused { IfErr result (RefusedAfter
-        (LockFault password.now budget.old.limit budget.old.spent (seen_algorithm algorithm.now) text.old
-        (λ _ _ _. ⊥)) steps.old steps.new) }
+        (LockFault password.now budget.old.limit budget.old.spent (seen_algorithm algorithm.now)
+        text.old (λ _ _ _. ⊥)) steps.old steps.new) }
     ensures at_most { TakesWithin budget.old steps.old steps.new }
 {
     if !algorithm.is_openable() {

@@ -5,7 +5,7 @@ ghost use Rattle.transfer.specs.declared.store.error.TransferError.TheVariants a
 ghost use Rattle.transfer.specs.Limits.{rounds_limit};
 ghost use Rattle.transfer.specs.TransferError.{RefusedBy};
 ghost use Rattle.frame.specs.Calls.{effects};
-ghost use Rattle.frame.specs.Stream.{stream};
+ghost use Rattle.frame.specs.Stream.{stream_of};
 ghost use Rattle.transfer.specs.Transferred.{IsRefused, RunsShort, Settles, Transfers};
 ghost use Rattle.transfer.specs.Words.{command};
 
@@ -66,12 +66,12 @@ pub fn transfer<D: Draw, L: Ledger>(
 ) -> Result<Transferred, TransferError>
     requires password { length password.now < 2 ^ 57 }
     requires rounds { (1 ≤ rounds) × (rounds ≤ rounds_limit) }
-    ensures opened { let e = effects (stream (D.left draw.old) (D.left draw.new) (D.faults draw.old)
-        (D.faults draw.new)) steps.old steps.new in
+    ensures opened { let drawn = stream_of D.left D.faults draw.old draw.new in
+        let e = effects drawn steps.old steps.new in
         let c = command password.now new_password.now rounds limit in
         IfOk result (λ t. Transfers c e store.now t.certificates t.documents) }
-    ensures refused { let e = effects (stream (D.left draw.old) (D.left draw.new) (D.faults draw.old)
-        (D.faults draw.new)) steps.old steps.new in
+    ensures refused { let drawn = stream_of D.left D.faults draw.old draw.new in
+        let e = effects drawn steps.old steps.new in
         let c = command password.now new_password.now rounds limit in
         IfErr result (RefusedBy (IsRefused c e store.now) (RunsShort c e store.now)) }
     ensures exact { Settles store.now password.now limit (D.left draw.old) result }

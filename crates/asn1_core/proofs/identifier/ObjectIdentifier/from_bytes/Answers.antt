@@ -1,6 +1,6 @@
 use Rattle.std.proofs.Common.{◌∙◌, ap, length, take}
 use Rattle.asn1_core.specs.ElementLaws.{oid_reads}
-use Rattle.octet_core.specs.Padded.{take_padded}
+use Rattle.octet_core.specs.PaddedLaws.{take_padded}
 use Rattle.asn1_core.proofs.identifier.ObjectIdentifier.from_bytes.Goals as goal
 
 pub returns-clause-read : goal.returns-clause-read

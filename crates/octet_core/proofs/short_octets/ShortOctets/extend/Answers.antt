@@ -1,5 +1,5 @@
 use Rattle.std.proofs.Common.{◌≡◌, arith, ap, length}
-use Rattle.octet_core.specs.Padded.{length-take_padded}
+use Rattle.octet_core.specs.PaddedLaws.{length-take_padded}
 use Rattle.octet_core.proofs.Extended.{still_padded}
 use Rattle.octet_core.proofs.short_octets.ShortOctets.extend.Goals as goal
 
