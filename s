@@ -1,0 +1,1 @@
+; about 3 minute3 more
