@@ -266,6 +266,16 @@ old_files_stay() {
     [ "$code" -eq 4 ] && [ "$(cat "$work/stays/key-0.pem")" = old ] && says told "df -h '$work'"
 }
 holds old_files_stay_until_new_ones_are_synced old_files_stay
+# A store that was written, and whose folder cannot be brought to the disk: it is there, and that is told.
+unsynced_store() {
+    [ -f "$work/late.so" ] || return 0
+    code=0
+    LATE=folder LD_PRELOAD=$work/late.so "$program" rekey "$keyed" --out "$work/unsynced.p12" --password-file "$keyed_password" \
+        --new-password-file "$work/p" 2>"$work/told" || code=$?
+    [ "$code" -eq 0 ] && says told "is written, and may not be on the disk yet" &&
+        ends 0 check "$work/unsynced.p12" --password-file "$work/p"
+}
+holds a_store_whose_folder_is_not_synced_is_told unsynced_store
 
 # --- passwords ---
 
@@ -363,8 +373,8 @@ progress() {
     [ -f "$work/many-keys.p12" ] || return 0
     "$home/tests/shared/at_terminal.py" -- "$home/pkcs12" export "$work/many-keys.p12" --out "$work/progress" --password-file "$work/p" \
         --same-password --rounds 20000 >"$work/told" || return 1
-    says told "pkcs12: sealing 200 private keys, which takes about " && says told "sealing private keys [....................] 0 of 200" &&
-        says told "sealing private keys [##########..........] 100 of 200" && says told "sealing private keys [####################] 200 of 200"
+    says told "pkcs12: sealing 200 private keys, which takes about " && says told "pkcs12: [..........] 0 of 200 keys sealed" &&
+        says told "pkcs12: [#####.....] 100 of 200 keys sealed" && says told "pkcs12: [##########] 200 of 200 keys sealed"
 }
 holds a_terminal_shows_how_far_it_is progress
 # In processor time, the least of three.

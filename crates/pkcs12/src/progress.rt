@@ -8,7 +8,7 @@ use std::fmt;
 const DRAWN: u64 = 32;
 
 /// How many characters the bar has.
-const WIDTH: u64 = 20;
+const WIDTH: u64 = 10;
 
 /// How much of the work is done: a bar, and the numbers of private keys.
 #[derive(Clone, Copy)]
@@ -34,7 +34,7 @@ impl fmt::Display for Bar {
 /// Shows a bar in the place of the one that was shown before.
 fn show<R: Eprint>(rt: &R, bar: Bar) {
     // A terminal that cannot be written to is no failure of the work.
-    match eprint!(rt; "\rpkcs12: sealing private keys {bar}") {
+    match eprint!(rt; "\rpkcs12: {bar} keys sealed") {
         Ok(()) | Err(_) => {}
     }
 }

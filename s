@@ -1,1 +1,0 @@
-; about 3 minute3 more
