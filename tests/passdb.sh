@@ -61,6 +61,7 @@ echo s3cret >"$work/one"
 echo 'a longer one' >"$work/two"
 printf '' >"$work/empty"
 # Builds the program where it is not built, and where it is older than a source.
+[ -x "$home/crates/passdb_command/out/passdb_command" ] || "$home/passdb" build >&2
 case $("$PASSDB" --version 2>&1 >/dev/null) in
     *'the program is older than '*) "$PASSDB" build >&2 ;;
 esac

@@ -9,6 +9,7 @@ build() {
         return
     fi
     rm -f "$program"
+    echo "building $1: rt proves what is not proved yet" >&2
     built=$(cd "$home/crates/$1" && rt run </dev/null 2>&1) || :
     [ -x "$program" ] || {
         echo "$built" | tail -n 20 >&2

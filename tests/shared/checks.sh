@@ -79,6 +79,7 @@ opens_to_the_key() {
 echo p >"$work/p"
 
 # Builds the program where it is not built, and where it is older than a source.
+[ -x "$home/crates/pkcs12/out/pkcs12" ] || "$home/pkcs12" build >&2
 case $("$home/pkcs12" --version 2>&1 >/dev/null) in
     *'the program is older than '*) "$home/pkcs12" build >&2 ;;
 esac
