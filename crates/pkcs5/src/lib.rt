@@ -8,7 +8,6 @@ pub mod laws;
 pub mod opening_laws;
 pub mod pbes1;
 pub mod pbes2;
-mod scheme_encryption;
 
 pub use asn1_core::ObjectIdentifier;
 pub use encryption_scheme::EncryptionScheme;

@@ -1,11 +1,8 @@
 //! PBES2 (RFC 8018 section 6.2): a key derivation function and a cipher.
 
 mod cipher;
-mod decryption;
-mod encryption;
 mod encryption_key;
 mod encryption_scheme;
-mod generation;
 mod identifiers;
 mod kdf;
 mod parameters;

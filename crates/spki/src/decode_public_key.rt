@@ -9,8 +9,9 @@ ghost use Rattle.spki.specs.KeyFile.{IsUnread};
 ghost use Rattle.spki.specs.Seen.{AnyPublicKey, borrowed_any, owned_any, seen_public_key, IsPublicKey};
 
 use crate::error::{Error, Result};
-use crate::public_key_forms::read_whole;
-use crate::subject_public_key_info::{SubjectPublicKeyInfoOwned, SubjectPublicKeyInfoRef};
+use crate::subject_public_key_info::{
+    SubjectPublicKeyInfoOwned, SubjectPublicKeyInfoRef, read_whole,
+};
 use der_core::Document;
 use std::alloc::Global;
 use std::rt::Files;

@@ -1,14 +1,10 @@
 //! Key types that public keys are stored from.
 ghost use Rattle.std.specs.Prelude.{◌≡◌, ◌⊎◌, List, ℕ, IfOk, IfErr, OnOk};
 ghost use Rattle.asn1_core.specs.declared.error.Error.TheVariants as below;
-ghost use Rattle.der_core.specs.BitString.{seen_bits};
 ghost use Rattle.spki.specs.declared.error.Error.{Error};
-ghost use Rattle.spki.specs.declared.error.Error.TheVariants.{Asn1, Memory};
-ghost use Rattle.asn1_core.specs.Gives.{IsNone};
-ghost use Rattle.spki.specs.Seen.{owned_any, seen_public_key, IsPublicKey};
+ghost use Rattle.spki.specs.declared.error.Error.TheVariants.{Asn1};
 
 use crate::error::{Error, Result};
-use crate::subject_public_key_info::SubjectPublicKeyInfoOwned;
 use der_core::Document;
 use std::alloc::Global;
 use std::rt::Files;
@@ -35,23 +31,5 @@ pub trait EncodePublicKey {
         let document = self.to_public_key_der(alloc)?;
         document.write_der_file(rt, path)?;
         Ok(())
-    }
-}
-
-impl SubjectPublicKeyInfoOwned {
-    /// The public key that a key is stored as. Refusals are those of its `to_public_key_der`; `Asn1(Malformed)` exactly where it
-    /// is then no SubjectPublicKeyInfo; and `Memory`.
-    pub fn from_key<T: EncodePublicKey>(
-        alloc: Global,
-        source: &T,
-    ) -> Result<SubjectPublicKeyInfoOwned>
-        ensures ok { IfOk result (λ k. (b : List ℕ) × T.text source.now b
-            × IsPublicKey b (seen_public_key owned_any (λ s. seen_bits s.unused_bits s.octets) k)) }
-        ensures err { IfErr result (λ e. T.refuses source.now e ⊎ (e ≡ Memory)
-            ⊎ ((b : List ℕ) × T.text source.now b × (e ≡ Asn1 below.Malformed)
-            × IsNone IsPublicKey b)) }
-    {
-        let document = source.to_public_key_der(alloc)?;
-        SubjectPublicKeyInfoOwned::from_der(alloc, document.as_bytes())
     }
 }

@@ -2,18 +2,15 @@
 #![tactic(auto)]
 
 mod algorithm;
-mod algorithm_forms;
-mod algorithm_oids;
 mod as_algorithm_identifier_ref;
 mod associated_algorithm;
+mod by_content;
 mod decode_public_key;
 mod digest_writer;
 mod encode_public_key;
 mod error;
 mod fingerprint;
 pub mod laws;
-mod order;
-mod public_key_forms;
 mod read_algorithm;
 mod subject_public_key_info;
 

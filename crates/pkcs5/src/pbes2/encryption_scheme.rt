@@ -1,5 +1,5 @@
 //! The ciphers of PBES2.
-ghost use Rattle.std.specs.Prelude.{◌≡◌, ◌≢◌, ◌≤◌, Some, length, MatchResult, IfOk, refl};
+ghost use Rattle.std.specs.Prelude.{◌≡◌, ◌≢◌, ◌≤◌, ◌+◌, Some, length, MatchResult, IfOk, refl};
 ghost use Rattle.asn1_core.specs.Der.{seq};
 ghost use Rattle.asn1_core.specs.Gives.{Gives};
 ghost use Rattle.asn1_core.specs.Oid.{oid_octets};
@@ -13,6 +13,7 @@ ghost use Rattle.pkcs5.specs.Cipher.{IsCipher, cipher_content, CipherOf};
 ghost use Rattle.pkcs5.specs.CipherLaws.{cipher_of-exact, cipher_canonical, cipher_spelled};
 ghost use Rattle.pkcs5.specs.Error.{InvalidOf};
 ghost use Rattle.pkcs5.specs.Kinds.{cipher_oid, key_size, iv_of, iv_size};
+ghost use Rattle.pkcs5.specs.Opening.{ciphertext_size};
 ghost use Rattle.pkcs5.specs.SameLaws.{cipher_same};
 ghost use Rattle.pkcs5.specs.declared.pbes2.encryption_scheme.EncryptionScheme.{EncryptionScheme};
 ghost use Rattle.pkcs5.specs.Reading.{cipher_named, cipher_with, cipher_in, cipher_of};
@@ -86,6 +87,20 @@ impl EncryptionScheme {
         ensures { InvalidOf (cipher_oid self.now) result }
     {
         error::Error::AlgorithmParametersInvalid { oid: self.oid() }
+    }
+
+    /// How many octets a ciphertext has more than its text, of `len` octets.
+    pub(crate) fn growth(&self, len: usize) -> usize
+        ensures value { len + result ≡ ciphertext_size self.now len }
+        ensures least { result ≤ 16 }
+    {
+        match self {
+            Self::Aes128Cbc { .. } | Self::Aes192Cbc { .. } | Self::Aes256Cbc { .. } => {
+                16 - len % 16
+            }
+            Self::Aes128Gcm { .. } | Self::Aes256Gcm { .. } => 16,
+            Self::DesEde3Cbc { .. } | Self::DesCbc { .. } => 8 - len % 8,
+        }
     }
 
     /// The initialization vector or nonce.

@@ -2,7 +2,7 @@ use Rattle.std.proofs.Common.{sym, subst, List, ℕ}
 use Rattle.spki.specs.KeyLaws.{document_refused}
 use Rattle.der_core.specs.BitString.{seen_bits}
 use Rattle.spki.specs.Seen.{owned_any, seen_public_key, IsPublicKey}
-use Rattle.spki.proofs.encode_public_key.SubjectPublicKeyInfoOwned.from_key.Goals as goal
+use Rattle.spki.proofs.subject_public_key_info.SubjectPublicKeyInfoOwned.from_key.Goals as goal
 
 pub returns-clause-err : goal.returns-clause-err
 returns-clause-err g c =

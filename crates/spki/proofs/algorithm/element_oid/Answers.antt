@@ -1,5 +1,5 @@
 use Rattle.spki.specs.OidLaws.{parses_oid, element_short}
-use Rattle.spki.proofs.algorithm_oids.element_oid.Goals as goal
+use Rattle.spki.proofs.algorithm.element_oid.Goals as goal
 
 pub returns : goal.returns
 returns c =
