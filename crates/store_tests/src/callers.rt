@@ -17,7 +17,8 @@ pub fn certificates(
 ) -> Result<Option<Items<Octets>>, Error>
     requires { length password.now < 2 ^ 57 }
     ensures { IfOk result (λ found. IfSome found (λ certificates. (store : PFX)
-        × (bags : List SafeBag) × IsStore octets.now store × (store_agrees password.now store ≡ true)
+        × (bags : List SafeBag) × IsStore octets.now store
+        × (store_agrees password.now store ≡ true)
         × StoreHolds password.now store bags × (certificates ≡ certificates_among bags))) }
 {
     let store = PFX::parse(alloc, octets)?;
