@@ -5,7 +5,6 @@ use Rattle.asn1_core.specs.declared.error.Error.TheVariants as asn1
 use Rattle.octet_core.specs.Draw.{DrawsIvAndSalt}
 use Rattle.pkcs5.specs.Generation.{recommended}
 use Rattle.pkcs5.specs.Opening.{FitsKey}
-use Rattle.pkcs5.specs.declared.error.Error.TheVariants as pkcs5
 use Rattle.pkcs5.specs.declared.pbes2.parameters.Parameters.{Parameters}
 use Rattle.pkcs8.specs.declared.error.Error.{Error}
 use Rattle.pkcs8.specs.declared.error.Error.TheVariants as errors
@@ -65,13 +64,7 @@ of_some_text T Q m t (Err f) h = tt
 
 -- why the text of a key is not sealed is why the key is not encrypted
 unencrypted : (writable lacks : Type 0) (q m : List ℕ) (e : Error) → writable → RefusesToSealDrawn lacks q m e → RefusesToEncryptDrawn writable lacks q m e
-unencrypted writable lacks q m (errors.EncryptedPrivateKey pkcs5.Rng) w h = (w, h)
-unencrypted writable lacks q m (errors.EncryptedPrivateKey (pkcs5.AlgorithmParametersInvalid o)) w h = absurd h
-unencrypted writable lacks q m (errors.EncryptedPrivateKey pkcs5.DecryptFailed) w h = absurd h
-unencrypted writable lacks q m (errors.EncryptedPrivateKey pkcs5.EncryptFailed) w h = absurd h
-unencrypted writable lacks q m (errors.EncryptedPrivateKey pkcs5.NoPbes1CryptSupport) w h = absurd h
-unencrypted writable lacks q m (errors.EncryptedPrivateKey (pkcs5.UnsupportedAlgorithm o)) w h = absurd h
-unencrypted writable lacks q m (errors.EncryptedPrivateKey pkcs5.Memory) w h = absurd h
+unencrypted writable lacks q m (errors.EncryptedPrivateKey e) w h = (w, h)
 unencrypted writable lacks q m (errors.Asn1 asn1.Overlength) w h = inr h
 unencrypted writable lacks q m (errors.Asn1 asn1.Malformed) w h = absurd h
 unencrypted writable lacks q m (errors.Asn1 (asn1.OidUnknown o)) w h = absurd h

@@ -51,23 +51,22 @@ RefusesToSealUnder par k m (errors.Asn1 asn1.Overlength) = IsTooLongUnder par k 
 RefusesToSealUnder par k m errors.Memory = ⊤
 RefusesToSealUnder par k m e = ⊥
 
--- why a private key is not encrypted under the key k: it has no text, which `writable` says that it has; and then as its text m is not
--- sealed, or that is too long itself
-abbrev pub RefusesToEncryptUnder : Type 0 → Parameters → List ℕ → List ℕ → Error → Type 0
-RefusesToEncryptUnder writable par k m (errors.EncryptedPrivateKey e) = writable × RefusesToSealUnder par k m (errors.EncryptedPrivateKey e)
-RefusesToEncryptUnder writable par k m (errors.Asn1 asn1.Malformed) = ¬ writable
-RefusesToEncryptUnder writable par k m (errors.Asn1 asn1.Overlength) = IsOverlong (length m) ⊎ IsTooLongUnder par k m
-RefusesToEncryptUnder writable par k m errors.Memory = ⊤
-RefusesToEncryptUnder writable par k m e = ⊥
+-- why a private key is not encrypted: it has no text, which `writable` says that it has; its text m is too long; or m is not sealed,
+-- for a reason that `refuses` tells
+abbrev pub RefusesToEncryptText : Type 0 → (Error → Type 0) → List ℕ → Error → Type 0
+RefusesToEncryptText writable refuses m (errors.EncryptedPrivateKey e) = writable × refuses (errors.EncryptedPrivateKey e)
+RefusesToEncryptText writable refuses m (errors.Asn1 asn1.Malformed) = ¬ writable
+RefusesToEncryptText writable refuses m (errors.Asn1 asn1.Overlength) = IsOverlong (length m) ⊎ refuses (errors.Asn1 asn1.Overlength)
+RefusesToEncryptText writable refuses m errors.Memory = ⊤
+RefusesToEncryptText writable refuses m e = ⊥
 
--- why a key is not encrypted: it has no text, which `writable` says that it has; and then as its text m is not sealed, or that is too
--- long itself
+-- the same where m is sealed under the password q
 abbrev pub RefusesToEncryptKey : Type 0 → Parameters → List ℕ → List ℕ → Error → Type 0
-RefusesToEncryptKey writable par q m (errors.EncryptedPrivateKey e) = writable × RefusesToEncrypt par e
-RefusesToEncryptKey writable par q m (errors.Asn1 asn1.Malformed) = ¬ writable
-RefusesToEncryptKey writable par q m (errors.Asn1 asn1.Overlength) = IsOverlong (length m) ⊎ IsTooLong par q m
-RefusesToEncryptKey writable par q m errors.Memory = ⊤
-RefusesToEncryptKey writable par q m e = ⊥
+RefusesToEncryptKey writable par q m = RefusesToEncryptText writable (RefusesToSeal par q m) m
+
+-- the same where m is sealed under the key k
+abbrev pub RefusesToEncryptUnder : Type 0 → Parameters → List ℕ → List ℕ → Error → Type 0
+RefusesToEncryptUnder writable par k m = RefusesToEncryptText writable (RefusesToSealUnder par k m) m
 
 -- ---- under drawn octets
 
@@ -82,10 +81,6 @@ RefusesToSealDrawn lacks q m (errors.Asn1 asn1.Overlength) = IsTooLongDrawn q m
 RefusesToSealDrawn lacks q m errors.Memory = ⊤
 RefusesToSealDrawn lacks q m e = ⊥
 
--- the same of a key
+-- why a private key is not encrypted where m is sealed under drawn octets
 abbrev pub RefusesToEncryptDrawn : Type 0 → Type 0 → List ℕ → List ℕ → Error → Type 0
-RefusesToEncryptDrawn writable lacks q m (errors.EncryptedPrivateKey pkcs5.Rng) = writable × lacks
-RefusesToEncryptDrawn writable lacks q m (errors.Asn1 asn1.Malformed) = ¬ writable
-RefusesToEncryptDrawn writable lacks q m (errors.Asn1 asn1.Overlength) = IsOverlong (length m) ⊎ IsTooLongDrawn q m
-RefusesToEncryptDrawn writable lacks q m errors.Memory = ⊤
-RefusesToEncryptDrawn writable lacks q m e = ⊥
+RefusesToEncryptDrawn writable lacks q m = RefusesToEncryptText writable (RefusesToSealDrawn lacks q m) m

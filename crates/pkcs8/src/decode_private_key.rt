@@ -9,8 +9,7 @@ ghost use Rattle.spki.specs.Seen.{borrowed_any, owned_any};
 
 use crate::encrypted_private_key_info::EncryptedPrivateKeyInfoRef;
 use crate::error::{Error, Result};
-use crate::private_key_forms::read_whole;
-use crate::private_key_info::{PrivateKeyInfoOwned, PrivateKeyInfoRef};
+use crate::private_key_info::{PrivateKeyInfoOwned, PrivateKeyInfoRef, read_whole};
 use der_core::SecretDocument;
 use std::alloc::Global;
 use std::rt::Files;

@@ -8,9 +8,9 @@ ghost use Rattle.pkcs8.specs.declared.error.Error.TheVariants.{Asn1};
 ghost use Rattle.pkcs8.specs.Sealing.{IsSealed, RefusesToSealDrawn};
 ghost use Rattle.pkcs8.specs.Writing.{RefusesToWrite};
 
-use crate::encryption::seal_drawn;
 use crate::error::{Error, Result};
 use crate::private_key_info::{PrivateKeyInfoOwned, PrivateKeyInfoRef};
+use crate::sealing::seal_drawn;
 use der_core::{Encode, SecretDocument};
 use octet_core::Draw;
 use std::alloc::Global;

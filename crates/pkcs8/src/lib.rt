@@ -5,13 +5,12 @@ mod bit_string_like;
 mod decode_private_key;
 mod encode_private_key;
 mod encrypted_private_key_info;
-mod encryption;
 mod error;
 mod fields;
 mod implicit_bit_string;
 pub mod laws;
-mod private_key_forms;
 mod private_key_info;
+mod sealing;
 mod version;
 
 pub use asn1_core::ObjectIdentifier;

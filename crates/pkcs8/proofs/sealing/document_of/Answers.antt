@@ -1,7 +1,7 @@
 use Rattle.std.proofs.lemmas.Result.{err_from_is_err_and}
 use Rattle.pkcs5.specs.declared.encryption_scheme.EncryptionScheme.TheVariants.{Pbes2}
 use Rattle.pkcs8.proofs.Documents.{no_string}
-use Rattle.pkcs8.proofs.encryption.document_of.Goals as goal
+use Rattle.pkcs8.proofs.sealing.document_of.Goals as goal
 
 pub returns-in_err-encrypted_data-clause-err : goal.returns-in_err-encrypted_data-clause-err
 returns-in_err-encrypted_data-clause-err c =

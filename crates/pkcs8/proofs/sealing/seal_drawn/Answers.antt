@@ -1,5 +1,5 @@
 use Rattle.pkcs8.proofs.Drawn.{refused_drawn, sealed_drawn}
-use Rattle.pkcs8.proofs.encryption.seal_drawn.Goals as goal
+use Rattle.pkcs8.proofs.sealing.seal_drawn.Goals as goal
 
 pub returns-in-Ok-clause-ok : goal.returns-in-Ok-clause-ok
 returns-in-Ok-clause-ok g c =
