@@ -1,2 +1,5 @@
+mod Json
+mod Messages
+mod Shell
 mod Shown
 mod Text

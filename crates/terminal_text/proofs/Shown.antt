@@ -1,5 +1,5 @@
 -- What is printed is text that a terminal shows.
-use Rattle.std.proofs.Common.{ℕ, ◌≡◌, ◌%◌, ◌/◌, ◌<◌, ◌++◌, ◌∷◌, [], List, Bool, true, false, zero, suc, refl, sym, ap, ◌∙◌, arith, inl, inr, codes, cond, ◌&&◌, ◌||◌, ◌==◌, nat_lt, nat_le, not}
+use Rattle.std.proofs.Common.{ℕ, ◌≡◌, ◌%◌, ◌/◌, ◌<◌, ◌≤◌, ◌++◌, ◌∷◌, [], List, Bool, true, false, zero, suc, refl, sym, ap, ◌∙◌, arith, inl, inr, codes, cond, ◌&&◌, ◌||◌, ◌==◌, nat_lt, nat_le, not}
 use Rattle.std.proofs.lemmas.Bool.{and_parts, cases_lt}
 use Rattle.std.proofs.lemmas.List.Folds.{list_all-append}
 use Rattle.std.proofs.lemmas.Str.{encodes-IsAscii, encodes-append}
@@ -22,32 +22,46 @@ unfolding is_shown general_category_stepped
 is_printable_stepped = map_stepped is_shown general_category general_category_stepped
 
 -- from the space to the tilde
-abbrev is_plain : ℕ → Bool
+abbrev pub is_plain : ℕ → Bool
 is_plain c = nat_le 32 c && nat_le c 126
 
 unplain_or_printable : (c : ℕ) → c < 128 → (not (is_plain c) || is_printable c) ≡ true
 unfolding tables is_printable_stepped is_shown
 unplain_or_printable c h = Stepped-below is_printable is_printable_stepped (λ x v. not (is_plain x) || v) 128 refl c h
 
-below_127 : (c : ℕ) → nat_le c 126 ≡ true → c < 128
+pub below_127 : (c : ℕ) → nat_le c 126 ≡ true → c < 128
 below_127 c h = grind (arith, h)
 
-plain_printable : (c : ℕ) → is_plain c ≡ true → is_printable c ≡ true
+pub plain_printable : (c : ℕ) → is_plain c ≡ true → is_printable c ≡ true
 plain_printable c h =
     let parts = and_parts (nat_le 32 c) (nat_le c 126) h in
     let either = unplain_or_printable c (below_127 c parts.1) in
     sym (ap (λ b. not b || is_printable c) h) ∙ either
 
-one_ascii : (c : ℕ) → c < 128 → IsAscii (c ∷ [])
+high_or_unprintable : (c : ℕ) → c < 128 → (not (is_printable c) || nat_le 32 c) ≡ true
+unfolding tables is_printable_stepped is_shown
+high_or_unprintable c h = Stepped-below is_printable is_printable_stepped (λ x v. not v || nat_le 32 x) 128 refl c h
+
+-- no character below the space is printable
+pub printable_high : (c : ℕ) → is_printable c ≡ true → 32 ≤ c
+printable_high c h = elim (cases_lt c 32) [
+  | inl low ↦
+      let below : c < 128 = omega arith in
+      let e : nat_le 32 c ≡ true = sym (ap (λ v. not v || nat_le 32 c) h) ∙ high_or_unprintable c below in
+      grind (arith, e)
+  | inr high ↦ high
+]
+
+pub one_ascii : (c : ℕ) → c < 128 → IsAscii (c ∷ [])
 one_ascii c h zero = h
 one_ascii c h (suc i) = omega arith
 
 -- ---- Text
 
-shown_nil : IsShown []
+pub shown_nil : IsShown []
 shown_nil = ([], refl, refl)
 
-shown_append : (xs ys : List ℕ) → IsShown xs → IsShown ys → IsShown (xs ++ ys)
+pub shown_append : (xs ys : List ℕ) → IsShown xs → IsShown ys → IsShown (xs ++ ys)
 shown_append xs ys a b = (
   a.0 ++ b.0,
   encodes-append a.0 b.0 ∙ ap (λ zs. zs ++ encode_utf8_all b.0) a.1 ∙ ap (λ zs. xs ++ zs) b.1,
@@ -61,7 +75,7 @@ shown_plain_char c h = (
   ap (λ p. p && true) (plain_printable c h),
 )
 
-shown_plain : (cs : List ℕ) → list_all is_plain cs ≡ true → IsShown cs
+pub shown_plain : (cs : List ℕ) → list_all is_plain cs ≡ true → IsShown cs
 shown_plain [] h = shown_nil
 shown_plain (c ∷ cs) h =
     let parts = and_parts (is_plain c) (list_all is_plain cs) h in
@@ -73,7 +87,7 @@ shown_each f h (c ∷ cs) = shown_append (f c) (flat_map f cs) (h c) (shown_each
 
 -- ---- Digits
 
-glyph_plain : (d : ℕ) → d < 16 → is_plain (digit_glyph false d) ≡ true
+pub glyph_plain : (d : ℕ) → d < 16 → is_plain (digit_glyph false d) ≡ true
 glyph_plain d h = elim (cases_lt d 10) [
   | inl low ↦ grind (arith, low)
   | inr high ↦ grind (arith, high)
@@ -106,7 +120,7 @@ shown_escape c =
     shown_append (codes "\\u{") (digits 16 false c ++ codes "}") (shown_plain (codes "\\u{") refl)
     (shown_append (digits 16 false c) (codes "}") (shown_hexadecimal c) (shown_plain (codes "}") refl))
 
-shown_itself : (c : ℕ) → is_printable c ≡ true → IsShown (encode_utf8 c)
+pub shown_itself : (c : ℕ) → is_printable c ≡ true → IsShown (encode_utf8 c)
 shown_itself c h = (c ∷ [], append-nil (encode_utf8 c), ap (λ p. p && true) h)
 
 shown_if : (c : ℕ) (is quoted : Bool) → is ≡ is_printable c → IsShown (cond (is && quoted) (encode_utf8 c) (codes "\\u{" ++ digits 16 false c ++ codes "}"))

@@ -4,6 +4,7 @@
 
 mod arguments;
 mod hexadecimal;
+mod json_string;
 mod laws;
 mod printable;
 mod shell_word;
@@ -12,6 +13,7 @@ mod tests;
 
 pub use arguments::{is_password_given, without_values};
 pub use hexadecimal::Hexadecimal;
-pub use laws::printed_is_shown;
+pub use json_string::{JsonHexadecimal, JsonString};
+pub use laws::{json_string_is_text, printed_is_shown, shell_word_is_read, without_values_is_text};
 pub use printable::{InQuotes, Printable, is_printable};
 pub use shell_word::{ShellWord, fits_in_command};

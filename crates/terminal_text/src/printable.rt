@@ -26,7 +26,7 @@ pub fn is_printable(c: char) -> bool
 }
 
 /// Whether a character is printed as it is. Between quotation marks, these and backslashes are not.
-fn stays(c: char, in_quotes: bool) -> bool
+pub(crate) fn stays(c: char, in_quotes: bool) -> bool
     ensures { result ≡ stays in_quotes c }
 {
     is_printable(c) && !(in_quotes && (c == '"' || c == '\\'))

@@ -1,7 +1,7 @@
 //! What is printed of hostile text. The categories are those of Unicode's UnicodeData.txt.
 use crate::{
-    InQuotes, Printable, ShellWord, fits_in_command, is_password_given, is_printable,
-    without_values,
+    Hexadecimal, InQuotes, JsonHexadecimal, JsonString, Printable, ShellWord, fits_in_command,
+    is_password_given, is_printable, without_values,
 };
 
 /// Characters, and whether a terminal shows them: a letter, an emoji, an unassigned one; controls, a soft hyphen, a zero width
@@ -54,4 +54,23 @@ fn text_from_outside_is_escaped(rt: HostRuntime) {
             == "'./-it'\\''s'"
     );
     assert!(rt; !fits_in_command(escape));
+}
+
+/// A tag of a language is a format character above U+FFFF.
+#[test]
+fn strings_of_json_are_printed(rt: HostRuntime) {
+    let tag = "\u{e0001}\"\u{1f511}";
+    assert!(rt;
+        format!(in rt.alloc(); "{}", JsonString(tag))
+            .expect(&rt, "a text")
+            .as_str()
+            == "\"\\udb40\\udc01\\u0022\u{1f511}\""
+    );
+    let octets = [0x0fu8, 0xa0];
+    assert!(rt;
+        format!(in rt.alloc(); "{} {}", JsonHexadecimal(&octets), Hexadecimal(&octets))
+            .expect(&rt, "a text")
+            .as_str()
+            == "\"0fa0\" 0fa0"
+    );
 }
