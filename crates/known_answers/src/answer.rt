@@ -202,6 +202,7 @@ fn rewritten(alloc: Global, text: &str) -> Result<Text, phc_core::Error>
 {
     match PasswordHash::new(text) {
         Ok(hash) => hash.to_text(alloc),
+        // No `?` here: the prover makes no proof of it over a `PasswordHash`.
         Err(e) => Err(e),
     }
 }
@@ -228,6 +229,7 @@ fn tested(password: &[u8], text: &str) -> Result<(), phc_core::Error>
 {
     match PasswordHash::new(text) {
         Ok(hash) => Pbkdf2::SHA256.verify_password(password, &hash),
+        // No `?` here: the prover makes no proof of it over a `PasswordHash`.
         Err(e) => Err(e),
     }
 }

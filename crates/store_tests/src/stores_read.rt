@@ -279,10 +279,8 @@ static ONE_CERTIFICATE: Held<'static> = Held {
 fn bags_of(alloc: Global, text: &[u8], password: &str) -> Result<Items<SafeBag>, Error>
     requires { length password.now < 2 ^ 57 }
 {
-    match calls::store(alloc, text) {
-        Ok(store) => store.bags(alloc, password),
-        Err(e) => Err(e),
-    }
+    let store = calls::store(alloc, text)?;
+    store.bags(alloc, password)
 }
 
 /// Whether there is one bag.
