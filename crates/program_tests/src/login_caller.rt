@@ -32,10 +32,8 @@ fn is_login<D: Draw, L: Ledger>(
     ensures { IfOk result (λ b. Decides b ((e : Entry)
         × (at db.old.entries name.now ≡ Some e) × (right e password.now ≡ true))) }
 {
-    match db.check(draw, name, password, steps) {
-        Ok(reply) => Ok(is_right(reply)),
-        Err(e) => Err(e),
-    }
+    let reply = db.check(draw, name, password, steps)?;
+    Ok(is_right(reply))
 }
 
 /// A file with an entry that the Rust crate `pbkdf2` makes.

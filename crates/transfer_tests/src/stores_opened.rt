@@ -194,10 +194,7 @@ fn what_a_store_gives_is_copied(rt: HostRuntime) {
 
 /// Opens a store, and seals its key as `transferred` does.
 fn opened_and_sealed(alloc: Global, store: &[u8]) -> Result<Transferred, TransferError> {
-    let opened = match opened(alloc, store, 6144) {
-        Ok(opened) => opened,
-        Err(e) => return Err(e),
-    };
+    let opened = opened(alloc, store, 6144)?;
     let mut draw = DrawnBytes::new(Octets::from_slice(alloc, &[0; 32])?);
     seal_opened(alloc, &opened, b"q", 1, &mut draw)
 }
