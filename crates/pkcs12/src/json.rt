@@ -2,56 +2,19 @@
 use crate::listing::{Label, Listing};
 use crate::other_bag::OtherBag;
 use std::alloc::{AllocError, Global};
-use std::fmt;
 use std::fmt::Write;
-use terminal_text::is_printable;
-
-/// A string of JSON. Characters that are not printable are escaped by the units of their UTF-16.
-#[derive(Clone, Copy)]
-pub struct JsonText<'a>(pub &'a str);
-
-impl fmt::Display for JsonText<'_> {
-    fn fmt<W: fmt::Write>(&self, f: &mut fmt::Formatter<W>) -> fmt::Result {
-        f.write_str("\"")?;
-        for c in self.0.chars() {
-            if is_printable(c) && c != '"' && c != '\\' {
-                f.write_char(c)?;
-            } else {
-                let mut pair = [0u16; 2];
-                let units: &[u16] = c.encode_utf16(&mut pair);
-                for unit in units {
-                    write!(f, "\\u{unit:04x}")?;
-                }
-            }
-        }
-        f.write_str("\"")
-    }
-}
-
-/// Octets as a string of hexadecimal digits.
-#[derive(Clone, Copy)]
-pub struct JsonOctets<'a>(pub &'a [u8]);
-
-impl fmt::Display for JsonOctets<'_> {
-    fn fmt<W: fmt::Write>(&self, f: &mut fmt::Formatter<W>) -> fmt::Result {
-        f.write_str("\"")?;
-        for octet in self.0 {
-            write!(f, "{octet:02x}")?;
-        }
-        f.write_str("\"")
-    }
-}
+use terminal_text::{JsonHexadecimal, JsonString};
 
 /// The members that a certificate and a private key have in common.
 fn add_label(text: &mut String, kind: &str, place: usize, label: &Label) -> Result<(), AllocError> {
     write!(text, "{{\"name\": \"{kind}-{place}\", \"friendly_name\": ")?;
     match label.friendly_name() {
-        Some(name) => write!(text, "{}", JsonText(name))?,
+        Some(name) => write!(text, "{}", JsonString(name))?,
         None => text.push_str("null")?,
     }
     text.push_str(", \"local_key_id\": ")?;
     match label.local_key_id() {
-        Some(id) => write!(text, "{}", JsonOctets(id)),
+        Some(id) => write!(text, "{}", JsonHexadecimal(id)),
         None => text.push_str("null"),
     }
 }

@@ -1,6 +1,6 @@
 //! What `list` says, in JSON (RFC 8259).
 use crate::chains::is_whole;
-use crate::json::{JsonOctets, JsonText, add_comma, add_others};
+use crate::json::{add_comma, add_others};
 use crate::listed::{Certificate, Certificates, Validity, When};
 use crate::listed_text::SerialNumber;
 use crate::listing::{Label, Listing};
@@ -8,11 +8,12 @@ use crate::public_key::PublicKey;
 use inventory_core::Parent;
 use std::alloc::{AllocError, Global};
 use std::fmt::Write;
+use terminal_text::{JsonHexadecimal, JsonString};
 
 /// Adds a member that is a string, or null.
 fn add_text(text: &mut String, name: &str, value: Option<&str>) -> Result<(), AllocError> {
     match value {
-        Some(value) => write!(text, ", \"{name}\": {}", JsonText(value)),
+        Some(value) => write!(text, ", \"{name}\": {}", JsonString(value)),
         None => write!(text, ", \"{name}\": null"),
     }
 }
@@ -56,7 +57,7 @@ fn add_validity(
 fn add_key(text: &mut String, certificate: &Certificate<'_>) -> Result<(), AllocError> {
     let key = PublicKey::new(certificate.view.spki);
     match key.kind() {
-        Some(kind) => write!(text, ", \"key\": {}", JsonText(kind))?,
+        Some(kind) => write!(text, ", \"key\": {}", JsonString(kind))?,
         None => write!(
             text,
             ", \"key\": \"{}\"",
@@ -69,7 +70,7 @@ fn add_key(text: &mut String, certificate: &Certificate<'_>) -> Result<(), Alloc
         None => text.push_str(", \"bits\": null")?,
     }
     match &certificate.key_digest {
-        Some(digest) => write!(text, ", \"key_sha256\": {}", JsonOctets(digest)),
+        Some(digest) => write!(text, ", \"key_sha256\": {}", JsonHexadecimal(digest)),
         None => text.push_str(", \"key_sha256\": null"),
     }
 }
@@ -89,7 +90,11 @@ fn add_certificate(
     )?;
     add_validity(text, certificate.validity.as_ref(), now)?;
     add_key(text, certificate)?;
-    write!(text, ", \"sha256\": {}", JsonOctets(&certificate.digest))?;
+    write!(
+        text,
+        ", \"sha256\": {}",
+        JsonHexadecimal(&certificate.digest)
+    )?;
     let is_own_issuer = certificate.parent == Parent::Itself;
     write!(text, ", \"is_own_issuer\": {is_own_issuer}")?;
     let issued_by = match certificate.parent {
