@@ -46,7 +46,7 @@ bags_draw_cons g gs = sum_by-cons bag_draws g gs
 pub key_draw : (g : SafeBag) (k : EncryptedPrivateKeyInfo) → g.bag ≡ kind.Pkcs8ShroudedKeyBag k → bag_draws g ≡ drawn_for k.encryption_algorithm
 key_draw g k e = let zero_more : 0 + drawn_for k.encryption_algorithm ≡ drawn_for k.encryption_algorithm = omega arith in ap (λ (x : SafeBagKind). sum_by key_draws (shrouded_in x)) e ∙ zero_more
 
-bags_keys : (gs : List SafeBag) → bags_draw gs ≡ sum_by key_draws (shrouded_among gs)
+pub bags_keys : (gs : List SafeBag) → bags_draw gs ≡ sum_by key_draws (shrouded_among gs)
 bags_keys [] = refl
 bags_keys (g ∷ gs) = bags_draw_cons g gs ∙ ap (λ (n : ℕ). bag_draws g + n) (bags_keys gs) ∙ sym (sum_by-append key_draws (shrouded_in g.bag) (shrouded_among gs))
 

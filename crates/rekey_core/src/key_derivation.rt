@@ -1,9 +1,11 @@
 //! The keys that one change of a store derives, before it seals a part.
-ghost use Rattle.std.specs.Prelude.{◌≡◌, ◌≤◌, ◌<◌, ◌+◌, length, map, IfOk, IfErr};
-ghost use Rattle.std.specs.List.{sum_by};
+ghost use Rattle.std.specs.Prelude.{◌≡◌, ◌≤◌, ◌<◌, ◌+◌, ◌++◌, ◌≢◌, All, Some, drop, length, map, take, IfOk, IfErr, OnOk};
+ghost use Rattle.std.specs.List.{slice_get, sum_by};
 ghost use Rattle.pkcs5.specs.Opening.{sha256_key};
 ghost use Rattle.rekey_core.specs.Anew.{content_draws, drawn_for};
+ghost use Rattle.rekey_core.specs.Deriving.{key_algorithms, keys_in, part_algorithms, rounds_and_salt, rounds_and_salts, seen_parts, seen_runs};
 ghost use Rattle.rekey_core.specs.Sealing.{bags_draw};
+ghost use Rattle.rekey_core.specs.declared.key_derivation.RoundsAndSalt.{RoundsAndSalt};
 ghost use Rattle.transfer.specs.declared.store.error.TransferError.TheVariants as refusal;
 
 use crate::algorithm::{IV, drawn_for, rounds_of};
@@ -30,6 +32,9 @@ fn add_part<'a>(
     requires { drawn_for algorithm.now ≤ length drawn.now }
     ensures left { IfOk result
         (λ left. length drawn.now ≡ drawn_for algorithm.now + length left.now) }
+    ensures after { IfOk result (λ left. left.now ≡ drop (drawn_for algorithm.now) drawn.now) }
+    ensures part { OnOk result (seen_parts parts.new ≡ seen_parts parts.old
+        ++ rounds_and_salt algorithm.now (take (drawn_for algorithm.now) drawn.now)) }
     ensures err { IfErr result (λ e. e ≡ refusal.Memory) }
 {
     let (own, left) = drawn.split_at(drawn_for(algorithm));
@@ -51,6 +56,9 @@ fn add_keys<'a>(
 ) -> Result<&'a [u8], TransferError>
     requires { bags_draw bags.now ≤ length drawn.now }
     ensures left { IfOk result (λ left. length drawn.now ≡ bags_draw bags.now + length left.now) }
+    ensures after { IfOk result (λ left. left.now ≡ drop (bags_draw bags.now) drawn.now) }
+    ensures parts { OnOk result (seen_parts parts.new ≡ seen_parts parts.old
+        ++ rounds_and_salts (key_algorithms bags.now) drawn.now) }
     ensures err { IfErr result (λ e. e ≡ refusal.Memory) }
 {
     let mut left = drawn;
@@ -73,7 +81,9 @@ fn parts_of(
     drawn: &[u8],
 ) -> Result<Items<RoundsAndSalt>, TransferError>
     requires { sum_by content_draws contents.now + sum_by bags_draw bags.now ≤ length drawn.now }
-    ensures { IfErr result (λ e. e ≡ refusal.Memory) }
+    ensures parts { IfOk result (λ parts. seen_parts parts
+        ≡ rounds_and_salts (part_algorithms contents.now bags.now) drawn.now) }
+    ensures err { IfErr result (λ e. e ≡ refusal.Memory) }
 {
     let mut parts = Items::new(alloc);
     let mut left = drawn;
@@ -99,6 +109,10 @@ fn run_length(parts: &[RoundsAndSalt]) -> usize
     requires { 0 < length parts.now }
     ensures some { 0 < result }
     ensures inside { result ≤ length parts.now }
+    ensures equal { (first : RoundsAndSalt) → slice_get parts.now 0 ≡ Some first
+        → All (λ p. p.rounds ≡ first.rounds) (take result parts.now) }
+    ensures longest { (first next : RoundsAndSalt) → slice_get parts.now 0 ≡ Some first
+        → slice_get parts.now result ≡ Some next → next.rounds ≢ first.rounds }
 {
     let rounds = parts[0].rounds;
     let mut number = 1;
@@ -110,7 +124,8 @@ fn run_length(parts: &[RoundsAndSalt]) -> usize
 
 /// The salts of parts. The only error is `Memory`.
 fn salts_of(alloc: Global, parts: &[RoundsAndSalt]) -> Result<Items<Salt>, TransferError>
-    ensures { IfErr result (λ e. e ≡ refusal.Memory) }
+    ensures ok { IfOk result (λ salts. salts ≡ map (λ p. p.salt) parts.now) }
+    ensures err { IfErr result (λ e. e ≡ refusal.Memory) }
 {
     let mut salts = Items::new(alloc);
     for part in parts {
@@ -143,7 +158,10 @@ fn derive_run<'a>(
     rounds: u32,
     run: &[RoundsAndSalt],
 ) -> Result<DerivedKeys<'a>, TransferError>
-    ensures { IfErr result (λ e. e ≡ refusal.Memory) }
+    ensures rounds { IfOk result (λ made. made.rounds ≡ rounds) }
+    ensures salts { IfOk result (λ made. made.salts ≡ map (λ p. p.salt) run.now) }
+    ensures password { IfOk result (λ made. made.password.now ≡ password.now) }
+    ensures err { IfErr result (λ e. e ≡ refusal.Memory) }
 {
     let salts = salts_of(alloc, run)?;
     let keys = keys_of(alloc, password, rounds, salts.as_slice())?;
@@ -166,7 +184,13 @@ pub(crate) fn derive_for<'a>(
     new: &'a str,
 ) -> Result<Items<DerivedKeys<'a>>, TransferError>
     requires { sum_by content_draws contents.now + sum_by bags_draw bags.now ≤ length drawn.now }
-    ensures { IfErr result (λ e. e ≡ refusal.Memory) }
+    ensures parts { IfOk result (λ runs. seen_runs runs
+        ≡ rounds_and_salts (part_algorithms contents.now bags.now) drawn.now) }
+    ensures password { IfOk result (All (λ run. run.password.now ≡ new.now)) }
+    ensures keys { IfOk result (λ runs. keys_in runs
+        ≡ map (λ part. sha256_key part.0 new.now part.1)
+        (rounds_and_salts (part_algorithms contents.now bags.now) drawn.now)) }
+    ensures err { IfErr result (λ e. e ≡ refusal.Memory) }
 {
     let parts = parts_of(alloc, contents, bags, drawn)?;
     let mut derived = Items::new(alloc);
