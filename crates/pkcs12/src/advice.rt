@@ -8,8 +8,8 @@ Write the store anew with algorithms that are opened (OpenSSL handles one privat
     openssl pkcs12 -in STORE.p12 -out all.pem
     openssl pkcs12 -export -in all.pem -out NEW.p12 -certpbe AES-256-CBC -keypbe AES-256-CBC -macalg sha256
     rm all.pem
-Add -legacy to the first command if the store is under RC2, and -nokeys to the second if it has \
-    no private key.";
+Add -legacy to the first command if the store is under RC2, and to the second -nokeys if it has no \
+private key, or else -name NAME, since friendly names are lost on this way.";
 
 const LOOK: &str = "\
 Look whether it is the right file. To see what is in it:
@@ -18,13 +18,16 @@ OpenSSL can convert a store from BER to DER:
     openssl pkcs12 -in STORE.p12 -out all.pem
     openssl pkcs12 -export -in all.pem -out NEW.p12
     rm all.pem
-Add -nokeys to the second command if the store has no private key.";
+Add to the second command -nokeys if the store has no private key, or else -name NAME, since \
+friendly names are lost on this way.";
 
 const DAMAGED: &str = "\
 Have it exported again where it came from. If OpenSSL reads it, it can write it anew:
     openssl pkcs12 -in STORE.p12 -out all.pem
     openssl pkcs12 -export -in all.pem -out NEW.p12
-    rm all.pem";
+    rm all.pem
+Add to the second command -nokeys if the store has no private key, or else -name NAME, since \
+friendly names are lost on this way.";
 
 const NO_MAC: &str = "\
 Anybody may have changed it. Have it exported again, with a MAC, where it came from.
@@ -37,7 +40,8 @@ both passwords:
     openssl pkcs12 -twopass -in STORE.p12 -out all.pem
     openssl pkcs12 -export -in all.pem -out NEW.p12
     rm all.pem
-Add -nokeys to the second command if the store has no private key.";
+Add to the second command -nokeys if the store has no private key, or else -name NAME, since \
+friendly names are lost on this way.";
 
 const PASSWORD: &str = "\
 This program does not ask for it; the script ./pkcs12 beside it does, at a terminal. Or give it \

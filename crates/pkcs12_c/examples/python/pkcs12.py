@@ -14,12 +14,31 @@ import sys
 DONE, ROOM = 0, 100
 STORE_MAX = 16_777_215
 
+# What the numbers of pkcs12.h mean.
+MEANINGS = {
+    2: "the rounds are not 1 to 100,000,000",
+    7: "out of memory",
+    10: "no PKCS#12 store in DER",
+    11: "something is of a kind, or under an algorithm, that is not opened",
+    12: "no MAC, so a change to the store would go unnoticed",
+    13: "the MAC is made neither with SHA-1 nor with SHA-256",
+    14: "the store asks for zero iterations",
+    15: "opening takes more steps than the limit",
+    16: "the password is wrong, or the store was changed",
+    17: "the MAC agrees, but the contents are damaged",
+    18: "the password agrees with the MAC, but a part does not decrypt with it",
+    19: "a private key opens, but is not a PKCS#8 key",
+    20: "too few random octets",
+    21: "the store has more than 16,777,215 octets",
+    22: "a password of a store is not UTF-8, or is too long",
+}
+
 
 class Refused(Exception):
     """A store was refused; `number` is one of those of pkcs12.h."""
 
     def __init__(self, number):
-        super().__init__(f"refused: {number}")
+        super().__init__(f"refused ({number}): {MEANINGS.get(number, 'see pkcs12.h')}")
         self.number = number
 
 
