@@ -46,7 +46,7 @@ Exit numbers:
   20  Rng                 the system gave no random octets
   21  TooLong             the store has more than 16,777,215 octets
   22  PasswordUnusable    a password is not UTF-8 or too long, or a new one is empty or has a NUL
-  23  OutputExists        the output folder is there and cannot be replaced
+  23  OutputExists        the output is there and cannot be replaced
   24  SelfTestFailed      the self-test gave a wrong result
   25  NotExported         the store has something that is not exported; nothing was written
   26  SealLimit           the private keys take more rounds than --seal-limit allows

@@ -25,7 +25,7 @@ pub enum Ending {
     NewPasswordMissing,
     /// A password is not UTF-8, has more than 1,024 octets, or is an empty new one.
     PasswordUnusable,
-    /// The output folder is there, and cannot be replaced.
+    /// The output is there, and cannot be replaced.
     OutputExists,
     /// The self-test gave a wrong result.
     SelfTestFailed,
