@@ -150,7 +150,10 @@ holds makes_an_entry_with_few_rounds_anew renews
 
 # --- arguments ---
 
-holds refuses_no_arguments ends 2
+no_arguments() {
+    ends 2 && grep -qx 'passdb: Usage (2): give a subcommand: add, check, change, remove or list; see ./passdb --help' "$work/told"
+}
+holds refuses_no_arguments no_arguments
 holds refuses_another_subcommand ends 2 frobnicate "$file"
 for bad in '' Bob b_b "$(printf 'b%.0s' $(seq 33))" 'b:b' 'b b' 'bö'; do
     holds "refuses_the_name_${bad:-empty}" fails 2 Usage '1 to 32 characters' add "$file" "$bad" --password-file "$work/one"

@@ -82,7 +82,7 @@ test_variable() {
     case $1 in
         '' | [0-9]* | *[!A-Za-z0-9_]*) wrapper_reason="of letters, digits and underscores: a shell hands on no other" ;;
         _ | IFS | OLDPWD | OPTIND | PPID | PWD | SHLVL | PKCS12_ASKING | PASSDB_ASKING | PASSDB_WAITING | pkcs12_* | passdb_* | wrapper_*)
-            wrapper_reason="and none that a shell or this script sets itself"
+            wrapper_reason="which is none that a shell sets itself, and does not begin with pkcs12_, passdb_ or wrapper_"
             ;;
         *) return 0 ;;
     esac

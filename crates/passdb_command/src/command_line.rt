@@ -12,8 +12,8 @@ at a terminal. Of a file, its first line is the password, without LF or CR LF; /
 const AFTER: &str = "\
 A file has a line NAME:HASH for each name, HASH being a PHC string of PBKDF2. It is written anew beside its place and
 then renamed: it is never half written. A new file is for its owner alone (mode 0600); one that is there keeps owner
-and group, and stays readable for the group. While it is changed FILE.lock is there, so that of two runs at the same
-time both changes are kept.
+and group, and of its mode what is within 0640: others cannot read it afterwards. While it is changed FILE.lock is
+there, so that of two runs at the same time both changes are kept.
 
 Examples:
   ./passdb add users ann

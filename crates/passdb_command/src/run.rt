@@ -241,6 +241,9 @@ fn run_list<R: Runtime + AllocGlobal>(rt: &R, file: &str) -> Result<(), Failure>
     printed(alloc, rt.print(text.as_str()))
 }
 
+const NO_SUBCOMMAND: &str = "\
+give a subcommand: add, check, change, remove or list; see ./passdb --help";
+
 /// What clap says of arguments that it refuses.
 fn refused(alloc: Global, error: &clap::Error) -> Result<String, AllocError> {
     let text = format!(in alloc; "{error}")?;
@@ -257,6 +260,9 @@ fn shown<R: Print + Eprint + AllocGlobal>(rt: &R, error: clap::Error) -> Result<
     match error.kind() {
         ErrorKind::OutOfMemory => Err(Failure::from(AllocError)),
         ErrorKind::DisplayHelp | ErrorKind::DisplayVersion => printed(rt.alloc(), error.print(rt)),
+        ErrorKind::DisplayHelpOnMissingArgumentOrSubcommand | ErrorKind::MissingSubcommand => Err(
+            Failure::new(Ending::Usage, NO_SUBCOMMAND),
+        ),
         _ => Err(Failure::told(Ending::Usage, refused(rt.alloc(), &error))),
     }
 }
