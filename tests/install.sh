@@ -171,6 +171,12 @@ for_packagers() {
         status 0 env "DESTDIR=$work/stage" "$home/pkcs12" uninstall /usr && nothing_at "$work/stage/usr"
 }
 holds DESTDIR_for_packagers for_packagers
+# The installed command removes itself, wherever packages are made.
+installed_uninstall_with_destdir() {
+    status 0 "$home/pkcs12" install "$work/with-destdir" && status 0 env "DESTDIR=$work/stage" "$work/with-destdir/bin/pkcs12" uninstall &&
+        nothing_at "$work/with-destdir"
+}
+holds the_installed_command_takes_no_DESTDIR installed_uninstall_with_destdir
 relative_folders() {
     mkdir -p "$work/relative" && (
         cd "$work/relative" && status 0 env DESTDIR=stage "$home/pkcs12" install /usr && [ "$(files_and_modes stage/usr)" = "$expected" ] &&

@@ -131,8 +131,10 @@ remove_folders() {
 find_library() {
     pkcs12_archive=
     pkcs12_c=$wrapper_home/crates/pkcs12_c
-    if ! command -v "${CC:-cc}" >/dev/null; then
-        echo "without the library for C: there is no ${CC:-cc}" >&2
+    # CC may have options, as make takes it.
+    pkcs12_compiler=${CC:-cc}
+    if ! command -v "${pkcs12_compiler%% *}" >/dev/null; then
+        echo "without the library for C: there is no ${pkcs12_compiler%% *}" >&2
         return 0
     fi
     if [ ! -f "$pkcs12_c/out/libpkcs12_c.a" ]; then

@@ -14,6 +14,8 @@ pkcs12_program=$pkcs12_scripts/pkcs12
 if [ "${1-}" = uninstall ]; then
     . "$pkcs12_scripts/install.sh"
     [ $# -eq 1 ] || wrong_use "$0 uninstall removes itself, and takes no arguments"
+    # That is for packagers, who run the script of the tree.
+    unset DESTDIR
     uninstall "$pkcs12_prefix/"
     exit 0
 fi

@@ -1,6 +1,7 @@
 #!/bin/sh
 # make_library.sh FOLDER: makes libpkcs12.a and libpkcs12.so.1 in the folder, from the archive that `rt lib` leaves in out/ and the
-# allocator of heap.c. CC and AR name other programs than cc and ar.
+# allocator of heap.c. CC and AR name other programs than cc and ar; CC may have options.
+# shellcheck disable=SC2086 # so that it may
 set -eu
 
 crate=$(cd "$(dirname "$0")/.." && pwd)
@@ -12,9 +13,9 @@ archive=$crate/out/libpkcs12_c.a
 }
 work=$(mktemp -d)
 trap 'rm -rf "$work"' EXIT
-"${CC:-cc}" -O2 -fPIC -Wall -Wextra -c "$crate/link/heap.c" -o "$work/heap.o"
+${CC:-cc} -O2 -fPIC -Wall -Wextra -c "$crate/link/heap.c" -o "$work/heap.o"
 cp "$archive" "$work/libpkcs12.a"
 "${AR:-ar}" rs "$work/libpkcs12.a" "$work/heap.o" 2>/dev/null
-"${CC:-cc}" -shared -s -o "$work/libpkcs12.so.1" -Wl,-soname,libpkcs12.so.1 -Wl,--version-script="$crate/link/pkcs12.map" \
+${CC:-cc} -shared -s -o "$work/libpkcs12.so.1" -Wl,-soname,libpkcs12.so.1 -Wl,--version-script="$crate/link/pkcs12.map" \
     -Wl,--gc-sections -Wl,-z,relro,-z,now -Wl,--whole-archive "$work/libpkcs12.a" -Wl,--no-whole-archive
 mv -f "$work/libpkcs12.a" "$work/libpkcs12.so.1" "$folder"
