@@ -274,6 +274,14 @@ holds empty_subcommand ends 2 ""
 holds no_arguments ends 2
 holds wrong_password fails 16 MacMismatch "password is wrong" check "$plain" --password-file "$work/new"
 holds low_limit fails 15 WorkLimit "--limit" check "$plain" --password-file "$plain_password" --limit 2047
+# The store takes 6,144 steps: 2,048 for the MAC, for the certificates and for the key. What is seen of them before it is opened is fewer.
+one_step_too_few() {
+    folder=$home/examples/openssl-default
+    fails 15 WorkLimit "opening the store takes more than the 6143 steps that --limit allows" check "$folder/store.p12" \
+        --password-file "$folder/password" --limit 6143 && grep -q 'a larger limit than 6143' "$work/told" &&
+        ends 0 check "$folder/store.p12" --password-file "$folder/password" --limit 6144
+}
+holds a_limit_of_one_step_too_few one_step_too_few
 holds no_store fails 10 Malformed "not a PKCS#12 store" check "$home/examples/cert-0.der" --password-file "$plain_password"
 holds no_store_before_any_password fails 10 Malformed "not a PKCS#12 store" check "$home/examples/cert-0.der"
 holds rounds_have_bounds fails 2 Usage "1 to 100000000" export "$keyed" --out "$work/none" --rounds 0

@@ -191,21 +191,24 @@ holds refuses_a_folder fails 3 ReadFault 'is not a file' list "$work"
 holds refuses_a_device fails 3 ReadFault 'is not a file' list /dev/zero
 mkfifo "$work/pipe"
 holds refuses_a_pipe fails 3 ReadFault 'is not a file' list "$work/pipe"
+# The file that has the text $1 is refused with the text $2, and is as it was.
 malformed() {
     printf '%b' "$1" >"$work/bad"
     cp "$work/bad" "$work/before"
-    fails 6 Malformed 'not a password file' add "$work/bad" eve --password-file "$work/one" && cmp -s "$work/bad" "$work/before" && nothing_beside "$work/bad"
+    fails 6 Malformed "$work/bad is not a password file: $2" add "$work/bad" eve --password-file "$work/one" &&
+        cmp -s "$work/bad" "$work/before" && nothing_beside "$work/bad"
 }
-holds refuses_an_empty_line malformed '\n'
-holds refuses_another_text malformed 'root:x:0:0:root:/root:/bin/sh\n'
-holds refuses_nul malformed 'a\0000b\n'
-holds refuses_octets_that_are_no_text malformed '\0377\0376\n'
-without_last_feed() { malformed "$(head -n 1 "$file")"; }
-holds refuses_a_last_line_without_line_feed without_last_feed
-with_cr_lf() { malformed "$(head -n 1 "$file")\\r\\n"; }
-holds refuses_lines_that_end_in_cr_lf with_cr_lf
-twice() { malformed "$(head -n 1 "$file")\\n$(head -n 1 "$file")\\n"; }
-holds refuses_a_name_twice twice
+entry=$(head -n 1 "$file")
+hash=${entry#*:}
+holds refuses_an_empty_line malformed '\n' 'line 1 is not NAME:HASH'
+holds refuses_another_text malformed 'root:x:0:0:root:/root:/bin/sh\n' 'line 1 is not NAME:HASH'
+holds refuses_nul malformed 'a\0000b\n' 'line 1 is not NAME:HASH'
+holds refuses_octets_that_are_no_text malformed '\0377\0376\n' 'it is not UTF-8'
+holds refuses_a_last_line_without_line_feed malformed "$entry" 'line 1 has no LF at its end'
+holds refuses_lines_that_end_in_cr_lf malformed "$entry\\r\\n" 'line 1 ends with CR LF'
+holds refuses_a_name_twice malformed "$entry\\n$entry\\n" 'line 2 has a name that does not come after'
+holds refuses_names_that_are_not_sorted malformed "a:$hash\\nc:$hash\\nb:$hash\\nd:$hash\\n" 'line 3 has a name that does not come after'
+holds says_which_line_is_wrong malformed "a:$hash\\nb:$hash\\nc d:$hash\\n" 'line 3 is not NAME:HASH'
 huge() {
     head -c 67108865 /dev/zero >"$work/huge"
     fails 6 Malformed '67,108,864' list "$work/huge"

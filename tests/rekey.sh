@@ -192,13 +192,12 @@ holds closed_descriptors_are_no_harm closed_descriptors
 
 full_disk() {
     cp "$keyed" "$work/full.p12" && cp "$keyed_password" "$work/full-password" || return 1
-    # No file may grow: the changed store cannot be written.
+    # No file may grow: neither can the changed store be written nor what is said of that, and nobody is killed by it.
     code=0
     (
         ulimit -f 0
-        trap '' XFSZ
         setsid -w "$home/pkcs12" rekey "$work/full.p12" --in-place --password-file "$work/full-password" \
-            --new-password-file "$work/new" >/dev/null 2>/dev/null
+            --new-password-file "$work/new" >/dev/null 2>"$work/nothing-said"
     ) || code=$?
     [ "$code" -eq 4 ] && cmp "$keyed" "$work/full.p12" && [ ! -e "$work/full.p12".part-* ]
 }

@@ -1,5 +1,6 @@
 //! The arguments of the command, as `--help` shows them.
-use clap::{Arg, ArgAction, Command};
+use clap::Command;
+use command_base::{Argument, Form, with_arguments};
 use std::alloc::{AllocError, Global};
 
 /// What is under the options of each subcommand that takes a password.
@@ -40,29 +41,6 @@ Exit numbers:
   12  NameExists          the file has the name already
   20  Rng                 the system gave no random octets
   22  PasswordUnusable    a password is not UTF-8, too long, or an empty new one";
-
-/// How an argument is given. The first text stands for its value in the help; the second, where there is one, is its default.
-#[derive(Clone, Copy)]
-enum Form {
-    /// By its place, and never left out.
-    Place(&'static str),
-    /// As an option that may be left out.
-    Optional(&'static str),
-    /// As an option of a number that has a default; one below zero is read too, so that its refusal says which numbers there are.
-    Number(&'static str, &'static str),
-    /// As an option without a value.
-    Flag,
-}
-
-/// An argument of a subcommand.
-struct Argument {
-    /// Its name, which is that of its option too.
-    name: &'static str,
-    form: Form,
-    /// The group of which at most one is given.
-    group: Option<&'static str>,
-    help: &'static str,
-}
 
 const FILE: Argument = Argument {
     name: "file",
@@ -155,47 +133,6 @@ static OF_REMOVE: [Argument; 2] = [FILE, NAME];
 
 /// Those of `list`.
 static OF_LIST: [Argument; 1] = [FILE];
-
-/// An option that takes a value.
-fn option<'a>(arg: Arg<'a>, name: &'a str, value: &'a str) -> Arg<'a> {
-    arg.long(name).value_name(value)
-}
-
-/// The argument, for clap.
-fn described<'a>(alloc: Global, argument: &Argument) -> Arg<'a> {
-    let name = argument.name;
-    let arg = Arg::new(alloc, name).help(argument.help);
-    match argument.form {
-        Form::Place(value) => arg.value_name(value).required(true),
-        Form::Optional(value) => option(arg, name, value),
-        Form::Number(value, default) => option(arg, name, value)
-            .allow_negative_numbers(true)
-            .default_value(default),
-        Form::Flag => arg.long(name).action(ArgAction::SetTrue),
-    }
-}
-
-/// The same, in its group where it has one.
-fn grouped<'a>(alloc: Global, argument: &Argument) -> Result<Arg<'a>, AllocError> {
-    let arg = described(alloc, argument);
-    match argument.group {
-        Some(group) => arg.group(group),
-        None => Ok(arg),
-    }
-}
-
-/// The command with these arguments.
-fn with_arguments<'a>(
-    alloc: Global,
-    command: Command<'a>,
-    arguments: &[Argument],
-) -> Result<Command<'a>, AllocError> {
-    let mut command = command;
-    for argument in arguments {
-        command = command.arg(grouped(alloc, argument)?)?;
-    }
-    Ok(command)
-}
 
 /// The command with one subcommand more.
 fn with_subcommand<'a>(

@@ -2,6 +2,7 @@
 ghost use Rattle.std.specs.Prelude.{◌≡◌};
 ghost use Rattle.passdb_command.specs.Ending.{code_of};
 
+use command_base::Message;
 use passdb_core::DbError;
 use std::alloc::{AllocError, AllocFailed, Global};
 use std::io;
@@ -77,22 +78,6 @@ impl Ending {
             Ending::NameExists => "NameExists",
             Ending::Rng => "Rng",
             Ending::PasswordUnusable => "PasswordUnusable",
-        }
-    }
-}
-
-/// Text for the user.
-#[derive(Drop)]
-pub enum Message {
-    Fixed(&'static str),
-    Made(String),
-}
-
-impl Message {
-    pub fn as_str(&self) -> &str {
-        match self {
-            Message::Fixed(text) => text,
-            Message::Made(text) => text.as_str(),
         }
     }
 }

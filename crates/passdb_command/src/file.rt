@@ -1,9 +1,10 @@
 //! The password file: it is there whole, as it was or as it is to be.
 ghost use Rattle.std.specs.Prelude.{◌≤◌};
 
-use crate::attributes::Attributes;
 use crate::ending::{Ending, Failure};
-use passdb_core::Db;
+use crate::malformed::{malformed, not_text};
+use command_base::{Attributes, parent};
+use passdb_core::{Db, DbError};
 use std::alloc::{AllocError, Global};
 use std::fs::{OpenFile, OpenOptions};
 use std::io::Write;
@@ -14,15 +15,6 @@ use terminal_text::{Printable, ShellWord, fits_in_command};
 
 /// The most octets of a file.
 const MOST_OCTETS: u64 = 67_108_864;
-
-/// The folder that this path is in.
-fn parent(path: &str) -> &str {
-    match path.rsplit_once('/') {
-        Some(("", _)) => "/",
-        Some((parent, _)) => parent,
-        None => ".",
-    }
-}
 
 fn read_fault(alloc: Global, path: &str, error: io::Error) -> Failure {
     Failure::io(alloc, Ending::ReadFault, "the file", path, error)
@@ -127,25 +119,16 @@ fn octets_of<R: Files + AllocGlobal>(rt: &R, path: &str) -> Result<Option<Vec<u8
     }
 }
 
-/// The failure of a file that is no password file.
-fn malformed(alloc: Global, path: &str) -> Failure {
-    let shown = Printable(path);
-    let text = format!(in alloc;
-        "{shown} is not a password file: lines NAME:HASH, with LF after each, names in order"
-    );
-    Failure::told(Ending::Malformed, text)
-}
-
 fn parsed(alloc: Global, path: &str, octets: &[u8], rounds: u32) -> Result<Db, Failure>
     requires some { 1000 ≤ rounds }
     requires few { rounds ≤ 10000000 }
 {
     let Ok(text) = std::str::from_utf8(octets) else {
-        return Err(malformed(alloc, path));
+        return Err(not_text(alloc, path));
     };
     match Db::parse(alloc, text, rounds) {
         Ok(db) => Ok(db),
-        Err(passdb_core::DbError::Malformed) => Err(malformed(alloc, path)),
+        Err(DbError::Malformed) => Err(malformed(alloc, path, text)),
         Err(error) => Err(Failure::from(error)),
     }
 }

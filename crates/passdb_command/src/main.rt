@@ -1,11 +1,10 @@
 //! The command for people: `passdb add`, `check`, `change`, `remove` and `list`.
 #![tactic(auto)]
 
-mod attributes;
 mod command_line;
 mod ending;
 mod file;
-mod origin;
+mod malformed;
 mod password;
 mod request;
 mod run;

@@ -1,59 +1,35 @@
-//! Passwords.
-ghost use Rattle.std.specs.Prelude.{◌≡◌, ◌≤◌, ◌↔◌, IfOk, IfErr, IsOk, length};
-ghost use Rattle.std.specs.String.{string_bytes};
+//! Passwords of names.
+ghost use Rattle.std.specs.Prelude.{◌≡◌, ◌≤◌, IfOk, IfErr, length};
 
 use crate::ending::{Ending, Failure};
-use std::marker::Model;
+use command_base::{Origin, Password, PasswordError};
+use std::alloc::{AllocError, Global};
+use std::rt::{Env, Files};
 
-/// The most octets of a password.
-pub const LONGEST: usize = 1024;
-
-/// A password of at most 1,024 octets in UTF-8. It has no `Debug`, so that it is never printed.
-#[derive(Drop)]
-pub struct Password {
-    text: String,
+/// The failure of a password for this purpose, which was to come from this origin.
+fn not_had(
+    alloc: Global,
+    purpose: &'static str,
+    origin: Origin<'_>,
+    error: PasswordError,
+) -> Failure {
+    let ending = match error {
+        PasswordError::TooLong | PasswordError::NotUtf8 => Ending::PasswordUnusable,
+        PasswordError::NoVariable | PasswordError::Unread(_) => Ending::ReadFault,
+        PasswordError::Memory => return Failure::from(AllocError),
+    };
+    Failure::told(ending, error.text(alloc, purpose, origin))
 }
 
-impl Model for Password {
-    ghost use Rattle.std.specs.Prelude.{ℕ, List, ◌≤◌, length};
-    ghost use Rattle.std.specs.String.{string_bytes};
-
-    ghost Value = { List ℕ };
-
-    ghost view = { λ p. string_bytes p.text };
-
-    ghost invariant = { λ p. length (string_bytes p.text) ≤ 1024 };
-}
-
-/// The failure of a password that is too long.
-pub fn too_long() -> Failure
-    ensures { result.ending ≡ Ending.PasswordUnusable }
-{
-    Failure::new(
-        Ending::PasswordUnusable,
-        "a password has more than 1,024 octets",
-    )
-}
-
-impl Password {
-    /// The password of this text. `PasswordUnusable` exactly where it has more than 1,024 octets.
-    pub fn new(text: String) -> Result<Password, Failure>
-        ensures ok { IfOk result (λ p. p ≡ string_bytes text) }
-        ensures exact { IsOk result ↔ length (string_bytes text) ≤ 1024 }
-        ensures err { IfErr result (λ e. e.ending ≡ Ending.PasswordUnusable) }
-    {
-        if text.len() > LONGEST {
-            return Err(too_long());
-        }
-        Ok(Password { text })
-    }
-
-    /// The text of the password.
-    pub fn as_str(&self) -> &str
-        ensures value { result.now ≡ self.now }
-        ensures short { length result.now ≤ 1024 }
-    {
-        self.text.as_str()
+/// The password of an origin; `purpose` says which password it is.
+pub fn read_password<R: Files + Env + Input + AllocGlobal>(
+    rt: &R,
+    purpose: &'static str,
+    origin: Origin<'_>,
+) -> Result<Password, Failure> {
+    match origin.read(rt) {
+        Ok(password) => Ok(password),
+        Err(error) => Err(not_had(rt.alloc(), purpose, origin, error)),
     }
 }
 

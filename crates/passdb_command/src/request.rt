@@ -2,8 +2,8 @@
 ghost use Rattle.std.specs.Prelude.{◌≤◌, IfOk};
 
 use crate::ending::{Ending, Failure};
-use crate::origin::Origin;
 use clap::ArgMatches;
+use command_base::Origin;
 use passdb_core::ROUNDS_LIMIT;
 use phc_core::Ident;
 use std::alloc::Global;
@@ -81,43 +81,10 @@ fn name_of(alloc: Global, text: &str) -> Result<Ident, Failure> {
     }
 }
 
-/// The origin of a password, by the names of its three options.
-fn origin_of<'a>(
-    matches: &ArgMatches<'a>,
-    file: &str,
-    variable: &str,
-    standard: &str,
-) -> Option<Origin<'a>> {
-    if let Some(path) = matches.get_str(file) {
-        return Some(Origin::File(path));
-    }
-    if let Some(name) = matches.get_str(variable) {
-        return Some(Origin::Variable(name));
-    }
-    if matches.get_flag(standard) {
-        Some(Origin::Standard)
-    } else {
-        None
-    }
-}
-
-fn password_of<'a>(matches: &ArgMatches<'a>) -> Option<Origin<'a>> {
-    origin_of(matches, "password-file", "password-env", "password-stdin")
-}
-
-fn new_password_of<'a>(matches: &ArgMatches<'a>) -> Option<Origin<'a>> {
-    origin_of(
-        matches,
-        "new-password-file",
-        "new-password-env",
-        "new-password-stdin",
-    )
-}
-
 /// The passwords of `change`. The standard input gives one of them alone.
 fn change_of<'a>(matches: &ArgMatches<'a>) -> Result<Action<'a>, Failure> {
-    let old = password_of(matches);
-    let new = new_password_of(matches);
+    let old = Origin::of_password(matches);
+    let new = Origin::of_new_password(matches);
     if matches!(old, Some(Origin::Standard)) && matches!(new, Some(Origin::Standard)) {
         return Err(Failure::new(
             Ending::Usage,
@@ -157,8 +124,8 @@ pub fn request_of<'a>(alloc: Global, matches: &ArgMatches<'a>) -> Result<Request
         return Err(no_subcommand());
     };
     let action = match subcommand {
-        "add" => Action::Add(password_of(inner)),
-        "check" => Action::Check(password_of(inner)),
+        "add" => Action::Add(Origin::of_password(inner)),
+        "check" => Action::Check(Origin::of_password(inner)),
         "change" => change_of(inner)?,
         "remove" => return order_of(alloc, inner, Action::Remove, "1000"),
         "list" => return Ok(Request::List(text_of(inner, "file")?)),

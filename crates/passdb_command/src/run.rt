@@ -4,11 +4,11 @@ ghost use Rattle.std.specs.Prelude.{◌≡◌, ◌<◌};
 use crate::command_line::command;
 use crate::ending::{Ending, Failure};
 use crate::file::{Locked, read, real_path};
-use crate::origin::{Origin, read_password};
-use crate::password::{Password, as_new_password};
+use crate::password::{as_new_password, read_password};
 use crate::request::{Action, Order, Request, request_of};
 use clap::ArgMatches;
 use clap::error::ErrorKind;
+use command_base::{Origin, Password, arguments, refusal_text};
 use octet_core::{Draw, ReadDraw};
 use passdb_core::{Db, DbError, Reply};
 use std::alloc::{AllocError, Global};
@@ -17,7 +17,7 @@ use std::rt::{Env, Files, Runtime};
 use std::sync::ledger::{Blank, Ledger};
 use std::{env, fs, io};
 use steps::Steps;
-use terminal_text::{is_password_given, without_values};
+use terminal_text::is_password_given;
 
 /// Where this variable is set, the wrapper asks for a password that is missing and runs the program again, so the program
 /// itself keeps silent.
@@ -244,17 +244,6 @@ fn run_list<R: Runtime + AllocGlobal>(rt: &R, file: &str) -> Result<(), Failure>
 const NO_SUBCOMMAND: &str = "\
 give a subcommand: add, check, change, remove or list; see ./passdb --help";
 
-/// What clap says of arguments that it refuses.
-fn refused(alloc: Global, error: &clap::Error) -> Result<String, AllocError> {
-    let text = format!(in alloc; "{error}")?;
-    let text = text.as_str().trim_end();
-    let text = match text.strip_prefix("error: ") {
-        Some(rest) => rest,
-        None => text,
-    };
-    without_values(alloc, text)
-}
-
 /// The failure of arguments that clap refuses; none where it shows help or the version, which is printed.
 fn shown<R: Print + Eprint + AllocGlobal>(rt: &R, error: clap::Error) -> Result<(), Failure> {
     match error.kind() {
@@ -263,22 +252,7 @@ fn shown<R: Print + Eprint + AllocGlobal>(rt: &R, error: clap::Error) -> Result<
         ErrorKind::DisplayHelpOnMissingArgumentOrSubcommand | ErrorKind::MissingSubcommand => Err(
             Failure::new(Ending::Usage, NO_SUBCOMMAND),
         ),
-        _ => Err(Failure::told(Ending::Usage, refused(rt.alloc(), &error))),
-    }
-}
-
-/// The arguments, the program's name among them.
-fn arguments<R: Env + AllocGlobal>(rt: &R) -> Result<Vec<String>, Failure> {
-    let mut arguments = Vec::new(rt.alloc());
-    match env::args(rt) {
-        Ok(all) => {
-            for argument in all {
-                arguments.push(argument)?;
-            }
-            Ok(arguments)
-        }
-        Err(error) if error.kind() == io::ErrorKind::OutOfMemory => Err(Failure::from(AllocError)),
-        Err(_) => Err(Failure::new(Ending::Usage, "an argument is not UTF-8")),
+        _ => Err(Failure::told(Ending::Usage, refusal_text(rt.alloc(), &error))),
     }
 }
 
@@ -300,7 +274,9 @@ give --password-file FILE, --password-env NAME or --password-stdin";
 
 /// Does what the arguments ask for.
 pub fn run<R: Runtime + AllocGlobal>(rt: &R, process: u32) -> Result<(), Failure> {
-    let arguments = arguments(rt)?;
+    let Some(arguments) = arguments(rt)? else {
+        return Err(Failure::new(Ending::Usage, "an argument is not UTF-8"));
+    };
     if is_password_given(arguments.as_slice()) {
         return Err(Failure::new(Ending::Usage, NO_PASSWORD_ARGUMENT));
     }

@@ -44,15 +44,18 @@ Add to the second command -nokeys if the store has no private key, or else -name
 friendly names are lost on this way.";
 
 const PASSWORD: &str = "\
-This program does not ask for it; the script ./pkcs12 beside it does, at a terminal. Or give it \
-by one of these:
+Run pkcs12 at a terminal, where it asks for it, or give it by one of these:
     --password-file FILE    --password-env NAME    --password-stdin";
 
 const NEW_PASSWORD: &str = "\
-This program does not ask for it; the script ./pkcs12 beside it does, at a terminal. Or give it \
-by one of these:
+Run pkcs12 at a terminal, where it asks for it, or give it by one of these:
+    --new-password-file FILE    --new-password-env NAME    --new-password-stdin";
+
+/// The same for `export`.
+pub const NEW_PASSWORD_OF_EXPORT: &str = "\
+Run pkcs12 at a terminal, where it asks for it, or give it by one of these:
     --new-password-file FILE    --new-password-env NAME    --new-password-stdin
-export also takes --same-password, which keeps the store's.";
+To keep the store's: --same-password. To write the certificates alone: --certificates-only.";
 
 const WRONG_PASSWORD: &str = "\
 Try the password again. Of a file the first line counts, with its spaces; a byte order mark \
@@ -66,8 +69,9 @@ A password has at most 1,024 octets of UTF-8; a new one has at least 1 unless \
     iconv -f LATIN1 -t UTF-8 FILE >NEWFILE";
 
 const SELF_TEST: &str = "\
-Do not use this program: it, or the machine, does not do what was proved. Build it anew:
-    rm crates/pkcs12/out/pkcs12
+Do not use this program: it, or the machine, does not do what was proved. Build \
+it anew, and then install it anew if it was installed:
+    ./pkcs12 build
     ./pkcs12 self-test";
 
 const NOT_EXPORTED: &str = "\

@@ -1,19 +1,17 @@
 //! The subcommand `check`: opens a store, and says what is in it.
-use crate::command_line::{
-    Argument, Form, LIMIT, PASSWORD_ENV, PASSWORD_FILE, PASSWORD_STDIN, STORE,
-};
+use crate::command_line::{LIMIT, PASSWORD_ENV, PASSWORD_FILE, PASSWORD_STDIN, STORE};
 use crate::ending::Failure;
 use crate::given::{opened, read_given};
 use crate::input::inputs_differ;
 use crate::inspection::listing;
 use crate::json::json;
 use crate::long_work::tell_long_work;
-use crate::origin::Origin;
 use crate::output::printed;
-use crate::request::{number_of, password_of, text_of};
+use crate::request::{number_of, text_of};
 use crate::run::Surroundings;
 use crate::summary::summary;
 use clap::ArgMatches;
+use command_base::{Argument, Form, Origin};
 use std::alloc::Global;
 use std::rt::Runtime;
 
@@ -51,7 +49,7 @@ pub struct Check<'a> {
 pub fn asked<'a>(alloc: Global, matches: &ArgMatches<'a>) -> Result<Check<'a>, Failure> {
     Ok(Check {
         store: text_of(matches, "store")?,
-        password: password_of(matches),
+        password: Origin::of_password(matches),
         in_json: matches.get_flag("json"),
         limit: number_of(alloc, matches, "limit")?,
     })

@@ -1,13 +1,14 @@
 //! The arguments of the command, as `--help` shows them.
 use crate::{check, export, list, rekey};
-use clap::{Arg, ArgAction, Command};
+use clap::Command;
+use command_base::{Argument, Form, with_arguments};
 use std::alloc::{AllocError, Global};
 
 /// What is below the options of each subcommand.
 const NOTES: &str = "\
 A password is never an argument, since other users can read those. Without any of its options,
-./pkcs12 asks for it at a terminal. Of a file, its first line is the password, without LF or CR LF;
-/dev/fd/3 and other pipes work; ./pkcs12 uses descriptor 7 itself.";
+pkcs12 asks for it at a terminal. Of a file, its first line is the password, without LF or CR LF;
+/dev/fd/3 and other pipes work; pkcs12 uses descriptor 7 itself.";
 
 /// What is below the whole help.
 const AFTER: &str = "\
@@ -22,17 +23,17 @@ Examples:
 
 Exported private keys are always encrypted. OpenSSL takes the password off one:
   openssl pkey -in pem/key-0.pem -out key.pem
-The script ./pkcs12 has subcommands of its own: build, install [PREFIX] and uninstall [PREFIX].
+In the folder of the sources ./pkcs12 also has build, install [PREFIX] and uninstall [PREFIX].
 
 Exit numbers:
    0  Done                the store was opened, and all output was written
-   1  BuildFailed         ./pkcs12 could not build or install the program
+   1  BuildFailed         the program could not be built, installed or uninstalled
    2  Usage               bad arguments
-   3  ReadFault           the store, a password or /dev/urandom cannot be read
+   3  ReadFault           the store or a password cannot be read
    4  WriteFault          the output cannot be written; nothing of it is left
    7  Memory              there was not enough memory
    8  PasswordMissing     no password was given, and there is no terminal to ask at
-   9  NewPasswordMissing  the store has private keys, and no new password was given
+   9  NewPasswordMissing  a new password is needed, and none was given
   10  Malformed           the file is not a PKCS#12 store in DER
   11  Unsupported         something is of a kind, or encrypted by an algorithm, that is not opened
   12  MacMissing          the store has no MAC, so a change to it would go unnoticed
@@ -51,35 +52,6 @@ Exit numbers:
   25  NotExported         the store has something that is not exported; nothing was written
   26  SealLimit           the private keys take more rounds than --seal-limit allows
   27  TooManyFiles        the store has more certificates and keys than --most-files allows";
-
-/// How an argument is given. The first text stands for its value in the help; the second, where
-/// there is one, is its default.
-#[derive(Clone, Copy)]
-pub enum Form {
-    /// By its place, and never left out.
-    Place(&'static str),
-    /// As an option that is never left out.
-    Required(&'static str),
-    /// As an option that may be left out.
-    Optional(&'static str),
-    /// As an option that has a default.
-    Text(&'static str, &'static str),
-    /// The same of a number; one below zero is read too, so that its refusal says which numbers
-    /// there are.
-    Number(&'static str, &'static str),
-    /// As an option without a value.
-    Flag,
-}
-
-/// An argument of a subcommand.
-pub struct Argument {
-    /// Its name, which is that of its option too.
-    pub name: &'static str,
-    pub form: Form,
-    /// The group of which at most one is given.
-    pub group: Option<&'static str>,
-    pub help: &'static str,
-}
 
 /// The store, by its place.
 pub const STORE: Argument = Argument {
@@ -117,49 +89,6 @@ pub const LIMIT: Argument = Argument {
     help: "Refuse a store that takes more than this many steps (hash computations of key \
         derivation) to open: 0 to 18446744073709551615",
 };
-
-/// An option that takes a value.
-fn option<'a>(arg: Arg<'a>, name: &'a str, value: &'a str) -> Arg<'a> {
-    arg.long(name).value_name(value)
-}
-
-/// The argument, for clap.
-fn described<'a>(alloc: Global, argument: &Argument) -> Arg<'a> {
-    let name = argument.name;
-    let arg = Arg::new(alloc, name).help(argument.help);
-    match argument.form {
-        Form::Place(value) => arg.value_name(value).required(true),
-        Form::Required(value) => option(arg, name, value).required(true),
-        Form::Optional(value) => option(arg, name, value),
-        Form::Text(value, default) => option(arg, name, value).default_value(default),
-        Form::Number(value, default) => option(arg, name, value)
-            .allow_negative_numbers(true)
-            .default_value(default),
-        Form::Flag => arg.long(name).action(ArgAction::SetTrue),
-    }
-}
-
-/// The same, in its group where it has one.
-fn grouped<'a>(alloc: Global, argument: &Argument) -> Result<Arg<'a>, AllocError> {
-    let arg = described(alloc, argument);
-    match argument.group {
-        Some(group) => arg.group(group),
-        None => Ok(arg),
-    }
-}
-
-/// The command with these arguments.
-fn with_arguments<'a>(
-    alloc: Global,
-    command: Command<'a>,
-    arguments: &[Argument],
-) -> Result<Command<'a>, AllocError> {
-    let mut command = command;
-    for argument in arguments {
-        command = command.arg(grouped(alloc, argument)?)?;
-    }
-    Ok(command)
-}
 
 /// The command with one subcommand more.
 fn with_subcommand<'a>(

@@ -1,7 +1,7 @@
 //! Which content of a store is damaged.
 use crate::inspection::plain_of;
 use crate::malformed::{Detail, in_ber};
-use crate::password::Password;
+use command_base::Password;
 use p12::{BagsView, ContentView, ContentsView, Error, StoreView};
 use std::alloc::Global;
 

@@ -3,6 +3,7 @@ ghost use Rattle.std.specs.Prelude.{◌≡◌};
 ghost use Rattle.pkcs12.specs.Ending.{code_of};
 
 use crate::io_advice::advice_on_io;
+use command_base::Message;
 use std::alloc::{AllocError, AllocFailed, Global};
 use std::io;
 use terminal_text::Printable;
@@ -13,7 +14,7 @@ use transfer::{Status, TransferError};
 pub enum Ending {
     /// The arguments are not those of a subcommand, or one of them is outside its bounds.
     Usage,
-    /// The store, a password or `/dev/urandom` could not be read.
+    /// The store or a password could not be read.
     ReadFault,
     /// The output could not be written.
     WriteFault,
@@ -78,22 +79,6 @@ impl Ending {
             Ending::SealLimit => "SealLimit",
             Ending::TooManyFiles => "TooManyFiles",
             Ending::Refused(refusal) => Status::from(refusal).name(),
-        }
-    }
-}
-
-/// Text for the user.
-#[derive(Drop)]
-pub enum Message {
-    Fixed(&'static str),
-    Made(String),
-}
-
-impl Message {
-    pub fn as_str(&self) -> &str {
-        match self {
-            Message::Fixed(text) => text,
-            Message::Made(text) => text.as_str(),
         }
     }
 }

@@ -1,13 +1,11 @@
 //! What the subcommand `export` is asked for.
 ghost use Rattle.std.specs.Prelude.{◌≤◌};
 
-use crate::command_line::{
-    Argument, Form, LIMIT, PASSWORD_ENV, PASSWORD_FILE, PASSWORD_STDIN, STORE,
-};
+use crate::command_line::{LIMIT, PASSWORD_ENV, PASSWORD_FILE, PASSWORD_STDIN, STORE};
 use crate::ending::{Ending, Failure};
-use crate::origin::Origin;
-use crate::request::{new_password_of, number_of, password_of, rounds_of, text_of};
+use crate::request::{number_of, rounds_of, text_of};
 use clap::ArgMatches;
+use command_base::{Argument, Form, Origin};
 use std::alloc::Global;
 use terminal_text::InQuotes;
 
@@ -20,7 +18,7 @@ const OUT: Argument = Argument {
     name: "out",
     form: Form::Required("DIR"),
     group: None,
-    help: "The folder that is made: cert-0.pem, .. and key-0.pem, ..",
+    help: "The folder that is made, with cert-0.pem, key-0.pem and so on",
 };
 
 const FORMAT: Argument = Argument {
@@ -62,7 +60,7 @@ const CHAIN: Argument = Argument {
     name: "chain",
     form: Form::Flag,
     group: None,
-    help: "Write chain-0.pem, .. too: the certificate of each private key, and then its issuers",
+    help: "Write chain-0.pem and so on too: the certificate of each private key, and then its issuers",
 };
 
 const FORCE: Argument = Argument {
@@ -318,8 +316,8 @@ pub fn asked<'a>(alloc: Global, matches: &ArgMatches<'a>) -> Result<Export<'a>, 
     Ok(Export {
         store: text_of(matches, "store")?,
         target: target_of(alloc, matches)?,
-        password: password_of(matches),
-        new_password: new_password_of(matches),
+        password: Origin::of_password(matches),
+        new_password: Origin::of_new_password(matches),
         same_password: matches.get_flag("same-password"),
         allow_empty: matches.get_flag("allow-empty-password"),
         rounds,

@@ -7,6 +7,7 @@ ghost use Rattle.pkcs12.specs.Exports.{Exports};
 ghost use Rattle.pkcs12.specs.Others.{has_others};
 
 use crate::chains::{chain_warnings, chains};
+use crate::counted::Counted;
 use crate::ending::{Ending, Failure};
 use crate::export::{Export, Part};
 use crate::folder::Folder;
@@ -16,12 +17,12 @@ use crate::inspection::listing;
 use crate::listing::Listing;
 use crate::long_work::{is_long_sealing, sealing_time, tell_long_work};
 use crate::opening::{certificates_alone, sealed_store};
-use crate::origin::{Origin, read_password};
 use crate::others::has_others;
-use crate::password::{NewPassword, Password, without_nul};
+use crate::password::{NewPassword, read_password, without_nul};
 use crate::run::Surroundings;
 use crate::summary::{others, summary, warnings};
 use asn1_core::Items;
+use command_base::{Origin, Password};
 use std::alloc::Global;
 use std::rt::{Env, Files, Runtime};
 use transfer::{Opened, Transferred};
@@ -34,8 +35,7 @@ fn same_password(
 ) -> Result<NewPassword, Failure>
     ensures { IfOk result (λ p. length p ≡ 0 → IsTrue may_be_empty) }
 {
-    let same = Password::new(String::from_str(alloc, password.as_str())?)?;
-    NewPassword::new(same, may_be_empty)
+    NewPassword::new(password.try_clone(alloc)?, may_be_empty)
 }
 
 /// The new password, where one is given and private keys are written.
@@ -69,9 +69,10 @@ fn not_exported(alloc: Global, found: &Listing) -> Failure {
 
 /// The failure of a store with too many certificates and private keys.
 fn too_many_files(alloc: Global, certificates: usize, keys: usize, most: u64) -> Failure {
+    let certificates = Counted(certificates, "certificate");
+    let keys = Counted(keys, "private key");
     let text = format!(in alloc;
-        "the store has {certificates} certificates and {keys} private keys, and --most-files \
-         allows {most}"
+        "the store has {certificates} and {keys}, and --most-files allows {most}"
     );
     Failure::told(Ending::TooManyFiles, text)
 }
@@ -87,9 +88,10 @@ fn is_within(keys: usize, rounds: u32, limit: u64) -> bool
 fn too_many_rounds(alloc: Global, keys: usize, rounds: u32, limit: u64) -> Failure {
     let all = (keys as u128).saturating_mul(u128::from(rounds));
     let time = sealing_time(keys, rounds);
+    let keys = Counted(keys, "private key");
     let text = format!(in alloc;
-        "{keys} private keys of {rounds} rounds each take {all} rounds, about {time}, and \
-         --seal-limit allows {limit}"
+        "sealing {keys} takes {all} rounds, {rounds} for each, about {time}, and --seal-limit \
+         allows {limit}"
     );
     Failure::told(Ending::SealLimit, text)
 }

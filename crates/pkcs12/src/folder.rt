@@ -1,12 +1,11 @@
 //! The output folder: it is there whole, or not at all.
-use crate::attributes::Attributes;
 use crate::ending::{Ending, Failure};
 use crate::export::Target;
 use crate::file_name::is_exported_name;
 use crate::listing::Listing;
 use crate::output_exists::{Kept, replaceable};
-use crate::paths::{name, parent};
 use crate::written_files::fill;
+use command_base::{Attributes, name, parent};
 use std::alloc::{AllocError, Global};
 use std::fs::{DirBuilder, Metadata, OpenFile};
 use std::os::unix::fs::{DirBuilderExt, MetadataExt};

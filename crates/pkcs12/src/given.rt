@@ -6,9 +6,9 @@ use crate::ending::{Ending, Failure};
 use crate::input::is_read_once;
 use crate::inspection::mac_rounds;
 use crate::opening::{opened_store, read_store};
-use crate::origin::{Origin, read_password};
-use crate::password::Password;
+use crate::password::read_password;
 use crate::refusal::with_detail;
+use command_base::{Origin, Password};
 use std::alloc::Global;
 use std::env;
 use std::rt::{Env, Files};
@@ -29,8 +29,7 @@ pub struct Given {
 fn password_missing() -> Failure {
     Failure::new(
         Ending::PasswordMissing,
-        "the store's password was not given, and there is no terminal at which ./pkcs12 asks for \
-         it",
+        "the store's password was not given, and there is no terminal to ask at",
     )
 }
 
@@ -73,10 +72,7 @@ pub fn is_not_given_again<R: Files + Env + AllocGlobal>(
 /// What refuses a store that has no password yet: what is seen with no work at all, else that the
 /// password is missing.
 fn refused_unasked(alloc: Global, store: &[u8], limit: u64) -> Failure {
-    let empty = match Password::new(String::new(alloc)) {
-        Ok(empty) => empty,
-        Err(failure) => return failure,
-    };
+    let empty = Password::empty(alloc);
     // Under this limit nothing is derived.
     match opened_store(alloc, store, &empty, 0) {
         Err(failure) => match failure.ending {
@@ -84,7 +80,7 @@ fn refused_unasked(alloc: Global, store: &[u8], limit: u64) -> Failure {
                 password_missing()
             }
             Ending::Refused(TransferError::MacMismatch) => password_missing(),
-            _ => with_detail(alloc, failure, store, &empty),
+            _ => with_detail(alloc, failure, store, &empty, limit),
         },
         Ok(_) => password_missing(),
     }
@@ -116,6 +112,6 @@ pub fn opened(alloc: Global, given: &Given, limit: u64) -> Result<Opened, Failur
     let store = given.store.as_slice();
     match opened_store(alloc, store, &given.password, limit) {
         Ok(opened) => Ok(opened),
-        Err(failure) => Err(with_detail(alloc, failure, store, &given.password)),
+        Err(failure) => Err(with_detail(alloc, failure, store, &given.password, limit)),
     }
 }

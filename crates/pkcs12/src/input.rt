@@ -1,12 +1,9 @@
 //! The files and streams that are read, which may be one and the same.
 use crate::ending::{Ending, Failure};
-use crate::origin::Origin;
+use command_base::{Origin, STANDARD_INPUT};
 use std::fs;
 use std::os::unix::fs::MetadataExt;
 use std::rt::{Env, Files};
-
-/// The standard input as a path, which may be a link to a file.
-pub const STANDARD_INPUT: &str = "/dev/stdin";
 
 /// The path at which the store is looked at.
 pub fn path_of_store(store: &str) -> &str {

@@ -8,8 +8,8 @@ use crate::algorithm_name::{AlgorithmName, Named};
 use crate::ending::Failure;
 use crate::listing::{Label, Listing};
 use crate::other_bag::OtherBag;
-use crate::password::Password;
 use asn1_core::{Items, Octets};
+use command_base::Password;
 use p12::{
     AlgorithmView, BagView, BagsView, ContentView, ContentsView, Error, SafeBag, SafeBagKind,
     StoreView,

@@ -1,6 +1,6 @@
 //! What to do where a call on the system failed.
 use crate::ending::Ending;
-use crate::paths::parent;
+use command_base::parent;
 use std::alloc::{AllocError, Global};
 use std::io;
 use std::io::ErrorKind;

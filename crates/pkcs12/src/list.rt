@@ -1,8 +1,6 @@
 //! The subcommand `list`: opens a store, and says of each certificate and private key what it is.
 use crate::clock::now_text;
-use crate::command_line::{
-    Argument, Form, LIMIT, PASSWORD_ENV, PASSWORD_FILE, PASSWORD_STDIN, STORE,
-};
+use crate::command_line::{LIMIT, PASSWORD_ENV, PASSWORD_FILE, PASSWORD_STDIN, STORE};
 use crate::ending::Failure;
 use crate::given::{opened, read_given};
 use crate::input::inputs_differ;
@@ -11,11 +9,11 @@ use crate::listed::read_certificates;
 use crate::listed_json::listed_json;
 use crate::listed_text::listed_text;
 use crate::long_work::tell_long_work;
-use crate::origin::Origin;
 use crate::output::printed;
-use crate::request::{number_of, password_of, text_of};
+use crate::request::{number_of, text_of};
 use crate::run::Surroundings;
 use clap::ArgMatches;
+use command_base::{Argument, Form, Origin};
 use std::alloc::Global;
 use std::rt::Runtime;
 
@@ -54,7 +52,7 @@ pub struct List<'a> {
 pub fn asked<'a>(alloc: Global, matches: &ArgMatches<'a>) -> Result<List<'a>, Failure> {
     Ok(List {
         store: text_of(matches, "store")?,
-        password: password_of(matches),
+        password: Origin::of_password(matches),
         in_json: matches.get_flag("json"),
         limit: number_of(alloc, matches, "limit")?,
     })

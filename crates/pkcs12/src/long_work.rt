@@ -1,4 +1,5 @@
 //! Work that takes a while.
+use crate::counted::Counted;
 use crate::inspection::visible_work;
 use crate::run::Surroundings;
 use std::{fmt, io};
@@ -58,8 +59,9 @@ pub fn is_long_sealing(keys: usize, rounds: u32) -> bool {
 /// Says that private keys are sealed, and about how long it takes.
 pub fn tell_sealing<R: Eprint>(rt: &R, keys: usize, rounds: u32) {
     let time = sealing_time(keys, rounds);
+    let keys = Counted(keys, "private key");
     // A terminal that cannot be written to is no failure of the work.
-    match eprintln!(rt; "pkcs12: sealing {keys} private keys, which takes about {time} ..") {
+    match eprintln!(rt; "pkcs12: sealing {keys}, which takes about {time}") {
         Ok(()) | Err(_) => {}
     }
 }
@@ -69,9 +71,9 @@ fn tell_work<R: Eprint>(rt: &R, work: u128, rounds: Option<u32>) -> io::Result<(
     match rounds {
         Some(rounds) => eprintln!(rt;
             "pkcs12: working: opening the store takes at least {work} steps, and each private \
-             key {rounds} rounds .."
+             key {rounds} rounds"
         ),
-        None => eprintln!(rt; "pkcs12: working: opening the store takes at least {work} steps .."),
+        None => eprintln!(rt; "pkcs12: working: opening the store takes at least {work} steps"),
     }
 }
 

@@ -4,12 +4,12 @@
 
 mod advice;
 mod algorithm_name;
-mod attributes;
 mod certificate_shape;
 mod chains;
 mod check;
 mod clock;
 mod command_line;
+mod counted;
 mod damaged;
 mod ending;
 mod export;
@@ -33,13 +33,12 @@ mod mounts;
 mod no_password;
 mod not_der;
 mod opening;
-mod origin;
 mod other_bag;
 mod others;
 mod output;
 mod output_exists;
 mod password;
-mod paths;
+mod password_argument;
 mod progress;
 mod public_key;
 mod refusal;
@@ -50,7 +49,6 @@ mod run;
 mod self_test;
 mod store_file;
 mod summary;
-mod words;
 mod written_files;
 
 use run::Surroundings;

@@ -1,5 +1,5 @@
 //! Mount points, which cannot be replaced.
-use crate::paths::parent;
+use command_base::parent;
 use std::alloc::{AllocError, Global};
 use std::fs::Metadata;
 use std::os::unix::fs::MetadataExt;

@@ -30,7 +30,7 @@ pub struct NotDer {
 enum Step<'a> {
     Found(Form),
     /// What comes after the element, or after its header where it has elements inside.
-    Behind(&'a [u8]),
+    After(&'a [u8]),
     End,
 }
 
@@ -49,14 +49,14 @@ fn long_length(count: u8, octets: &[u8]) -> Option<u64>
 }
 
 /// What comes after an element with this many octets of value, or after its header.
-fn behind(constructed: bool, length: u64, value: &[u8]) -> Step<'_> {
+fn after(constructed: bool, length: u64, value: &[u8]) -> Step<'_> {
     if constructed {
-        return Step::Behind(value);
+        return Step::After(value);
     }
     if length > value.len() as u64 {
         return Step::End;
     }
-    Step::Behind(&value[length as usize..])
+    Step::After(&value[length as usize..])
 }
 
 fn step_over(octets: &[u8]) -> Step<'_> {
@@ -79,7 +79,7 @@ fn step_over(octets: &[u8]) -> Step<'_> {
         return Step::Found(Form::StringInParts);
     }
     if length < 0x80 {
-        return behind(constructed, u64::from(length), value);
+        return after(constructed, u64::from(length), value);
     }
     let count = length - 0x80;
     let Some(long) = long_length(count, value) else {
@@ -88,7 +88,7 @@ fn step_over(octets: &[u8]) -> Step<'_> {
     if is_too_long(count, long) {
         return Step::Found(Form::LongLength);
     }
-    behind(constructed, long, &value[count as usize..])
+    after(constructed, long, &value[count as usize..])
 }
 
 /// Whether the tag is that of a string type of the universal class, in parts.
@@ -118,7 +118,7 @@ pub fn not_der(octets: &[u8]) -> Option<NotDer> {
                     form,
                 });
             }
-            Step::Behind(behind) => rest = behind,
+            Step::After(after) => rest = after,
             Step::End => return None,
         }
     }

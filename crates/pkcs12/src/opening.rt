@@ -4,11 +4,13 @@ ghost use Rattle.transfer.specs.Opening.{all_certificates};
 ghost use Rattle.transfer.specs.Transferred.{SealsOpened};
 ghost use Rattle.transfer.specs.Verdicts.{StoreOpens};
 
+use crate::advice::NEW_PASSWORD_OF_EXPORT;
 use crate::ending::{Ending, Failure};
 use crate::long_work::tell_sealing;
-use crate::password::{NewPassword, Password};
+use crate::password::NewPassword;
 use crate::progress::{Progress, end_progress};
 use asn1_core::Octets;
+use command_base::Password;
 use mac_modes::{DrawnBytes, ReadDraw};
 use std::alloc::Global;
 use std::io::Read;
@@ -107,7 +109,7 @@ pub fn sealed_store<R: Files + Eprint + AllocGlobal + Drop>(
         Err(error) => {
             return Err(Failure::io(
                 rt.alloc(),
-                Ending::ReadFault,
+                Ending::Refused(TransferError::Rng),
                 "random octets",
                 RANDOM,
                 error,
@@ -141,7 +143,8 @@ pub fn certificates_alone(alloc: Global, opened: &Opened) -> Result<Transferred,
         return Err(Failure::new(
             Ending::NewPasswordMissing,
             "the store has private keys, and there is no new password to seal them under",
-        ));
+        )
+        .advised(NEW_PASSWORD_OF_EXPORT));
     }
     // Without a key nothing is sealed, and nothing drawn.
     let mut draw = DrawnBytes::new(Octets::new(alloc));

@@ -1,8 +1,8 @@
 //! What is at the place of the output folder.
-use crate::attributes::Attributes;
 use crate::ending::{Ending, Failure};
 use crate::file_name::{Kind, is_exported_name, kind_of};
 use crate::mounts::is_mount_point;
+use command_base::Attributes;
 use std::alloc::{AllocError, Global};
 use std::fs::{DirEntry, Metadata};
 use std::rt::Files;

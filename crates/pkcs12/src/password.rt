@@ -1,59 +1,63 @@
-//! Passwords.
-ghost use Rattle.std.specs.Prelude.{◌≡◌, ◌≤◌, ◌↔◌, ◌<◌, ◌^◌, IfOk, IfErr, IsOk, IsTrue, true, length};
-ghost use Rattle.std.specs.String.{string_bytes};
+//! Passwords of stores and of private keys.
+ghost use Rattle.std.specs.Prelude.{◌≡◌, ◌≤◌, ◌<◌, IfOk, IfErr, IsOk, IsTrue, length};
 
 use crate::ending::{Ending, Failure};
+use command_base::{Origin, Password, PasswordError};
+use std::alloc::{AllocError, Global};
+use std::io;
 use std::marker::Model;
+use std::rt::{Env, Files};
 
-/// The most octets of a password.
-pub const LONGEST: usize = 1024;
+const EXPORT_VARIABLE: &str = "\
+The option takes the NAME of a variable that is exported, and not the password:
+    export NAME";
 
-/// A password of at most 1,024 octets in UTF-8. It has no `Debug`, so that it is never printed.
-#[derive(Drop)]
-pub struct Password {
-    text: String,
-}
+const EMPTY: &str = "\
+What is under an empty password is not protected. If you want that: --allow-empty-password";
 
-impl Model for Password {
-    ghost use Rattle.std.specs.Prelude.{ℕ, List, ◌≤◌, length};
-    ghost use Rattle.std.specs.String.{string_bytes};
-
-    ghost Value = { List ℕ };
-
-    ghost view = { λ p. string_bytes p.text };
-
-    ghost invariant = { λ p. length (string_bytes p.text) ≤ 1024 };
-}
-
-/// The failure of a password that is too long.
-pub fn too_long() -> Failure
-    ensures { result.ending ≡ Ending.PasswordUnusable }
-{
-    Failure::new(
-        Ending::PasswordUnusable,
-        "a password has more than 1,024 octets",
-    )
-}
-
-impl Password {
-    /// The password of this text. `PasswordUnusable` exactly where it has more than 1,024 octets.
-    pub fn new(text: String) -> Result<Password, Failure>
-        ensures ok { IfOk result (λ p. p ≡ string_bytes text) }
-        ensures exact { IsOk result ↔ length (string_bytes text) ≤ 1024 }
-        ensures err { IfErr result (λ e. e.ending ≡ Ending.PasswordUnusable) }
-    {
-        if text.len() > LONGEST {
-            return Err(too_long());
-        }
-        Ok(Password { text })
+/// The failure of a file of a password that could not be read.
+fn unread(alloc: Global, purpose: &'static str, origin: Origin<'_>, error: io::Error) -> Failure {
+    match format!(in alloc; "the {purpose} file") {
+        Ok(file) => Failure::io(
+            alloc,
+            Ending::ReadFault,
+            file.as_str(),
+            origin.path(),
+            error,
+        ),
+        Err(refused) => Failure::from(refused),
     }
+}
 
-    /// The text of the password.
-    pub fn as_str(&self) -> &str
-        ensures value { result.now ≡ self.now }
-        ensures short { length result.now ≤ 1024 }
-    {
-        self.text.as_str()
+/// The failure of a password for this purpose, which was to come from this origin.
+fn not_had(
+    alloc: Global,
+    purpose: &'static str,
+    origin: Origin<'_>,
+    error: PasswordError,
+) -> Failure {
+    let text = error.text(alloc, purpose, origin);
+    match error {
+        PasswordError::TooLong | PasswordError::NotUtf8 => {
+            Failure::told(Ending::PasswordUnusable, text)
+        }
+        PasswordError::NoVariable => {
+            Failure::told(Ending::ReadFault, text).advised(EXPORT_VARIABLE)
+        }
+        PasswordError::Unread(error) => unread(alloc, purpose, origin, error),
+        PasswordError::Memory => Failure::from(AllocError),
+    }
+}
+
+/// The password of an origin; `purpose` says which password it is.
+pub fn read_password<R: Files + Env + Input + AllocGlobal>(
+    rt: &R,
+    purpose: &'static str,
+    origin: Origin<'_>,
+) -> Result<Password, Failure> {
+    match origin.read(rt) {
+        Ok(password) => Ok(password),
+        Err(error) => Err(not_had(rt.alloc(), purpose, origin, error)),
     }
 }
 
@@ -63,7 +67,8 @@ pub fn without_nul(password: &Password) -> Result<(), Failure> {
         return Err(Failure::new(
             Ending::PasswordUnusable,
             "the new password has a NUL, which other programs do not take",
-        ));
+        )
+        .advised("Give a new password without one."));
     }
     Ok(())
 }
@@ -96,12 +101,21 @@ impl NewPassword {
         ensures err { IfErr result (λ e. e.ending ≡ Ending.PasswordUnusable) }
     {
         if password.as_str().is_empty() && !may_be_empty {
-            return Err(Failure::new(Ending::PasswordUnusable, "the new password is empty"));
+            return Err(Failure::new(Ending::PasswordUnusable, "the new password is empty").advised(
+                EMPTY,
+            ));
         }
         Ok(NewPassword {
             password,
             may_be_empty,
         })
+    }
+
+    /// The password itself.
+    pub fn as_password(&self) -> &Password
+        ensures { result.now ≡ self.now }
+    {
+        &self.password
     }
 
     /// The text of the password.

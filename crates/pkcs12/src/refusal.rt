@@ -3,12 +3,12 @@ ghost use Rattle.std.specs.Prelude.{◌≡◌};
 
 use crate::algorithm_name::AlgorithmName;
 use crate::damaged::damaged;
-use crate::ending::{Ending, Failure, Message};
+use crate::ending::{Ending, Failure};
 use crate::inspection::{mac_digest, unsupported, visible_work};
 use crate::long_work::Duration;
 use crate::malformed::{Detail, malformed};
 use crate::no_password::is_without_password;
-use crate::password::Password;
+use command_base::{Message, Password};
 use std::alloc::{AllocError, Global};
 use transfer::TransferError;
 
@@ -45,9 +45,21 @@ fn mac_mismatch(
     Ok(Some(Detail::advised(alloc, text, OPENSSL)?))
 }
 
-/// How much work a store takes that takes too much.
-fn work_limit(alloc: Global, store: &[u8]) -> Result<Option<Detail>, AllocError> {
+/// How much work a store takes that takes more than this limit.
+fn work_limit(alloc: Global, store: &[u8], limit: u64) -> Result<Option<Detail>, AllocError> {
     let work = visible_work(store);
+    if work <= u128::from(limit) {
+        let text = format!(in alloc;
+            "opening the store takes more than the {limit} steps that --limit allows"
+        )?;
+        let advice = format!(in alloc;
+            "If you trust the store, give a larger limit than {limit}."
+        )?;
+        return Ok(Some(Detail {
+            text,
+            advice: Some(advice),
+        }));
+    }
     let duration = Duration(work);
     let text = format!(in alloc;
         "opening the store takes at least {work} steps, about {duration}, and --limit allows less"
@@ -79,6 +91,7 @@ fn detail(
     refusal: TransferError,
     store: &[u8],
     password: &Password,
+    limit: u64,
 ) -> Result<Option<Detail>, Failure> {
     match refusal {
         TransferError::Malformed => Ok(malformed(alloc, store)?),
@@ -86,7 +99,7 @@ fn detail(
         TransferError::Unsupported => not_supported(alloc, store, password),
         TransferError::MacUnsupported => Ok(mac_unsupported(alloc, store)?),
         TransferError::MacMismatch => mac_mismatch(alloc, store, password),
-        TransferError::WorkLimit => Ok(work_limit(alloc, store)?),
+        TransferError::WorkLimit => Ok(work_limit(alloc, store, limit)?),
         _ => Ok(None),
     }
 }
@@ -95,14 +108,20 @@ fn message_of(text: String) -> Message {
     Message::Made(text)
 }
 
-/// The failure with what more there is to say of it. Its kind stays.
-pub fn with_detail(alloc: Global, failure: Failure, store: &[u8], password: &Password) -> Failure
+/// The failure with what more there is to say of it, where the store was to be opened within this limit. Its kind stays.
+pub fn with_detail(
+    alloc: Global,
+    failure: Failure,
+    store: &[u8],
+    password: &Password,
+    limit: u64,
+) -> Failure
     ensures { result.ending ≡ failure.ending }
 {
     let Ending::Refused(refusal) = failure.ending else {
         return failure;
     };
-    match detail(alloc, refusal, store, password) {
+    match detail(alloc, refusal, store, password, limit) {
         Ok(Some(detail)) => Failure {
             ending: failure.ending,
             message: Message::Made(detail.text),

@@ -1,12 +1,10 @@
 //! What the subcommand `rekey` is asked for.
-use crate::command_line::{
-    Argument, Form, LIMIT, PASSWORD_ENV, PASSWORD_FILE, PASSWORD_STDIN, STORE,
-};
+use crate::command_line::{LIMIT, PASSWORD_ENV, PASSWORD_FILE, PASSWORD_STDIN, STORE};
 use crate::ending::{Ending, Failure};
 use crate::export::{NEW_PASSWORD_ENV, NEW_PASSWORD_FILE, NEW_PASSWORD_STDIN};
-use crate::origin::Origin;
-use crate::request::{new_password_of, number_of, password_of, text_of};
+use crate::request::{number_of, text_of};
 use clap::ArgMatches;
+use command_base::{Argument, Form, Origin};
 use std::alloc::Global;
 
 pub const NAME: &str = "rekey";
@@ -105,8 +103,8 @@ pub fn asked<'a>(alloc: Global, matches: &ArgMatches<'a>) -> Result<Rekey<'a>, F
         store,
         out,
         may_replace: matches.get_flag("in-place") || matches.get_flag("force"),
-        password: password_of(matches),
-        new_password: new_password_of(matches),
+        password: Origin::of_password(matches),
+        new_password: Origin::of_new_password(matches),
         allow_empty: matches.get_flag("allow-empty-password"),
         limit: number_of(alloc, matches, "limit")?,
         verbose: matches.get_flag("verbose"),

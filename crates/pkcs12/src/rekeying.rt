@@ -9,8 +9,7 @@ use crate::inspection::listing;
 use crate::listing::Listing;
 use crate::long_work::tell_long_work;
 use crate::opening::{RANDOM, opened_store, refused};
-use crate::origin::read_password;
-use crate::password::{NewPassword, Password, without_nul};
+use crate::password::{NewPassword, read_password, without_nul};
 use crate::refusal::with_detail;
 use crate::rekey::Rekey;
 use crate::run::Surroundings;
@@ -78,6 +77,7 @@ fn changed<R: Files + AllocGlobal>(rt: &R, change: &Change<'_>) -> Result<Octets
                 refused(refusal),
                 given.store.as_slice(),
                 &given.password,
+                change.limit,
             ))
         }
     }
@@ -122,8 +122,12 @@ fn compare(
     change: &Change<'_>,
     before: &Opened,
 ) -> Result<(), Failure> {
-    let new_password = Password::new(String::from_str(alloc, change.new_password.as_str())?)?;
-    match opened_store(alloc, found, &new_password, change.limit) {
+    match opened_store(
+        alloc,
+        found,
+        change.new_password.as_password(),
+        change.limit,
+    ) {
         Ok(after) if have_the_same(before, &after) => Ok(()),
         Err(failure) if matches!(failure.ending, Ending::Memory) => Err(failure),
         _ => Err(Failure::new(

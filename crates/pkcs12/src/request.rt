@@ -6,7 +6,6 @@ use crate::check::Check;
 use crate::ending::{Ending, Failure};
 use crate::export::Export;
 use crate::list::List;
-use crate::origin::Origin;
 use crate::rekey::Rekey;
 use clap::ArgMatches;
 use std::alloc::Global;
@@ -64,41 +63,6 @@ pub fn number_of(alloc: Global, matches: &ArgMatches<'_>, name: &str) -> Result<
         Ok(number) => Ok(number),
         Err(_) => Err(not_a_number(alloc, name, "0 to 18446744073709551615", text)),
     }
-}
-
-/// The origin of a password, by the names of its three options.
-pub fn origin_of<'a>(
-    matches: &ArgMatches<'a>,
-    file: &str,
-    variable: &str,
-    standard: &str,
-) -> Option<Origin<'a>> {
-    if let Some(path) = matches.get_str(file) {
-        return Some(Origin::File(path));
-    }
-    if let Some(name) = matches.get_str(variable) {
-        return Some(Origin::Variable(name));
-    }
-    if matches.get_flag(standard) {
-        Some(Origin::Standard)
-    } else {
-        None
-    }
-}
-
-/// The origin of the store's password.
-pub fn password_of<'a>(matches: &ArgMatches<'a>) -> Option<Origin<'a>> {
-    origin_of(matches, "password-file", "password-env", "password-stdin")
-}
-
-/// The origin of the new password.
-pub fn new_password_of<'a>(matches: &ArgMatches<'a>) -> Option<Origin<'a>> {
-    origin_of(
-        matches,
-        "new-password-file",
-        "new-password-env",
-        "new-password-stdin",
-    )
 }
 
 /// What these matches ask for.

@@ -7,16 +7,16 @@ use crate::exporting::run_export;
 use crate::given::ASKING;
 use crate::list::run_list;
 use crate::output::printed;
+use crate::password_argument::password_argument;
 use crate::rekeying::run_rekey;
 use crate::request::{Request, request_of};
 use crate::self_test::self_test;
-use crate::words::password_word;
 use clap::ArgMatches;
 use clap::error::ErrorKind;
-use std::alloc::{AllocError, Global};
+use command_base::{arguments, refusal_text};
+use std::alloc::AllocError;
 use std::rt::{Env, Runtime};
 use std::{env, io};
-use terminal_text::without_values;
 
 /// What the process tells: its number, and whether its standard error is a terminal.
 #[derive(Clone, Copy)]
@@ -28,17 +28,6 @@ pub struct Surroundings {
 fn run_self_test<R: Print + AllocGlobal>(rt: &R) -> Result<(), Failure> {
     let lines = self_test(rt.alloc())?;
     printed(rt.alloc(), print!(rt; "{lines}"))
-}
-
-/// What clap says of arguments that it refuses.
-fn refused(alloc: Global, error: &clap::Error) -> Result<String, AllocError> {
-    let text = format!(in alloc; "{error}")?;
-    let text = text.as_str().trim_end();
-    let text = match text.strip_prefix("error: ") {
-        Some(rest) => rest,
-        None => text,
-    };
-    without_values(alloc, text)
 }
 
 /// The failure of arguments that clap refuses; none where it shows help or the version, which is
@@ -54,7 +43,7 @@ fn shown<R: Print + Eprint + AllocGlobal>(rt: &R, error: clap::Error) -> Result<
             )
             .advised(SHORT_USAGE),
         ),
-        _ => Err(Failure::with(Ending::Usage, refused(rt.alloc(), &error)?)),
+        _ => Err(Failure::told(Ending::Usage, refusal_text(rt.alloc(), &error))),
     }
 }
 
@@ -64,21 +53,6 @@ Usage:
     pkcs12 check STORE.p12
     pkcs12 export STORE.p12 --out DIR
     pkcs12 --help";
-
-/// The arguments, the program's name among them.
-fn arguments<R: Env + AllocGlobal>(rt: &R) -> Result<Vec<String>, Failure> {
-    let mut words = Vec::new(rt.alloc());
-    match env::args(rt) {
-        Ok(all) => {
-            for word in all {
-                words.push(word)?;
-            }
-            Ok(words)
-        }
-        Err(error) if error.kind() == io::ErrorKind::OutOfMemory => Err(Failure::from(AllocError)),
-        Err(_) => Err(Failure::new(Ending::Usage, "an argument is not UTF-8")),
-    }
-}
 
 /// Does what these matches ask for.
 fn answer<R: Runtime + AllocGlobal>(
@@ -97,10 +71,12 @@ fn answer<R: Runtime + AllocGlobal>(
 
 /// Does what the arguments ask for.
 pub fn run<R: Runtime + AllocGlobal>(rt: &R, around: Surroundings) -> Result<(), Failure> {
-    let words = arguments(rt)?;
-    password_word(words.as_slice())?;
+    let Some(arguments) = arguments(rt)? else {
+        return Err(Failure::new(Ending::Usage, "an argument is not UTF-8"));
+    };
+    password_argument(arguments.as_slice())?;
     let command = command(rt.alloc())?;
-    match command.try_get_matches_from(words.as_slice()) {
+    match command.try_get_matches_from(arguments.as_slice()) {
         Ok(matches) => answer(rt, around, &matches),
         Err(error) => shown(rt, error),
     }

@@ -1,8 +1,7 @@
 //! The file of a store: it is there whole, or not at all.
-use crate::attributes::Attributes;
 use crate::ending::{Ending, Failure};
 use crate::folder::{MAY_BE_LOST, not_kept, rename_whole, sync_folder, tell};
-use crate::paths::{name, parent};
+use command_base::{Attributes, name, parent};
 use std::alloc::{AllocError, Global};
 use std::fs::{OpenFile, OpenOptions};
 use std::io::{Read, Write};

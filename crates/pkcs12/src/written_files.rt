@@ -1,11 +1,11 @@
 //! The files of the output folder.
-use crate::attributes::Attributes;
 use crate::chains::{chain_text, chains};
 use crate::export::{Format, Layout, Part};
 use crate::file_name::{ALL, Kind, file_name};
 use crate::folder::{Folder, sync_folder};
 use crate::listing::{Label, Listing};
 use asn1_core::Octets;
+use command_base::Attributes;
 use pem_text::pem_of;
 use std::alloc::Global;
 use std::fs::{OpenFile, OpenOptions};
