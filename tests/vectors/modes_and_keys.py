@@ -5,7 +5,7 @@ Run at the top of the repository, with the package `cryptography`:
 
     python3 tests/vectors/modes_and_keys.py > tests/vectors/modes_and_keys.txt
 
-A line is `NAME WORD .. = WORD`, as in `modes_and_keys_standards.txt`, which has those of the standards. Keys and texts
+A line is `NAME ARGUMENT... = RESULT`, as in `modes_and_keys_standards.txt`, which has those of the standards. Keys and texts
 are fixed. Last run with Python 3.11.7 and cryptography 48.0.0; a new run writes the same file.
 """
 

@@ -5,7 +5,7 @@ Run at the top of the repository, with Python's `cryptography`:
 
     PYTHONPATH=tests python3 tests/vectors/pkcs12_stores.py > tests/vectors/pkcs12_stores.txt
 
-A line `pkcs12-store CERTIFICATE KEY PASSWORD NAME DRAWN CERTIFICATE .. = STORE` has a store as RFC 7292 section 5 makes it: by
+A line `pkcs12-store CERTIFICATE KEY PASSWORD NAME DRAWN CERTIFICATE... = STORE` has a store as RFC 7292 section 5 makes it: by
 `make_store`, which shares no code with the program, under the drawn salts of the key, the certificates and the MAC. A line
 `pkcs12-written STORE = STORE` has a store in another spelling, and in its own.
 """

@@ -73,7 +73,7 @@ fn expected_of(alloc: Global, word: &str) -> Result<Option<Expected<'_>>, AllocE
     }
 }
 
-/// The case in a line `NAME WORD .. = WORD`. None where it is written otherwise, or names no call.
+/// The case in a line `NAME ARGUMENT... = RESULT`. None where it is written otherwise, or names no call.
 pub fn read_case(alloc: Global, line: &str) -> Result<Option<Case<'_>>, AllocError>
     ensures { IfOk result (λ found. IfSome found (λ case.
         Reads line.now case.call case.words.items case.expected)) }

@@ -1,4 +1,4 @@
-//! What a call answers.
+//! What a call returns.
 use std::alloc::Global;
 use std::fmt::Display;
 

@@ -62,7 +62,7 @@ fn cbc_of_triple_des_is_that_of_openssl(rt: HostRuntime) {
     assert!(rt; seals(&cipher, &SHORT_IV, &TEXT[..37], ciphertext));
 }
 
-/// What the encryption under DES of the first `pos` octets answers.
+/// What the encryption under DES of the first `pos` octets returns.
 fn sealed(buffer: &mut [u8], pos: usize) -> Result<usize, ModeError> {
     cbc_encrypt_padded(&Des::new(&KEY), &SHORT_IV, buffer, pos)
 }

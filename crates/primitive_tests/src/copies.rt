@@ -1,4 +1,4 @@
-//! Copies of what keeps octets in memory: each stands where the first one stood, and goes on by itself.
+//! Copies of what keeps octets in memory: each begins where the first one was, and goes on by itself.
 use crate::streams::{draws, only_call, reads, writes};
 use asn1_core::{VecWriter, Writer};
 use octet_core::{DrawnBytes, Failed, Items, MemorySink, MemorySource, Octets, Sink, Source};

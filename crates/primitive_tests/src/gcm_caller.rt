@@ -15,7 +15,7 @@ fn open(key: &[u8; 32], nonce: &[u8; 12], buffer: &mut [u8]) -> Result<usize, Mo
     gcm_decrypt(&Aes256::new(key), nonce, buffer)
 }
 
-// the first case of the paper that NIST SP 800-38D stands on, with a key of 32 octets
+// the first case of the paper that NIST SP 800-38D is based on, with a key of 32 octets
 #[test]
 fn an_empty_text_is_opened(rt: HostRuntime) {
     let mut tag = *b"\x53\x0f\x8a\xfb\xc7\x45\x36\xb9\xa9\x63\xb4\xf1\xc4\xcb\x73\x8b";

@@ -1,4 +1,4 @@
-//! GCM: the second test case of the paper that NIST SP 800-38D stands on, refusals, and GHASH by single bits.
+//! GCM: the second test case of the paper that NIST SP 800-38D is based on, refusals, and GHASH by single bits.
 
 ghost use Rattle.std.specs.Prelude.{◌≤◌};
 
@@ -8,12 +8,12 @@ use mac_modes::{ModeError, gcm_decrypt, gcm_encrypt};
 const SEALED: [u8; 32] =
     *b"\x03\x88\xda\xce\x60\xb6\xa3\x92\xf3\x28\xc2\xb9\x71\xb2\xfe\x78\xab\x6e\x47\xd4\x2c\xec\x13\xbd\xf5\x3a\x67\xb2\x12\x57\xbd\xdf";
 
-/// What encryption under a key and a nonce of zeros answers, of the first `pos` octets.
+/// What encryption under a key and a nonce of zeros returns, of the first `pos` octets.
 fn sealed(buffer: &mut [u8], pos: usize) -> Result<usize, ModeError> {
     gcm_encrypt(&Aes128::new(&[0; 16]), &[0; 12], buffer, pos)
 }
 
-/// What decryption under a key and a nonce of zeros answers.
+/// What decryption under a key and a nonce of zeros returns.
 fn opened(buffer: &mut [u8]) -> Result<usize, ModeError> {
     gcm_decrypt(&Aes128::new(&[0; 16]), &[0; 12], buffer)
 }

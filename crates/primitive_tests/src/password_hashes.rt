@@ -80,7 +80,7 @@ fn a_list_of_parameters_comes_back(rt: HostRuntime) {
     );
 }
 
-/// What hashing under SHA-512 and 1,000 rounds answers at a salt, an algorithm and a version.
+/// What hashing under SHA-512 and 1,000 rounds returns at a salt, an algorithm and a version.
 fn customized(
     salt: &[u8],
     algorithm: Option<&str>,
@@ -107,7 +107,7 @@ fn hashing_refuses_in_its_order(rt: HostRuntime) {
     assert!(rt; hash.algorithm.as_str() == "pbkdf2-sha512");
 }
 
-/// What hashing under a drawn salt of these octets answers.
+/// What hashing under a drawn salt of these octets returns.
 fn salted(alloc: Global, drawn: &[u8]) -> Result<PasswordHash, Error> {
     let Ok(octets) = Octets::from_slice(alloc, drawn) else {
         return Err(Error::Memory);
@@ -116,7 +116,7 @@ fn salted(alloc: Global, drawn: &[u8]) -> Result<PasswordHash, Error> {
     hasher.hash_password(&mut DrawnBytes::new(octets), PASSWORD)
 }
 
-/// What hashing under this salt answers.
+/// What hashing under this salt returns.
 fn hashed(salt: &[u8]) -> Result<PasswordHash, Error> {
     Pbkdf2::from(Params::new(1000)?).hash_password_with_salt(PASSWORD, salt)
 }
