@@ -20,13 +20,12 @@ trap 'rm -rf "$work"' EXIT
 # shellcheck source=tests/shared/building.sh
 . "$home/tests/shared/building.sh"
 
-# as many processes as processors, and no more than four, each of which takes memory
-jobs=$(nproc 2>/dev/null || echo 1)
-[ "$jobs" -le 4 ] || jobs=4
-(cd "$crate" && rt lib --jobs "$jobs" >"$work/lib.log" 2>&1) || {
-    tail -n 20 "$work/lib.log" >&2
-    exit 1
-}
+# shellcheck source=wrapper/build.sh disable=SC2034
+(
+    wrapper_name=c_library wrapper_home=$home wrapper_crate=pkcs12_c
+    . "$home/wrapper/build.sh"
+    build_library
+) || exit 1
 mkdir "$work/lib"
 "$crate/link/make_library.sh" "$work/lib"
 ln -s libpkcs12.so.1 "$work/lib/libpkcs12.so"
@@ -95,6 +94,17 @@ numbers_of_the_header() {
     done <"$work/numbers"
 }
 holds the_numbers_are_those_of_the_command numbers_of_the_header
+
+# What a number means is said in one way, in C, Python and Rust, and each number of the header has a meaning.
+meanings() {
+    built meanings "$archive" && "$work/meanings" >"$work/meant" || return 1
+    sed -n 's/^    PKCS12_[A-Z_]* = \([0-9]*\).*/\1/p' "$crate/include/pkcs12.h" | sort -n >"$work/numbers"
+    cut -d ' ' -f 1 "$work/meant" | cmp - "$work/numbers" || return 1
+    grep -vE '^(0|100) ' "$work/meant" >"$work/refusals"
+    sed -n 's/^    \([0-9]*\): "\(.*\)",$/\1 \2/p' "$crate/examples/python/pkcs12.py" | cmp - "$work/refusals" &&
+        sed -n 's/^ *\([0-9]*\) => "\(.*\)",$/\1 \2/p' "$crate/examples/rust/transfer.rs" | cmp - "$work/refusals"
+}
+holds meanings_are_the_same_in_each_language meanings
 
 # --- the stores of examples/, good and refused, and others ---
 
@@ -249,7 +259,8 @@ calls() {
     done
     code=0
     "$@" "$keyed" "$work/new" "$work/new" >"$work/$caller.pem" 2>"$work/told" || code=$?
-    [ "$code" -eq 16 ] && [ ! -s "$work/$caller.pem" ] || return 1
+    [ "$code" -eq 16 ] && [ ! -s "$work/$caller.pem" ] &&
+        grep -q 'refused (16): the password is wrong, or the store was changed' "$work/told" || return 1
     # No more is read than a store may have.
     code=0
     (ulimit -v 4000000 && exec timeout 60 "$@" /dev/zero "$work/new" "$work/new") >"$work/$caller.pem" 2>"$work/told" || code=$?
@@ -267,6 +278,34 @@ from_c() {
         calls c "$work/from_c"
 }
 holds from_c from_c
+# The code in the language $1 of the library's page.
+code_of_page() {
+    awk -v begin="\`\`\`$1" '$0 == "```" { on = 0 } on { print } $0 == begin { on = 1 }' "$crate/README.md"
+}
+# The store of the page is opened, and its key is that of the store.
+is_transferred() {
+    [ "$(grep -c '^-----BEGIN CERTIFICATE' "$work/page.pem")" -eq 2 ] || return 1
+    ! have_openssl "$name" || {
+        openssl pkey -in "$work/page.pem" -passin 'pass:new password' -outform DER 2>"$work/told" >"$work/key.der" &&
+            openssl pkey -inform DER -in "$home/examples/openssl-default/key-0.der" -outform DER 2>"$work/told" | cmp - "$work/key.der"
+    }
+}
+page_in_c() {
+    code_of_page c >"$work/page.c"
+    # shellcheck disable=SC2086
+    "$compiler" $flags "$work/page.c" -o "$work/page" "$archive" || return 1
+    "$work/page" <"$home/examples/openssl-default/store.p12" >"$work/page.pem" && is_transferred || return 1
+    code=0
+    "$work/page" <"$home/examples/openssl-key/store.p12" >"$work/page.pem" 2>"$work/told" || code=$?
+    [ "$code" -eq 16 ] && [ ! -s "$work/page.pem" ] && grep -q '^the password is wrong' "$work/told"
+}
+holds the_page_in_c page_in_c
+page_in_python() {
+    code_of_page python >"$work/page.py"
+    (cd "$home" && LIBPKCS12=$work/lib/libpkcs12.so.1 PYTHONDONTWRITEBYTECODE=1 PYTHONPATH=$crate/examples/python \
+        "${PYTHON:-python3}" "$work/page.py") >"$work/page.pem" && is_transferred
+}
+holds the_page_in_python page_in_python
 from_cpp() {
     has "${CXX:-c++}" || return 0
     "${CXX:-c++}" -std=c++17 -O1 -Wall -Wextra -Werror -I"$crate/include" "$crate/examples/cpp/transfer.cpp" -o "$work/from_cpp" "$archive" &&

@@ -1,4 +1,4 @@
-/* Opens PKCS#12 stores (RFC 7292) and seals their private keys under a new password, as PEM text.
+/* Opens PKCS#12 stores (RFC 7292) and seals their private keys under a new password, as PEM text. For C99 and later, and C++.
  *
  * What each call returns is proved, from the grammar of the store down to the ciphers. The proofs assume of the caller:
  *   - each pointer to octets is valid for its length, aligned for its type, and not NULL, even where the length is 0;
@@ -40,7 +40,7 @@ enum {
     PKCS12_MAC_MISSING = 12,       /* no MAC, so a change to the store would go unnoticed */
     PKCS12_MAC_UNSUPPORTED = 13,   /* the MAC is made neither with SHA-1 nor with SHA-256 */
     PKCS12_ZERO_ITERATIONS = 14,   /* the store asks for zero iterations */
-    PKCS12_WORK_LIMIT = 15,        /* opening takes more steps than the limit; tested before the work is done */
+    PKCS12_WORK_LIMIT = 15,        /* opening takes more steps than the limit, which are not taken */
     PKCS12_MAC_MISMATCH = 16,      /* the password is wrong, or the store was changed */
     PKCS12_CONTENT_MALFORMED = 17, /* the MAC agrees, but the contents are damaged */
     PKCS12_DECRYPT_FAILED = 18,    /* the password agrees with the MAC, but a part does not decrypt with it */
@@ -50,6 +50,32 @@ enum {
     PKCS12_PASSWORD = 22,          /* a password of a store is not UTF-8, or has 2^57 octets or more */
     PKCS12_ROOM = 100              /* the output is too short: *needed says how many octets the text has */
 };
+
+/* What a number means, in English and for a message, also for one that this header does not have. It is C in this header, as the
+ * calls in one step are, and no part of what is proved. */
+static inline const char *pkcs12_strerror(uint32_t number)
+{
+    switch (number) {
+    case PKCS12_DONE: return "done";
+    case PKCS12_ROUNDS: return "the rounds are not 1 to 100,000,000";
+    case PKCS12_MEMORY: return "out of memory";
+    case PKCS12_MALFORMED: return "no PKCS#12 store in DER";
+    case PKCS12_UNSUPPORTED: return "something is of a kind, or under an algorithm, that is not opened";
+    case PKCS12_MAC_MISSING: return "no MAC, so a change to the store would go unnoticed";
+    case PKCS12_MAC_UNSUPPORTED: return "the MAC is made neither with SHA-1 nor with SHA-256";
+    case PKCS12_ZERO_ITERATIONS: return "the store asks for zero iterations";
+    case PKCS12_WORK_LIMIT: return "opening takes more steps than the limit";
+    case PKCS12_MAC_MISMATCH: return "the password is wrong, or the store was changed";
+    case PKCS12_CONTENT_MALFORMED: return "the MAC agrees, but the contents are damaged";
+    case PKCS12_DECRYPT_FAILED: return "the password agrees with the MAC, but a part does not decrypt with it";
+    case PKCS12_KEY_MALFORMED: return "a private key opens, but is not a PKCS#8 key";
+    case PKCS12_RANDOM_SHORT: return "too few random octets";
+    case PKCS12_TOO_LONG: return "the store has more than 16,777,215 octets";
+    case PKCS12_PASSWORD: return "a password of a store is not UTF-8, or is too long";
+    case PKCS12_ROOM: return "the output is too short";
+    default: return "a refusal that this version of the header does not know";
+    }
+}
 
 /* The most octets of a store. */
 #define PKCS12_STORE_MAX 16777215

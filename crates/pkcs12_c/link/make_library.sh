@@ -15,7 +15,7 @@ work=$(mktemp -d)
 trap 'rm -rf "$work"' EXIT
 ${CC:-cc} -O2 -fPIC -Wall -Wextra -c "$crate/link/heap.c" -o "$work/heap.o"
 cp "$archive" "$work/libpkcs12.a"
-"${AR:-ar}" rs "$work/libpkcs12.a" "$work/heap.o" 2>/dev/null
+"${AR:-ar}" rs "$work/libpkcs12.a" "$work/heap.o"
 ${CC:-cc} -shared -s -o "$work/libpkcs12.so.1" -Wl,-soname,libpkcs12.so.1 -Wl,--version-script="$crate/link/pkcs12.map" \
     -Wl,--gc-sections -Wl,-z,relro,-z,now -Wl,--whole-archive "$work/libpkcs12.a" -Wl,--no-whole-archive
 mv -f "$work/libpkcs12.a" "$work/libpkcs12.so.1" "$folder"

@@ -57,14 +57,14 @@ int main(int argc, char **argv)
     for (int i = 0; i < 3; i++)
         if (!(parts[i] = octets_of(argv[i + 1], &lens[i])))
             return perror(argv[i + 1]), 3;
-    uint32_t answer = pkcs12_transfer_pem_new(parts[0], lens[0], parts[1], line_len(parts[1], lens[1]), parts[2],
+    uint32_t number = pkcs12_transfer_pem_new(parts[0], lens[0], parts[1], line_len(parts[1], lens[1]), parts[2],
         line_len(parts[2], lens[2]), PKCS12_ROUNDS_DEFAULT, PKCS12_LIMIT_DEFAULT, &text, &len);
-    if (answer != PKCS12_DONE)
-        fprintf(stderr, "refused: %u\n", (unsigned)answer);
+    if (number != PKCS12_DONE)
+        fprintf(stderr, "refused (%u): %s\n", (unsigned)number, pkcs12_strerror(number));
     else if (fwrite(text, 1, len, stdout) != len || fflush(stdout) != 0)
-        answer = 4;
+        number = 4;
     free(text);
     for (int i = 0; i < 3; i++)
         free(parts[i]);
-    return (int)answer;
+    return (int)number;
 }

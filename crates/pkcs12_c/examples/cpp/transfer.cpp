@@ -16,7 +16,8 @@ namespace pkcs12 {
 
 // Why a call is refused: one of the numbers of pkcs12.h.
 struct Refused : std::runtime_error {
-    explicit Refused(std::uint32_t number) : std::runtime_error("pkcs12: refused: " + std::to_string(number)), number(number) {}
+    explicit Refused(std::uint32_t number)
+        : std::runtime_error("refused (" + std::to_string(number) + "): " + pkcs12_strerror(number)), number(number) {}
     std::uint32_t number;
 };
 

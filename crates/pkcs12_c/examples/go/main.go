@@ -17,7 +17,9 @@ import (
 // Refused says why a call is refused: one of the numbers of pkcs12.h.
 type Refused uint32
 
-func (number Refused) Error() string { return fmt.Sprintf("refused: %d", uint32(number)) }
+func (number Refused) Error() string {
+	return fmt.Sprintf("refused (%d): %s", uint32(number), C.GoString(C.pkcs12_strerror(C.uint32_t(number))))
+}
 
 var none [1]byte
 
@@ -85,7 +87,10 @@ func main() {
 	}
 	text, err := run(os.Args[1:])
 	if err == nil {
-		_, err = os.Stdout.Write(text)
+		if _, err = os.Stdout.Write(text); err != nil {
+			fmt.Fprintln(os.Stderr, err)
+			os.Exit(4)
+		}
 	}
 	if err != nil {
 		fmt.Fprintln(os.Stderr, err)

@@ -132,14 +132,24 @@ def _first_line(path):
 
 def main():
     if len(sys.argv) != 4:
-        sys.exit(__doc__)
-    with open(sys.argv[1], "rb") as file:
-        store = file.read(STORE_MAX + 1)
+        print(__doc__, file=sys.stderr)
+        sys.exit(2)
     try:
-        sys.stdout.write(transfer_pem(store, _first_line(sys.argv[2]), _first_line(sys.argv[3])))
+        with open(sys.argv[1], "rb") as file:
+            store = file.read(STORE_MAX + 1)
+        passwords = [_first_line(path) for path in sys.argv[2:]]
+    except OSError as fault:
+        print(fault, file=sys.stderr)
+        sys.exit(3)
+    try:
+        sys.stdout.write(transfer_pem(store, *passwords))
+        sys.stdout.flush()
     except Refused as refused:
         print(refused, file=sys.stderr)
         sys.exit(refused.number)
+    except OSError as fault:
+        print(fault, file=sys.stderr)
+        os._exit(4)  # an exit in the usual way would write the text again
 
 
 if __name__ == "__main__":

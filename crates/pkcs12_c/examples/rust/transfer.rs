@@ -30,6 +30,30 @@ mod pkcs12 {
     #[derive(Clone, Copy, Debug, PartialEq, Eq)]
     pub struct Refused(pub u32);
 
+    impl std::fmt::Display for Refused {
+        fn fmt(&self, f: &mut std::fmt::Formatter<'_>) -> std::fmt::Result {
+            let meaning = match self.0 {
+                2 => "the rounds are not 1 to 100,000,000",
+                7 => "out of memory",
+                10 => "no PKCS#12 store in DER",
+                11 => "something is of a kind, or under an algorithm, that is not opened",
+                12 => "no MAC, so a change to the store would go unnoticed",
+                13 => "the MAC is made neither with SHA-1 nor with SHA-256",
+                14 => "the store asks for zero iterations",
+                15 => "opening takes more steps than the limit",
+                16 => "the password is wrong, or the store was changed",
+                17 => "the MAC agrees, but the contents are damaged",
+                18 => "the password agrees with the MAC, but a part does not decrypt with it",
+                19 => "a private key opens, but is not a PKCS#8 key",
+                20 => "too few random octets",
+                21 => "the store has more than 16,777,215 octets",
+                22 => "a password of a store is not UTF-8, or is too long",
+                _ => "see pkcs12.h",
+            };
+            write!(f, "refused ({}): {meaning}", self.0)
+        }
+    }
+
     /// The PEM text of a store, its keys sealed under the new password. As many random octets as the store has are always enough, and
     /// so is the room.
     ///
@@ -102,7 +126,7 @@ fn main() -> ExitCode {
             Err(_) => ExitCode::from(4),
         },
         Ok(Err(refused)) => {
-            eprintln!("refused: {}", refused.0);
+            eprintln!("{refused}");
             ExitCode::from(refused.0 as u8)
         }
         Err(fault) => {
