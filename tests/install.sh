@@ -78,7 +78,7 @@ stands_alone() {
 }
 holds the_installed_command_knows_no_tree stands_alone
 installed_pages() {
-    ! grep -q '\./pkcs12' "$work/prefix/share/man/man1/pkcs12.1" || return 1
+    ! grep -qE '\./pkcs12|pkcs12 (build|install)|BUILDING' "$work/prefix/share/man/man1/pkcs12.1" || return 1
     command -v man >/dev/null || {
         echo "skipped $name: there is no man"
         return 0
@@ -135,15 +135,18 @@ installed_library() {
 }
 holds the_library_is_found_by_pkg_config installed_library
 
-# Where the archive is not built, rt builds it, in its crate.
+# Where the archive is not built, rt proves the crates below it and then builds it, in its crate.
 library_is_built() {
-    mkdir -p "$work/unbuilt/crates/pkcs12/out" "$work/unbuilt/crates/pkcs12_c" "$work/unbuilt/bin"
-    cp -r "$home/pkcs12" "$home/wrapper" "$home/docs" "$home/crates.txt" "$work/unbuilt" &&
+    mkdir -p "$work/unbuilt/crates/pkcs12/out" "$work/unbuilt/crates/pkcs12_c/src" "$work/unbuilt/crates/low/src" "$work/unbuilt/bin"
+    cp -r "$home/pkcs12" "$home/wrapper" "$home/docs" "$work/unbuilt" && printf 'low:\npkcs12_c staticlib: low\npkcs12: low\n' >"$work/unbuilt/crates.txt" &&
         cp "$home/crates/pkcs12/out/pkcs12" "$work/unbuilt/crates/pkcs12/out" || return 1
     # shellcheck disable=SC2016
-    printf '#!/bin/sh\necho "${PWD##*/} $*" >>"%s/calls"\nexit 1\n' "$work/unbuilt" >"$work/unbuilt/bin/rt" && chmod 755 "$work/unbuilt/bin/rt"
+    printf '#!/bin/sh\necho "${PWD##*/} $*" >>"%s/calls"\n[ "${PWD##*/}" = low ] && mkdir -p out/rlib && : >out/rlib/stamp\n' "$work/unbuilt" \
+        >"$work/unbuilt/bin/rt" && chmod 755 "$work/unbuilt/bin/rt"
     refused 1 env "PATH=$work/unbuilt/bin:$PATH" CC=sh "$work/unbuilt/pkcs12" install "$work/unbuilt/prefix" &&
-        grep -qxE 'pkcs12_c lib --jobs [0-9]+' "$work/unbuilt/calls" && [ ! -e "$work/unbuilt/prefix" ]
+        head -n 1 "$work/unbuilt/calls" | grep -qxE 'low lib --jobs [0-9]+' &&
+        tail -n 1 "$work/unbuilt/calls" | grep -qxE 'pkcs12_c lib --jobs [0-9]+' && [ "$(wc -l <"$work/unbuilt/calls")" -eq 2 ] &&
+        [ ! -e "$work/unbuilt/prefix" ] && [ -f "$work/unbuilt/crates/low/out/rlib/stamp" ]
 }
 holds the_library_is_built_where_it_is_not library_is_built
 
@@ -297,7 +300,7 @@ library_built() {
         return 0
     }
     mkdir -p "$work/fresh/crates/pkcs12/out" "$work/fresh/crates/pkcs12_c" "$work/rt" &&
-        cp -r "$home/pkcs12" "$home/wrapper" "$home/docs" "$home/crates.txt" "$work/fresh" &&
+        cp -r "$home/pkcs12" "$home/wrapper" "$home/docs" "$work/fresh" && printf 'pkcs12:\npkcs12_c staticlib:\n' >"$work/fresh/crates.txt" &&
         cp -r "$home/crates/pkcs12_c/include" "$home/crates/pkcs12_c/link" "$work/fresh/crates/pkcs12_c" &&
         cp "$home/crates/pkcs12/out/pkcs12" "$work/fresh/crates/pkcs12/out" &&
         printf '#!/bin/sh\nmkdir -p out && cp "%s" out && echo "${PWD##*/} $1" >>"%s"\n' \
@@ -362,5 +365,32 @@ uninstalls_itself() {
         status 0 env -u HOME "$work/itself/bin/pkcs12" uninstall && nothing_at "$work/itself"
 }
 holds the_installed_command_uninstalls_itself uninstalls_itself
+# Where bin is a link to a folder elsewhere.
+linked_bin() {
+    mkdir -p "$work/linked" "$work/elsewhere" && ln -s ../elsewhere "$work/linked/bin" &&
+        status 0 "$home/pkcs12" install "$work/linked" && checks_a_store "$work/linked/bin/pkcs12" &&
+        checks_a_store env "PATH=$work/linked/bin:/usr/bin:/bin" pkcs12 && (cd "$work/linked" && checks_a_store bin/pkcs12) && (cd "$work/linked/bin" && checks_a_store ./pkcs12) &&
+        status 0 "$work/linked/bin/pkcs12" uninstall && [ -z "$(ls -A "$work/elsewhere")" ]
+}
+holds a_bin_that_is_a_link linked_bin
+# What cannot be removed is told, and the command is there to try again.
+not_removed() {
+    status 0 "$home/pkcs12" install "$work/kept" && rm "$work/kept/share/man/man1/pkcs12.1" && mkdir "$work/kept/share/man/man1/pkcs12.1" || return 1
+    refused 1 "$work/kept/bin/pkcs12" uninstall && grep -q '^pkcs12: BuildFailed (1): not uninstalled: .*/pkcs12.1 could not be removed$' "$work/told" &&
+        [ -x "$work/kept/bin/pkcs12" ] && rmdir "$work/kept/share/man/man1/pkcs12.1" && status 0 "$work/kept/bin/pkcs12" uninstall &&
+        nothing_at "$work/kept"
+}
+holds what_is_not_removed_is_told not_removed
+# A compiler of C that does not work: the rest is installed.
+without_linking() {
+    [ "$expected" != "${expected#*libpkcs12.a}" ] || {
+        echo "skipped $name: the library is not built"
+        return 0
+    }
+    status 0 env CC=false "$home/pkcs12" install "$work/unlinked" && grep -q '^without the library for C: ' "$work/told" &&
+        checks_a_store "$work/unlinked/bin/pkcs12" && [ ! -e "$work/unlinked/include" ] &&
+        status 0 "$work/unlinked/bin/pkcs12" uninstall && nothing_at "$work/unlinked"
+}
+holds a_library_that_is_not_linked_is_told without_linking
 
 exit "$failed"

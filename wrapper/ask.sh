@@ -2,6 +2,8 @@
 # Runs $pkcs12_program with the arguments of the command, asks at the terminal for the passwords that it lacks, and ends with its
 # exit number. Sourced by ./pkcs12 and by the installed command, which set $pkcs12_scripts, the folder of this file.
 
+# A file that may not grow any more is a failed write, and kills neither the program nor this shell.
+trap '' XFSZ 2>/dev/null || :
 # shellcheck source=wrapper/terminal.sh
 . "$pkcs12_scripts/terminal.sh"
 [ -z "$wrapper_terminal" ] || export PKCS12_ASKING=yes

@@ -150,11 +150,15 @@ find_library() {
     fi
     pkcs12_archive=yes
 }
-# Leaves it linked in $pkcs12_made_library.
+# Leaves it linked in $pkcs12_made_library, where that is done.
 make_library() {
     [ -n "$pkcs12_archive" ] || return 0
     pkcs12_made_library=$(mktemp -d) || not_installed "a folder for temporary files could not be made"
-    "$pkcs12_c/link/make_library.sh" "$pkcs12_made_library" || not_installed "the library for C could not be linked"
+    if ! "$pkcs12_c/link/make_library.sh" "$pkcs12_made_library"; then
+        rm -rf -- "$pkcs12_made_library"
+        pkcs12_made_library=
+        echo "without the library for C: it could not be linked, as is said above" >&2
+    fi
 }
 stage_library() {
     [ -n "$pkcs12_made_library" ] || return 0
@@ -175,7 +179,8 @@ stage_all() {
     stage 644 lib/pkcs12/ask.sh cat "$wrapper_home/wrapper/ask.sh"
     stage 644 lib/pkcs12/terminal.sh cat "$wrapper_home/wrapper/terminal.sh"
     stage 644 lib/pkcs12/install.sh cat "$wrapper_home/wrapper/install.sh"
-    stage 644 share/man/man1/pkcs12.1 sed -e 's|\\&\./pkcs12|pkcs12|g' -e 's|\./pkcs12|pkcs12|g' "$wrapper_home/docs/pkcs12.1"
+    stage 644 share/man/man1/pkcs12.1 sed -e '/^\.\\" Below here/,/^\.\\" Above here/d' -e 's|\\&\./pkcs12|pkcs12|g' -e 's|\./pkcs12|pkcs12|g' \
+        "$wrapper_home/docs/pkcs12.1"
     stage 644 share/bash-completion/completions/pkcs12 cat "$wrapper_home/docs/pkcs12.bash"
     stage_library
     pkcs12_old_folders=
@@ -216,12 +221,26 @@ install() {
     esac
 }
 
+# Removes the file $1 below the prefix.
+remove_file() {
+    rm -f -- "$pkcs12_top/$1" && return 0
+    printf 'pkcs12: BuildFailed (1): not uninstalled: %s could not be removed\n' "$pkcs12_top/$1" >&2
+    exit 1
+}
+
 uninstall() {
     find_prefix "$@"
     [ -f "$pkcs12_top/$pkcs12_made" ] || wrong_use "pkcs12 is not installed below $pkcs12_top"
     pkcs12_new_folders=$(cat -- "$pkcs12_top/$pkcs12_made")
     [ -f "$pkcs12_top/$pkcs12_with_library" ] || pkcs12_library=
-    for pkcs12_each in $pkcs12_files $pkcs12_library "$pkcs12_made"; do rm -f -- "$pkcs12_top/$pkcs12_each"; done
+    # The command goes last, and what it removes itself by, so that it can be called again where something could not be removed.
+    for pkcs12_each in $pkcs12_library $pkcs12_files; do
+        case $pkcs12_each in
+            bin/pkcs12 | lib/pkcs12/install.sh) continue ;;
+        esac
+        remove_file "$pkcs12_each"
+    done
+    for pkcs12_each in "$pkcs12_made" lib/pkcs12/install.sh bin/pkcs12; do remove_file "$pkcs12_each"; done
     remove_folders "$pkcs12_new_folders"
     echo "pkcs12 is no longer below $pkcs12_top"
 }

@@ -7,8 +7,17 @@ set -eu
 unset PKCS12_ASKING pkcs12_password pkcs12_new_password wrapper_answered
 wrapper_name=pkcs12
 
-pkcs12_self=$(readlink -f -- "$0")
-pkcs12_prefix=${pkcs12_self%/bin/*}
+# By the path at which it was called, since bin may be a link to another folder; else where a link to this file leads to.
+pkcs12_self=$0
+case $0 in
+    /*) ;;
+    *) pkcs12_self=${PWD-}/${0#./} ;;
+esac
+pkcs12_prefix=${pkcs12_self%/bin/"${pkcs12_self##*/}"}
+if [ ! -f "$pkcs12_self" ] || [ ! -f "$pkcs12_prefix/lib/pkcs12/ask.sh" ]; then
+    pkcs12_self=$(readlink -f -- "$0")
+    pkcs12_prefix=${pkcs12_self%/bin/*}
+fi
 pkcs12_scripts=$pkcs12_prefix/lib/pkcs12
 pkcs12_program=$pkcs12_scripts/pkcs12
 if [ "${1-}" = uninstall ]; then
