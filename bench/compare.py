@@ -1,5 +1,5 @@
 #!/usr/bin/env python3
-"""Measures two commands, run by turns: `compare.py RUNS INPUT COMMAND.. -- INPUT COMMAND..`.
+"""Measures two commands, run by turns: `compare.py RUNS INPUT COMMAND... -- INPUT COMMAND...`.
 
 For each it prints a line `WALL CPU MIB`: the least wall time and the least processor time (user and system) of RUNS runs, in seconds, and
 the largest resident set in MiB. INPUT is the standard input; the output is thrown away. The runs alternate, so that other work on the

@@ -3,9 +3,9 @@
 #
 #     bench/gate_lines.sh
 #
-# Lines count comments, empty lines and what contracts take. Tests are what stands in src/tests.rt, in src/tests/ and in files
-# named ..tests.rt, and the crates named .._tests. Laws are the lines of definitions in files named ..Laws or ..Spellings. A standard input of known answers
-# counts for nothing.
+# Lines count comments, empty lines and what contracts take. Tests are src/tests.rt, src/tests/, files whose names end in tests.rt,
+# and the crates whose names end in _tests. Laws are the lines of definitions in files whose names end in Laws or Spellings. A standard
+# input of known answers counts for nothing.
 set -eu
 cd "$(dirname "$0")/.."
 

@@ -1,5 +1,5 @@
 #!/usr/bin/env python3
-"""Measures one command: `measure.py RUNS INPUT COMMAND..` prints its wall time in seconds and its peak memory in MiB.
+"""Measures one command: `measure.py RUNS INPUT COMMAND...` prints its wall time in seconds and its peak memory in MiB.
 
 The time is the least of RUNS runs with INPUT on standard input and the output thrown away. The memory is the largest resident set
 of one more run, by GNU time where it is there: a command that Python starts counts Python's own memory as its own. Without GNU

@@ -25,7 +25,7 @@ _pkcs12() {
         --rounds | --limit | --seal-limit | --most-files) return ;;
     esac
     if [ "$COMP_CWORD" -eq 1 ]; then
-        mapfile -t COMPREPLY < <(compgen -W "check list export rekey self-test --help --version" -- "$word")
+        mapfile -t COMPREPLY < <(compgen -W "check list export rekey self-test uninstall --help --version" -- "$word")
     elif [ "${COMP_WORDS[1]}" = self-test ]; then
         mapfile -t COMPREPLY < <(compgen -W "--help" -- "$word")
     elif [ "${word#-}" = "$word" ]; then

@@ -1,7 +1,7 @@
 #!/usr/bin/env python3
 """Runs a command at a terminal of its own, and types.
 
-usage: at_terminal.py [--signal NAME] [--answer TEXT].. -- COMMAND ARGUMENT..
+usage: at_terminal.py [--signal NAME] [--answer TEXT]... -- COMMAND ARGUMENT...
 
 Each TEXT is typed as soon as the command asks, which ends in `: `. With a signal, this is sent to the command's whole process group at the
 first question that has no answer left. Prints what the terminal showed, and then how its echo was; ends with the command's status, or

@@ -1,7 +1,7 @@
 #!/bin/sh
 # Tries wrong bodies that the gate does not try, since most of these crates would be proved once more for them:
 #
-#     tests/wrong_bodies/try.sh [CRATE..]
+#     tests/wrong_bodies/try.sh [CRATE...]
 #
 # The folder of a crate has one edit a file, in the form of those in crates/*/must-fail, which `rt ci` tries. The crate is proved in a
 # copy, where earlier checks have not left it proved, and then each edit has to be refused. With no CRATE, all of them are tried.
