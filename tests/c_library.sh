@@ -264,7 +264,16 @@ calls() {
     # No more is read than a store may have.
     code=0
     (ulimit -v 4000000 && exec timeout 60 "$@" /dev/zero "$work/new" "$work/new") >"$work/$caller.pem" 2>"$work/told" || code=$?
-    [ "$code" -eq 21 ] && [ ! -s "$work/$caller.pem" ]
+    [ "$code" -eq 21 ] && [ ! -s "$work/$caller.pem" ] || return 1
+    # A file that is not there, and a disk that is full.
+    code=0
+    "$@" "$work/none" "$work/new" "$work/new" >"$work/$caller.pem" 2>"$work/told" || code=$?
+    [ "$code" -eq 3 ] && [ ! -s "$work/$caller.pem" ] && ! grep -q Traceback "$work/told" || return 1
+    [ ! -c /dev/full ] || {
+        code=0
+        "$@" "$keyed" "$keyed_password" "$work/new" >/dev/full 2>"$work/told" || code=$?
+        [ "$code" -eq 4 ] && ! grep -q Traceback "$work/told"
+    }
 }
 has() {
     command -v "$1" >/dev/null || {

@@ -149,6 +149,21 @@ library_is_built() {
         [ ! -e "$work/unbuilt/prefix" ] && [ -f "$work/unbuilt/crates/low/out/rlib/stamp" ]
 }
 holds the_library_is_built_where_it_is_not library_is_built
+# Nothing is left of a build of the library that a signal ends, and what rt kept is back in its place.
+signal_while_building_the_library() {
+    rm -rf "$work/unbuilt/crates/low/out" && mkdir -p "$work/unbuilt/crates/low/out/incremental" && : >"$work/unbuilt/crates/low/out/incremental/kept"
+    # shellcheck disable=SC2016
+    printf '#!/bin/sh\necho $$ >"%s/number"\nexec sleep 600\n' "$work/unbuilt" >"$work/unbuilt/bin/rt"
+    PATH=$work/unbuilt/bin:$PATH CC=sh "$work/unbuilt/pkcs12" install "$work/unbuilt/prefix" >"$work/said" 2>"$work/told" &
+    started=$!
+    while [ ! -s "$work/unbuilt/number" ] && kill -0 "$started" 2>/dev/null; do sleep 0.01; done
+    kill "$started"
+    code=0
+    wait "$started" || code=$?
+    [ "$code" -eq 143 ] && [ ! -e "$work/unbuilt/prefix" ] && [ ! -e "$work/unbuilt/crates/pkcs12_c/out/rooms" ] &&
+        [ -f "$work/unbuilt/crates/low/out/incremental/kept" ] && ! grep -qs sleep "/proc/$(cat "$work/unbuilt/number")/cmdline"
+}
+holds a_signal_ends_the_build_of_the_library signal_while_building_the_library
 
 # --- again, and elsewhere ---
 
@@ -369,16 +384,19 @@ holds the_installed_command_uninstalls_itself uninstalls_itself
 linked_bin() {
     mkdir -p "$work/linked" "$work/elsewhere" && ln -s ../elsewhere "$work/linked/bin" &&
         status 0 "$home/pkcs12" install "$work/linked" && checks_a_store "$work/linked/bin/pkcs12" &&
-        checks_a_store env "PATH=$work/linked/bin:/usr/bin:/bin" pkcs12 && (cd "$work/linked" && checks_a_store bin/pkcs12) && (cd "$work/linked/bin" && checks_a_store ./pkcs12) &&
+        checks_a_store env "PATH=$work/linked/bin:/usr/bin:/bin" pkcs12 && (cd "$work/linked" && checks_a_store bin/pkcs12) &&
+        (cd "$work/linked/bin" && checks_a_store ./pkcs12) &&
         status 0 "$work/linked/bin/pkcs12" uninstall && [ -z "$(ls -A "$work/elsewhere")" ]
 }
 holds a_bin_that_is_a_link linked_bin
 # What cannot be removed is told, and the command is there to try again.
 not_removed() {
     status 0 "$home/pkcs12" install "$work/kept" && rm "$work/kept/share/man/man1/pkcs12.1" && mkdir "$work/kept/share/man/man1/pkcs12.1" || return 1
+    # bin is a link here, too
+    mv "$work/kept/bin" "$work/kept-bin" && ln -s ../kept-bin "$work/kept/bin" || return 1
     refused 1 "$work/kept/bin/pkcs12" uninstall && grep -q '^pkcs12: BuildFailed (1): not uninstalled: .*/pkcs12.1 could not be removed$' "$work/told" &&
         [ -x "$work/kept/bin/pkcs12" ] && rmdir "$work/kept/share/man/man1/pkcs12.1" && status 0 "$work/kept/bin/pkcs12" uninstall &&
-        nothing_at "$work/kept"
+        [ "$(ls -A "$work/kept")" = bin ] && [ -z "$(ls -A "$work/kept-bin")" ]
 }
 holds what_is_not_removed_is_told not_removed
 # A compiler of C that does not work: the rest is installed.

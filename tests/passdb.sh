@@ -395,6 +395,17 @@ full_disk() {
     return "$outcome"
 }
 holds a_full_disk_leaves_the_file full_disk
+# No file may grow: neither can the file be written nor what is said of that, and nobody is killed by it.
+no_file_may_grow() {
+    cp "$file" "$work/stays"
+    code=0
+    (
+        ulimit -f 0
+        setsid -w "$PASSDB" add "$work/stays" eve --password-file "$work/one" --rounds 1000 >/dev/null 2>"$work/nothing-said" </dev/null
+    ) || code=$?
+    [ "$code" -eq 4 ] && cmp -s "$file" "$work/stays" && nothing_beside "$work/stays"
+}
+holds a_limit_of_file_sizes_leaves_the_file no_file_may_grow
 read_only() {
     [ "$(id -u)" -eq 0 ] && command -v setpriv >/dev/null || {
         echo "skipped read_only: it is tried as root, who can be another user"

@@ -233,14 +233,15 @@ uninstall() {
     [ -f "$pkcs12_top/$pkcs12_made" ] || wrong_use "pkcs12 is not installed below $pkcs12_top"
     pkcs12_new_folders=$(cat -- "$pkcs12_top/$pkcs12_made")
     [ -f "$pkcs12_top/$pkcs12_with_library" ] || pkcs12_library=
-    # The command goes last, and what it removes itself by, so that it can be called again where something could not be removed.
+    # The command goes last, and what it removes itself by, so that it can be called again where something could not be removed; and the
+    # note of what was made after it, by which ./pkcs12 uninstall goes.
     for pkcs12_each in $pkcs12_library $pkcs12_files; do
         case $pkcs12_each in
             bin/pkcs12 | lib/pkcs12/install.sh) continue ;;
         esac
         remove_file "$pkcs12_each"
     done
-    for pkcs12_each in "$pkcs12_made" lib/pkcs12/install.sh bin/pkcs12; do remove_file "$pkcs12_each"; done
+    for pkcs12_each in bin/pkcs12 lib/pkcs12/install.sh "$pkcs12_made"; do remove_file "$pkcs12_each"; done
     remove_folders "$pkcs12_new_folders"
     echo "pkcs12 is no longer below $pkcs12_top"
 }

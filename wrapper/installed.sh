@@ -14,7 +14,7 @@ case $0 in
     *) pkcs12_self=${PWD-}/${0#./} ;;
 esac
 pkcs12_prefix=${pkcs12_self%/bin/"${pkcs12_self##*/}"}
-if [ ! -f "$pkcs12_self" ] || [ ! -f "$pkcs12_prefix/lib/pkcs12/ask.sh" ]; then
+if [ ! -f "$pkcs12_self" ] || [ ! -f "$pkcs12_prefix/lib/pkcs12/install.sh" ]; then
     pkcs12_self=$(readlink -f -- "$0")
     pkcs12_prefix=${pkcs12_self%/bin/*}
 fi

@@ -40,7 +40,7 @@ enum {
     PKCS12_MAC_MISSING = 12,       /* no MAC, so a change to the store would go unnoticed */
     PKCS12_MAC_UNSUPPORTED = 13,   /* the MAC is made neither with SHA-1 nor with SHA-256 */
     PKCS12_ZERO_ITERATIONS = 14,   /* the store asks for zero iterations */
-    PKCS12_WORK_LIMIT = 15,        /* opening takes more steps than the limit, which are not taken */
+    PKCS12_WORK_LIMIT = 15,        /* opening takes more steps than the limit; none beyond it is taken */
     PKCS12_MAC_MISMATCH = 16,      /* the password is wrong, or the store was changed */
     PKCS12_CONTENT_MALFORMED = 17, /* the MAC agrees, but the contents are damaged */
     PKCS12_DECRYPT_FAILED = 18,    /* the password agrees with the MAC, but a part does not decrypt with it */
