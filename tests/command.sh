@@ -158,6 +158,11 @@ certificates_from_a_pipe() {
 }
 holds certificates_from_a_pipe certificates_from_a_pipe
 holds two_passwords fails 2 Usage "cannot be used" check "$plain" --password-stdin --password-file "$plain_password"
+named_like_an_option() {
+    ends 2 check -x.p12 && grep -q 'is given as ./-NAME' "$work/told" || return 1
+    cp "$plain" "$work/-x.p12" && (cd "$work" && ends 0 check ./-x.p12 --password-file "$plain_password")
+}
+holds store_named_like_an_option named_like_an_option
 holds no_such_variable fails 3 ReadFault "no environment variable" check "$plain" --password-env NO_SUCH
 holds no_such_password_file fails 3 ReadFault "the password file $work/no-such: " check "$plain" --password-file "$work/no-such"
 holds no_such_new_password_file fails 3 ReadFault "the new password file $work/no-such: " export "$keyed" --out "$work/none" \

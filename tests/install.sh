@@ -386,6 +386,8 @@ linked_bin() {
         status 0 "$home/pkcs12" install "$work/linked" && checks_a_store "$work/linked/bin/pkcs12" &&
         checks_a_store env "PATH=$work/linked/bin:/usr/bin:/bin" pkcs12 && (cd "$work/linked" && checks_a_store bin/pkcs12) &&
         (cd "$work/linked/bin" && checks_a_store ./pkcs12) &&
+        ln -s "$work/linked/bin/pkcs12" "$work/further" && ln -s further "$work/furthest" && checks_a_store "$work/furthest" &&
+        (cd "$work" && checks_a_store ./furthest) &&
         status 0 "$work/linked/bin/pkcs12" uninstall && [ -z "$(ls -A "$work/elsewhere")" ]
 }
 holds a_bin_that_is_a_link linked_bin

@@ -7,17 +7,30 @@ set -eu
 unset PKCS12_ASKING pkcs12_password pkcs12_new_password wrapper_answered
 wrapper_name=pkcs12
 
-# By the path at which it was called, since bin may be a link to another folder; else where a link to this file leads to.
+# The folder that it was installed below: by the path at which it was called, or by that to which a link there leads, since bin may be a
+# link to another folder; else by where all links lead to.
 pkcs12_self=$0
 case $0 in
     /*) ;;
     *) pkcs12_self=${PWD-}/${0#./} ;;
 esac
 pkcs12_prefix=${pkcs12_self%/bin/"${pkcs12_self##*/}"}
-if [ ! -f "$pkcs12_self" ] || [ ! -f "$pkcs12_prefix/lib/pkcs12/install.sh" ]; then
-    pkcs12_self=$(readlink -f -- "$0")
-    pkcs12_prefix=${pkcs12_self%/bin/*}
-fi
+pkcs12_links=0
+while [ ! -f "$pkcs12_self" ] || [ ! -f "$pkcs12_prefix/lib/pkcs12/install.sh" ]; do
+    if [ -L "$pkcs12_self" ] && [ "$pkcs12_links" -lt 40 ]; then
+        pkcs12_links=$((pkcs12_links + 1))
+        pkcs12_link=$(readlink -- "$pkcs12_self")
+        case $pkcs12_link in
+            /*) pkcs12_self=$pkcs12_link ;;
+            *) pkcs12_self=${pkcs12_self%/*}/$pkcs12_link ;;
+        esac
+        pkcs12_prefix=${pkcs12_self%/bin/"${pkcs12_self##*/}"}
+    else
+        pkcs12_self=$(readlink -f -- "$0")
+        pkcs12_prefix=${pkcs12_self%/bin/*}
+        break
+    fi
+done
 pkcs12_scripts=$pkcs12_prefix/lib/pkcs12
 pkcs12_program=$pkcs12_scripts/pkcs12
 if [ "${1-}" = uninstall ]; then

@@ -6,7 +6,7 @@ use Rattle.pkcs12.specs.declared.export.Part.TheVariants.{Certificates}
 use Rattle.transfer.specs.Opening.{all_certificates}
 use Rattle.transfer.specs.Sealing.{SealsAll}
 use Rattle.transfer.specs.Verdicts.{StoreOpens}
-use Rattle.pkcs12.specs.Others.{has_others}
+use Rattle.store_inspection.specs.Others.{has_others}
 
 -- The store opens under its password within the limit, and has no other bags unless these are
 -- skipped. Its certificates are written in order, and under a new password the keys that are

@@ -1,5 +1,2 @@
-pub mod Certificates
 pub mod Ending
 pub mod Exports
-pub mod Others
-pub mod Pairs

@@ -3,17 +3,15 @@ use crate::command_line::{LIMIT, PASSWORD_ENV, PASSWORD_FILE, PASSWORD_STDIN, ST
 use crate::ending::Failure;
 use crate::given::{opened, read_given};
 use crate::input::inputs_differ;
-use crate::inspection::listing;
-use crate::json::json;
 use crate::long_work::tell_long_work;
 use crate::output::printed;
 use crate::request::{number_of, text_of};
 use crate::run::Surroundings;
-use crate::summary::summary;
 use clap::ArgMatches;
 use command_base::{Argument, Form, Origin};
 use std::alloc::Global;
 use std::rt::Runtime;
+use store_inspection::{Listing, json, summary};
 
 pub const NAME: &str = "check";
 
@@ -65,7 +63,7 @@ pub fn run_check<R: Runtime + AllocGlobal>(
     let given = read_given(rt, asked.store, asked.password, asked.limit)?;
     tell_long_work(rt, around, given.store.as_slice(), None);
     let opened = opened(rt.alloc(), &given, asked.limit)?;
-    let found = listing(rt.alloc(), opened.contents.as_slice())?;
+    let found = Listing::of(rt.alloc(), opened.contents.as_slice())?;
     let text = if asked.in_json {
         json(rt.alloc(), &found)?
     } else {

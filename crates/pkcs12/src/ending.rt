@@ -2,10 +2,11 @@
 ghost use Rattle.std.specs.Prelude.{◌≡◌};
 ghost use Rattle.pkcs12.specs.Ending.{code_of};
 
-use crate::io_advice::advice_on_io;
+use crate::read_advice::read_advice;
 use command_base::Message;
 use std::alloc::{AllocError, AllocFailed, Global};
 use std::io;
+use store_output::{OutputError, OutputErrorKind};
 use terminal_text::Printable;
 use transfer::{Status, TransferError};
 
@@ -146,8 +147,8 @@ impl Failure {
         }
     }
 
-    /// The failure of a call on the system, for this purpose and at this path, with advice by its
-    /// cause.
+    /// The failure of a call on the system that reads, for this purpose and at this path, with advice
+    /// by its cause.
     pub fn io(
         alloc: Global,
         ending: Ending,
@@ -160,9 +161,9 @@ impl Failure {
         }
         let shown = Printable(path);
         let failure = Failure::told(ending, format!(in alloc; "{purpose} {shown}: {error}"));
-        match advice_on_io(alloc, ending, path, &error) {
-            Some(advice) => failure.advised_by(advice),
-            None => failure,
+        match ending {
+            Ending::ReadFault => failure.advised_by(read_advice(alloc, path, &error)),
+            _ => failure,
         }
     }
 }
@@ -199,6 +200,27 @@ impl From<p12::Error> for Failure {
                 Ending::Refused(TransferError::Malformed),
                 "the store is damaged",
             ),
+        }
+    }
+}
+
+impl From<OutputErrorKind> for Ending {
+    fn from(kind: OutputErrorKind) -> Ending {
+        match kind {
+            OutputErrorKind::Usage => Ending::Usage,
+            OutputErrorKind::WriteFault => Ending::WriteFault,
+            OutputErrorKind::OutputExists => Ending::OutputExists,
+            OutputErrorKind::Memory => Ending::Memory,
+        }
+    }
+}
+
+impl From<OutputError> for Failure {
+    fn from(error: OutputError) -> Failure {
+        Failure {
+            ending: Ending::from(error.kind),
+            message: error.message,
+            advice: error.advice,
         }
     }
 }

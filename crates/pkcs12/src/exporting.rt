@@ -4,27 +4,25 @@ ghost use Rattle.std.specs.Option.{ForSome};
 ghost use Rattle.transfer.specs.Opening.{all_certificates};
 ghost use Rattle.transfer.specs.Transferred.{SealsOpened};
 ghost use Rattle.pkcs12.specs.Exports.{Exports};
-ghost use Rattle.pkcs12.specs.Others.{has_others};
+ghost use Rattle.store_inspection.specs.Others.{has_others};
 
-use crate::chains::{chain_warnings, chains};
 use crate::counted::Counted;
 use crate::ending::{Ending, Failure};
 use crate::export::{Export, Part};
-use crate::folder::Folder;
 use crate::given::{Given, is_not_given_again, new_password_missing, opened, read_given};
 use crate::input::{inputs_differ, path_of_store};
-use crate::inspection::listing;
-use crate::listing::Listing;
 use crate::long_work::{is_long_sealing, sealing_time, tell_long_work};
 use crate::opening::{certificates_alone, sealed_store};
-use crate::others::has_others;
 use crate::password::{NewPassword, read_password, without_nul};
 use crate::run::Surroundings;
-use crate::summary::{others, summary, warnings};
+use crate::written_files::Output;
 use asn1_core::Items;
 use command_base::{Origin, Password};
 use std::alloc::Global;
 use std::rt::{Env, Files, Runtime};
+use store_certificates::{chain_warnings, chains};
+use store_inspection::{Listing, has_others, not_exported, summary, warnings};
+use store_output::Folder;
 use transfer::{Opened, Transferred};
 
 /// The store's password as a new one.
@@ -63,8 +61,11 @@ fn new_password<R: Files + Env + Input + AllocGlobal>(
 }
 
 /// The failure of a store that has more than is exported.
-fn not_exported(alloc: Global, found: &Listing) -> Failure {
-    Failure::told(Ending::NotExported, others(alloc, found.others.as_slice()))
+fn has_more(alloc: Global, found: &Listing) -> Failure {
+    Failure::told(
+        Ending::NotExported,
+        not_exported(alloc, found.others.as_slice()),
+    )
 }
 
 /// The failure of a store with too many certificates and private keys.
@@ -96,6 +97,16 @@ fn too_many_rounds(alloc: Global, keys: usize, rounds: u32, limit: u64) -> Failu
     Failure::told(Ending::SealLimit, text)
 }
 
+/// How many certificates are written where this part of the store is.
+fn written_certificates(found: &Listing, part: Part) -> usize
+    ensures all { part ≢ Part.Keys → result ≡ length found.now.certificates }
+{
+    match part {
+        Part::Keys => 0,
+        Part::Whole | Part::Certificates => found.certificates.len(),
+    }
+}
+
 /// That a store is exported within these bounds: it has no other bags, unless these are skipped; so
 /// many certificates and its private keys are not too many files; and the keys do not take too many
 /// rounds.
@@ -114,10 +125,10 @@ fn within_bounds(
 {
     let bounds = asked.bounds;
     if has_others(opened.contents.as_slice()) && !bounds.skip_others {
-        return Err(not_exported(alloc, found));
+        return Err(has_more(alloc, found));
     }
     let keys = opened.keys.len();
-    let certificates = found.written_certificates(asked.target.part);
+    let certificates = written_certificates(found, asked.target.part);
     if certificates as u128 + keys as u128 > u128::from(bounds.most_files) {
         return Err(too_many_files(alloc, certificates, keys, bounds.most_files));
     }
@@ -198,7 +209,7 @@ fn open_and_seal<R: Files + Eprint + AllocGlobal + Drop>(
         e.transferred.certificates e.transferred.documents) }
 {
     let opened = opened(rt.alloc(), given, asked.limit)?;
-    let found = listing(rt.alloc(), opened.contents.as_slice())?;
+    let found = Listing::of(rt.alloc(), opened.contents.as_slice())?;
     let opened = part_of(rt.alloc(), opened, asked.target.part);
     within_bounds(rt.alloc(), asked, &opened, &found)?;
     let transferred = sealed_anew(rt, around, asked, &opened, new_password)?;
@@ -213,7 +224,7 @@ fn password_stays<R: Files + AllocGlobal>(
 ) -> Result<(), Failure> {
     match origin {
         Some(Origin::Variable(_)) | None => Ok(()),
-        Some(origin) => folder.keeps(rt, origin.path()),
+        Some(origin) => Ok(folder.keeps(rt, origin.path())?),
     }
 }
 
@@ -223,7 +234,7 @@ fn free_folder<'a, R: Files + Eprint + AllocGlobal + Clone + Drop>(
     around: Surroundings,
     asked: &Export<'a>,
 ) -> Result<Folder<'a>, Failure> {
-    let folder = Folder::find(rt, asked.target, around.process)?;
+    let folder = Folder::find(rt, asked.target.out, asked.target.force, around.process)?;
     folder.keeps(rt, path_of_store(asked.store))?;
     password_stays(rt, &folder, asked.password)?;
     password_stays(rt, &folder, asked.new_password)?;
@@ -276,6 +287,23 @@ fn warn_of_chains<R: Eprint + AllocGlobal>(
     }
 }
 
+/// Writes it into the folder.
+fn write<R: Files + Eprint + AllocGlobal + Clone + Drop>(
+    rt: &R,
+    folder: &Folder<'_>,
+    asked: &Export<'_>,
+    exported: &Exported,
+) -> Result<(), Failure> {
+    let part = folder.begin(rt)?;
+    let output = Output {
+        folder,
+        target: &asked.target,
+        part: part.as_str(),
+    };
+    let filled = output.fill(rt, &exported.transferred, &exported.found);
+    Ok(folder.finish(rt, part.as_str(), filled)?)
+}
+
 /// Writes what a store has into the folder that is asked for.
 pub fn run_export<R: Runtime + AllocGlobal>(
     rt: &R,
@@ -295,7 +323,7 @@ pub fn run_export<R: Runtime + AllocGlobal>(
     };
     tell_long_work(rt, around, given.store.as_slice(), rounds);
     let exported = open_and_seal(rt, around, asked, &given, &new_password)?;
-    folder.write(rt, &exported.transferred, &exported.found)?;
+    write(rt, &folder, asked, &exported)?;
     warn_of_chains(rt, asked, &exported)?;
     tell(rt, around, asked, &exported.found)
 }

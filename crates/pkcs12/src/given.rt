@@ -4,7 +4,6 @@ ghost use Rattle.transfer.specs.Verdicts.{StoreOpens};
 
 use crate::ending::{Ending, Failure};
 use crate::input::is_read_once;
-use crate::inspection::mac_rounds;
 use crate::opening::{opened_store, read_store};
 use crate::password::read_password;
 use crate::refusal::with_detail;
@@ -12,6 +11,7 @@ use command_base::{Origin, Password};
 use std::alloc::Global;
 use std::env;
 use std::rt::{Env, Files};
+use store_inspection::mac_rounds;
 use transfer::{Opened, TransferError};
 
 /// Where this variable is set, the script that started the program asks for a password that is

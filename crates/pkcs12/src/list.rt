@@ -4,10 +4,6 @@ use crate::command_line::{LIMIT, PASSWORD_ENV, PASSWORD_FILE, PASSWORD_STDIN, ST
 use crate::ending::Failure;
 use crate::given::{opened, read_given};
 use crate::input::inputs_differ;
-use crate::inspection::listing;
-use crate::listed::read_certificates;
-use crate::listed_json::listed_json;
-use crate::listed_text::listed_text;
 use crate::long_work::tell_long_work;
 use crate::output::printed;
 use crate::request::{number_of, text_of};
@@ -16,6 +12,8 @@ use clap::ArgMatches;
 use command_base::{Argument, Form, Origin};
 use std::alloc::Global;
 use std::rt::Runtime;
+use store_certificates::{listed_json, listed_text, read_certificates};
+use store_inspection::Listing;
 
 pub const NAME: &str = "list";
 
@@ -68,7 +66,7 @@ pub fn run_list<R: Runtime + AllocGlobal>(
     let given = read_given(rt, asked.store, asked.password, asked.limit)?;
     tell_long_work(rt, around, given.store.as_slice(), None);
     let opened = opened(rt.alloc(), &given, asked.limit)?;
-    let labels = listing(rt.alloc(), opened.contents.as_slice())?;
+    let labels = Listing::of(rt.alloc(), opened.contents.as_slice())?;
     let read = read_certificates(rt.alloc(), opened.contents.as_slice())?;
     let certificates = read.indexed(rt.alloc())?;
     let now = now_text(rt)?;

@@ -1,8 +1,8 @@
 //! Work that takes a while.
 use crate::counted::Counted;
-use crate::inspection::visible_work;
 use crate::run::Surroundings;
 use std::{fmt, io};
+use store_inspection::visible_work;
 
 /// More steps than a machine takes in about a second.
 const LONG_WORK: u128 = 2_000_000;

@@ -2,9 +2,9 @@
 ghost use Rattle.std.specs.Prelude.{◌≡◌, ◌≤◌, ◌<◌, IfOk, IfErr, IsOk, IsTrue, length};
 
 use crate::ending::{Ending, Failure};
+use crate::read_advice::read_advice;
 use command_base::{Origin, Password, PasswordError};
 use std::alloc::{AllocError, Global};
-use std::io;
 use std::marker::Model;
 use std::rt::{Env, Files};
 
@@ -15,20 +15,6 @@ The option takes the NAME of a variable that is exported, and not the password:
 const EMPTY: &str = "\
 What is under an empty password is not protected. If you want that: --allow-empty-password";
 
-/// The failure of a file of a password that could not be read.
-fn unread(alloc: Global, purpose: &'static str, origin: Origin<'_>, error: io::Error) -> Failure {
-    match format!(in alloc; "the {purpose} file") {
-        Ok(file) => Failure::io(
-            alloc,
-            Ending::ReadFault,
-            file.as_str(),
-            origin.path(),
-            error,
-        ),
-        Err(refused) => Failure::from(refused),
-    }
-}
-
 /// The failure of a password for this purpose, which was to come from this origin.
 fn not_had(
     alloc: Global,
@@ -37,14 +23,16 @@ fn not_had(
     error: PasswordError,
 ) -> Failure {
     let text = error.text(alloc, purpose, origin);
-    match error {
+    match &error {
         PasswordError::TooLong | PasswordError::NotUtf8 => {
             Failure::told(Ending::PasswordUnusable, text)
         }
         PasswordError::NoVariable => {
             Failure::told(Ending::ReadFault, text).advised(EXPORT_VARIABLE)
         }
-        PasswordError::Unread(error) => unread(alloc, purpose, origin, error),
+        PasswordError::Unread(error) => Failure::told(Ending::ReadFault, text).advised_by(
+            read_advice(alloc, origin.path(), error),
+        ),
         PasswordError::Memory => Failure::from(AllocError),
     }
 }

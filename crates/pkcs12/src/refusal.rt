@@ -1,15 +1,13 @@
 //! What exactly was wrong with a store that is refused.
 ghost use Rattle.std.specs.Prelude.{◌≡◌};
 
-use crate::algorithm_name::AlgorithmName;
-use crate::damaged::damaged;
 use crate::ending::{Ending, Failure};
-use crate::inspection::{mac_digest, unsupported, visible_work};
 use crate::long_work::Duration;
-use crate::malformed::{Detail, malformed};
-use crate::no_password::is_without_password;
 use command_base::{Message, Password};
 use std::alloc::{AllocError, Global};
+use store_inspection::{
+    Detail, damaged, is_without_password, mac_unsupported, malformed, unsupported, visible_work,
+};
 use transfer::TransferError;
 
 const WITHOUT_PASSWORD: &str = "\
@@ -20,17 +18,6 @@ OpenSSL opens it, if you press Enter at its question. Write it anew with a passw
     openssl pkcs12 -in STORE.p12 -out all.pem
     openssl pkcs12 -export -in all.pem -out NEW.p12 -certpbe AES-256-CBC -keypbe AES-256-CBC -macalg sha256
     rm all.pem";
-
-/// What the MAC is made with that is not supported.
-fn mac_unsupported(alloc: Global, store: &[u8]) -> Result<Option<Detail>, AllocError> {
-    let Some(digest) = mac_digest(store) else {
-        return Ok(None);
-    };
-    let name = AlgorithmName(&digest);
-    Ok(Some(Detail::of(format!(in alloc;
-        "the MAC of the store is made with {name}, and only SHA-1 and SHA-256 are supported"
-    )?)))
-}
 
 /// What a store was made with whose MAC does not agree under the empty password.
 fn mac_mismatch(

@@ -5,16 +5,12 @@ ghost use Rattle.rekey_core.specs.Rekeyed.{Rekeys};
 use crate::ending::{Ending, Failure};
 use crate::given::{Given, is_not_given_again, new_password_missing, opened, read_given};
 use crate::input::{are_one, inputs_differ, output_differs, path_of_store};
-use crate::inspection::listing;
-use crate::listing::Listing;
 use crate::long_work::tell_long_work;
 use crate::opening::{RANDOM, opened_store, refused};
 use crate::password::{NewPassword, read_password, without_nul};
 use crate::refusal::with_detail;
 use crate::rekey::Rekey;
 use crate::run::Surroundings;
-use crate::store_file::StoreFile;
-use crate::summary::counts;
 use asn1_core::Octets;
 use octet_core::{Draw, FileDraw};
 use p12::{CertBag, SafeBag, SafeBagKind};
@@ -24,6 +20,8 @@ use std::marker::Brand;
 use std::rt::{Env, Files, Runtime};
 use std::sync::ledger::{Blank, Ledger};
 use steps::Steps;
+use store_inspection::{Listing, counts};
+use store_output::StoreFile;
 use transfer::{Opened, TransferError};
 
 /// A change of the password of a store.
@@ -161,7 +159,7 @@ fn write_changed<R: Files + Eprint + AllocGlobal>(
             file.abandon(rt)?;
             Err(changed_meanwhile())
         }
-        Ok(()) => file.place(rt),
+        Ok(()) => Ok(file.place(rt)?),
         Err(failure) => {
             file.abandon(rt)?;
             Err(failure)
@@ -219,7 +217,7 @@ pub fn run_rekey<R: Runtime + AllocGlobal>(
     let new_password = new_password(rt, asked)?;
     tell_long_work(rt, around, given.store.as_slice(), None);
     let before = opened(rt.alloc(), &given, asked.limit)?;
-    let found = listing(rt.alloc(), before.contents.as_slice())?;
+    let found = Listing::of(rt.alloc(), before.contents.as_slice())?;
     let change = Change {
         given: &given,
         new_password: &new_password,

@@ -43,9 +43,18 @@ fn shown<R: Print + Eprint + AllocGlobal>(rt: &R, error: clap::Error) -> Result<
             )
             .advised(SHORT_USAGE),
         ),
+        ErrorKind::UnknownArgument => {
+            let text = refusal_text(rt.alloc(), &error);
+            Err(Failure::told(Ending::Usage, text).advised(UNKNOWN_ARGUMENT))
+        }
         _ => Err(Failure::told(Ending::Usage, refusal_text(rt.alloc(), &error))),
     }
 }
+
+/// What to do after an argument that clap does not know.
+const UNKNOWN_ARGUMENT: &str = "\
+See pkcs12 --help, and pkcs12 SUBCOMMAND --help. A store whose name begins with - is given \
+as ./-NAME.";
 
 /// The usage, where nothing was asked for.
 const SHORT_USAGE: &str = "\

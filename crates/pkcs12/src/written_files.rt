@@ -1,9 +1,5 @@
 //! The files of the output folder.
-use crate::chains::{chain_text, chains};
-use crate::export::{Format, Layout, Part};
-use crate::file_name::{ALL, Kind, file_name};
-use crate::folder::{Folder, sync_folder};
-use crate::listing::{Label, Listing};
+use crate::export::{Format, Layout, Part, Target};
 use asn1_core::Octets;
 use command_base::Attributes;
 use pem_text::pem_of;
@@ -13,13 +9,23 @@ use std::io;
 use std::io::Write;
 use std::os::unix::fs::OpenOptionsExt;
 use std::rt::Files;
+use store_certificates::{chain_text, chains};
+use store_inspection::{Label, Listing};
+use store_output::{ALL, Folder, Kind, file_name, sync_folder};
 use transfer::Transferred;
 
-/// Where files of a kind are written: into the folder at `part`, which becomes this one.
+/// What is written, and where: into the folder at `part`, which becomes this one.
+#[derive(Clone, Copy)]
+pub struct Output<'a> {
+    pub folder: &'a Folder<'a>,
+    pub part: &'a str,
+    pub target: &'a Target<'a>,
+}
+
+/// Where files of a kind are written.
 #[derive(Clone, Copy)]
 struct Place<'a> {
-    folder: &'a Folder<'a>,
-    part: &'a str,
+    output: Output<'a>,
     kind: Kind,
 }
 
@@ -34,10 +40,10 @@ fn attributes_of(folder: &Folder<'_>, kind: Kind) -> Option<Attributes> {
 
 /// Gives a new file what is kept.
 fn keep<R: Files>(rt: &R, place: Place<'_>, path: &str, file: &R::File) -> io::Result<()> {
-    if let Some(kept) = attributes_of(place.folder, place.kind) {
+    if let Some(kept) = attributes_of(place.output.folder, place.kind) {
         return kept.give_to_file(rt, path, file);
     }
-    match place.folder.kept {
+    match place.output.folder.kept {
         Some(kept) if kept.folder.passes_group_on() => {
             let made = Attributes::of_file(&file.metadata()?);
             made.with_group_of(kept.folder).give_to_file(rt, path, file)
@@ -54,7 +60,7 @@ fn write_new<R: Files + AllocGlobal>(
     name: &str,
     octets: &[u8],
 ) -> io::Result<()> {
-    let part = place.part;
+    let part = place.output.part;
     let path = format!(in rt.alloc(); "{part}/{name}")?;
     let mut file = OpenOptions::new()
         .write(true)
@@ -82,8 +88,13 @@ fn write_one<R: Files + AllocGlobal>(
     label: Option<&Label>,
     octets: &[u8],
 ) -> io::Result<()> {
-    let target = &place.folder.target;
-    let name = file_name(rt.alloc(), place.kind, number, label, target)?;
+    let target = place.output.target;
+    let friendly_name = match target.layout {
+        Layout::Named => label.and_then(|label| label.friendly_name()),
+        Layout::Numbered | Layout::OneFile => None,
+    };
+    let suffix = target.format.suffix();
+    let name = file_name(rt.alloc(), place.kind, number, friendly_name, suffix)?;
     match target.format {
         Format::Der => write_new(rt, place, name.as_str(), octets),
         Format::Pem => {
@@ -128,8 +139,8 @@ fn write_all<R: Files + AllocGlobal>(
 }
 
 /// The certificates that are written.
-fn certificates_of<'t>(folder: &Folder<'_>, transferred: &'t Transferred) -> &'t [Octets] {
-    match folder.target.part {
+fn certificates_of(part: Part, transferred: &Transferred) -> &[Octets] {
+    match part {
         Part::Keys => &[],
         Part::Whole | Part::Certificates => transferred.certificates.as_slice(),
     }
@@ -153,30 +164,38 @@ fn write_chains<R: Files + AllocGlobal>(
     Ok(())
 }
 
-/// Writes everything into the folder at `part`, gives that folder what is kept, and brings it to
-/// the disk.
-pub fn fill<R: Files + AllocGlobal>(
-    rt: &R,
-    folder: &Folder<'_>,
-    part: &str,
-    transferred: &Transferred,
-    found: &Listing,
-) -> io::Result<()> {
-    let of_kind = |kind| Place { folder, part, kind };
-    let certificates = certificates_of(folder, transferred);
-    let documents = transferred.documents.as_slice();
-    if matches!(folder.target.layout, Layout::OneFile) {
-        write_all(rt, of_kind(Kind::Key), certificates, documents)?;
-    } else {
-        let labels = found.certificates.as_slice();
-        write_each(rt, of_kind(Kind::Certificate), certificates, labels)?;
-        write_each(rt, of_kind(Kind::Key), documents, found.keys.as_slice())?;
+impl<'a> Output<'a> {
+    fn of_kind(self, kind: Kind) -> Place<'a> {
+        Place { output: self, kind }
     }
-    if folder.target.chain {
-        write_chains(rt, of_kind(Kind::Certificate), certificates, found)?;
+
+    /// Writes everything, gives the folder what is kept, and brings it to the disk.
+    pub fn fill<R: Files + AllocGlobal>(
+        self,
+        rt: &R,
+        transferred: &Transferred,
+        found: &Listing,
+    ) -> io::Result<()> {
+        let certificates = certificates_of(self.target.part, transferred);
+        let documents = transferred.documents.as_slice();
+        if matches!(self.target.layout, Layout::OneFile) {
+            write_all(rt, self.of_kind(Kind::Key), certificates, documents)?;
+        } else {
+            let labels = found.certificates.as_slice();
+            write_each(rt, self.of_kind(Kind::Certificate), certificates, labels)?;
+            write_each(
+                rt,
+                self.of_kind(Kind::Key),
+                documents,
+                found.keys.as_slice(),
+            )?;
+        }
+        if self.target.chain {
+            write_chains(rt, self.of_kind(Kind::Certificate), certificates, found)?;
+        }
+        if let Some(kept) = &self.folder.kept {
+            kept.folder.give_to_folder(rt, self.part)?;
+        }
+        sync_folder(rt, self.part)
     }
-    if let Some(kept) = &folder.kept {
-        kept.folder.give_to_folder(rt, part)?;
-    }
-    sync_folder(rt, part)
 }

@@ -1,2 +1,0 @@
-mod CertificateParts
-mod Places

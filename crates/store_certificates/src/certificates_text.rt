@@ -1,0 +1,143 @@
+//! What `list` says, as text.
+use crate::chain::is_whole;
+use crate::listed::{Certificate, Certificates, Validity, When};
+use crate::public_key::PublicKey;
+use inventory_core::Parent;
+use std::alloc::{AllocError, Global};
+use std::fmt;
+use std::fmt::Write;
+use store_inspection::{Label, Listing, add_others_text};
+use terminal_text::{Hexadecimal, InQuotes, Printable};
+
+/// The digits of a serial number, given by its value octets: without the octet that keeps it from being negative.
+#[derive(Clone, Copy)]
+pub struct SerialNumber<'a>(pub &'a [u8]);
+
+impl fmt::Display for SerialNumber<'_> {
+    fn fmt<W: fmt::Write>(&self, f: &mut fmt::Formatter<W>) -> fmt::Result {
+        let octets = match self.0 {
+            [0, more @ ..] if !more.is_empty() => more,
+            all => all,
+        };
+        for octet in octets {
+            write!(f, "{octet:02X}")?;
+        }
+        Ok(())
+    }
+}
+
+/// Adds from when to when a certificate is valid, and whether it is by this machine's clock.
+fn add_validity(
+    text: &mut String,
+    validity: &Validity,
+    now: Option<&str>,
+) -> Result<(), AllocError> {
+    let from = Printable(validity.not_before.as_str());
+    let to = Printable(validity.not_after.as_str());
+    write!(text, "  valid: {from} to {to}")?;
+    if !validity.are_times {
+        text.push_str(" (not both are times of the calendar)")?;
+    }
+    match now.and_then(|now| validity.at(now)) {
+        Some(When::Past) => text.push_str(" (past, by this machine's clock)")?,
+        Some(When::Early) => text.push_str(" (not yet, by this machine's clock)")?,
+        Some(When::Valid) | None => {}
+    }
+    text.push_str("\n")
+}
+
+/// Adds by which certificate of the store a certificate was issued.
+fn add_parent(text: &mut String, parent: Parent) -> Result<(), AllocError> {
+    match parent {
+        Parent::Itself => text.push_str("  issued by: itself\n"),
+        Parent::Of(place) => writeln!(text, "  issued by: cert-{place}"),
+        Parent::Unknown => text.push_str("  issued by: no certificate of this store\n"),
+    }
+}
+
+fn add_name(text: &mut String, label: Option<&Label>) -> Result<(), AllocError> {
+    match label.and_then(|label| label.friendly_name()) {
+        Some(name) => writeln!(text, "  friendly name: {}", InQuotes(name)),
+        None => Ok(()),
+    }
+}
+
+/// Adds what is shown of a certificate.
+fn add_certificate(
+    text: &mut String,
+    certificate: &Certificate<'_>,
+    now: Option<&str>,
+) -> Result<(), AllocError> {
+    writeln!(
+        text,
+        "  subject: {}",
+        Printable(certificate.subject.as_str())
+    )?;
+    writeln!(text, "  issuer: {}", Printable(certificate.issuer.as_str()))?;
+    writeln!(
+        text,
+        "  serial number: {}",
+        SerialNumber(certificate.serial_number)
+    )?;
+    if let Some(validity) = &certificate.validity {
+        add_validity(text, validity, now)?;
+    }
+    writeln!(
+        text,
+        "  public key: {}",
+        PublicKey::new(certificate.view.spki)
+    )?;
+    if let Some(digest) = &certificate.key_digest {
+        writeln!(text, "  SHA-256 of the public key: {}", Hexadecimal(digest))?;
+    }
+    writeln!(text, "  SHA-256: {}", Hexadecimal(&certificate.digest))?;
+    add_parent(text, certificate.parent)
+}
+
+/// Adds the chain of a private key, which begins with the certificate at this place.
+fn add_chain(
+    alloc: Global,
+    text: &mut String,
+    certificates: &Certificates<'_>,
+    start: Option<usize>,
+) -> Result<(), AllocError> {
+    let Some(start) = start else {
+        return text.push_str("  chain: no certificate of this store has its local key id\n");
+    };
+    text.push_str("  chain:")?;
+    let chain = certificates.chain_from(alloc, start)?;
+    for place in chain.as_slice() {
+        write!(text, " cert-{place}")?;
+    }
+    match is_whole(certificates.views(), chain.as_slice()) {
+        true => text.push_str("\n"),
+        false => text.push_str(" (the issuer of the last is not in this store)\n"),
+    }
+}
+
+/// The certificates of a store with what they say, its private keys with their chains, and the kinds of what else it holds.
+pub fn listed_text(
+    alloc: Global,
+    certificates: &Certificates<'_>,
+    labels: &Listing,
+    now: Option<&str>,
+) -> Result<String, AllocError> {
+    let mut text = String::new(alloc);
+    for place in 0..certificates.views().len() {
+        writeln!(text, "cert-{place}")?;
+        match certificates.get(alloc, place)? {
+            Some(certificate) => add_certificate(&mut text, &certificate, now)?,
+            None => text.push_str("  no X.509 certificate\n")?,
+        }
+        add_name(&mut text, labels.certificates.get(place))?;
+    }
+    let pairs = labels.pairs(alloc)?;
+    for (place, label) in labels.keys.as_slice().iter().enumerate() {
+        writeln!(text, "key-{place}")?;
+        add_name(&mut text, Some(label))?;
+        let start = pairs.get(place).copied().unwrap_or(None);
+        add_chain(alloc, &mut text, certificates, start)?;
+    }
+    add_others_text(&mut text, "not listed", labels.others.as_slice())?;
+    Ok(text)
+}

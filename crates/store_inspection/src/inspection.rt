@@ -1,0 +1,274 @@
+//! What of a store is seen before it is opened, and what of it is not opened.
+ghost use Rattle.std.specs.Prelude.{◌≡◌, ◌<◌, ◌≤◌, ◌^◌, IsTrue, length};
+ghost use Rattle.p12.specs.AlgorithmIdentifier.{salt_of};
+ghost use Rattle.p12.specs.AlgorithmView.{seen_algorithm};
+
+use crate::algorithm_name::{AlgorithmName, Named};
+use crate::detail::Detail;
+use asn1_core::Octets;
+use command_base::Password;
+use p12::{AlgorithmView, BagView, BagsView, ContentView, ContentsView, Error, StoreView};
+use std::alloc::{AllocError, Global};
+use std::marker::Brand;
+use std::sync::ledger::{Blank, Ledger};
+use steps::Steps;
+
+/// The most octets of a store that is transferred, and so of each of its parts.
+const STORE_LIMIT: usize = 16_777_215;
+
+/// The contents of a store; None where its outer content is not data that lists contents.
+fn contents_in<'a>(store: &StoreView<'a>) -> Option<ContentsView<'a>> {
+    match store.auth_safe {
+        ContentView::Plain { content, .. } => ContentsView::parse(content).ok(),
+        ContentView::Encrypted { .. } | ContentView::Other { .. } => None,
+    }
+}
+
+/// The same of a store's octets.
+fn contents_of(store: &[u8]) -> Option<ContentsView<'_>> {
+    match StoreView::parse(store) {
+        Ok(store) => contents_in(&store),
+        Err(_) => None,
+    }
+}
+
+/// Whether the salt is no longer than a store, as it is in every store that is transferred.
+fn has_short_salt(algorithm: &AlgorithmView<'_>) -> bool
+    ensures { IsTrue result → length (salt_of (seen_algorithm algorithm.now)) ≤ 16777215 }
+{
+    match algorithm {
+        AlgorithmView::Rc2 { salt, .. } | AlgorithmView::TripleDes { salt, .. } => {
+            salt.len() <= STORE_LIMIT
+        }
+        AlgorithmView::Sha1
+        | AlgorithmView::Sha256
+        | AlgorithmView::Pbes2(_)
+        | AlgorithmView::Other { .. } => true,
+    }
+}
+
+/// The plain octets of a ciphertext, with a step counter of its own; None where it does not open.
+fn opened_from<L: Ledger>(
+    alloc: Global,
+    algorithm: &AlgorithmView<'_>,
+    password: &Password,
+    ciphertext: &[u8],
+    blank: Blank,
+) -> Result<Option<Octets>, Error>
+    requires name { blank.name ≡ L.name }
+    requires parts { blank.parts ≡ L.parts }
+    requires some { 0 < blank.parts }
+    requires ciphertext { length ciphertext.now < 2 ^ 32 }
+    requires salt { length (salt_of (seen_algorithm algorithm.now)) < 2 ^ 59 }
+{
+    let mut steps = Steps::<L>::open(blank);
+    let mut text = Octets::from_slice(alloc, ciphertext)?;
+    let opened = algorithm.decrypt_in_place_counted(
+        alloc,
+        password.as_str(),
+        text.as_mut_slice(),
+        &mut steps,
+    )?;
+    match opened {
+        Some(len) => {
+            text.truncate(len);
+            Ok(Some(text))
+        }
+        None => Ok(None),
+    }
+}
+
+/// The plain octets of a content under the password; None where it does not open.
+pub fn plain_of(
+    alloc: Global,
+    content: &ContentView<'_>,
+    password: &Password,
+) -> Result<Option<Octets>, Error> {
+    match content {
+        ContentView::Plain { content, .. } => Ok(Some(Octets::from_slice(alloc, content)?)),
+        ContentView::Encrypted {
+            algorithm,
+            content,
+            ..
+        } => {
+            if content.len() > STORE_LIMIT || !has_short_salt(algorithm) {
+                return Ok(None);
+            }
+            opened_from::<Brand>(alloc, algorithm, password, content, Blank::new(1))
+        }
+        ContentView::Other { .. } => Ok(None),
+    }
+}
+
+/// The steps of opening a content, where it is opened.
+fn content_work(content: &ContentView<'_>) -> u128 {
+    match content {
+        ContentView::Encrypted { algorithm, .. } => algorithm.cost(),
+        ContentView::Plain { .. } | ContentView::Other { .. } => 0,
+    }
+}
+
+/// The steps of opening the contents.
+fn contents_work(mut contents: ContentsView<'_>) -> u128 {
+    let mut work = 0u128;
+    while let Some(content) = contents.next() {
+        work = work.saturating_add(content_work(&content));
+    }
+    work
+}
+
+/// The rounds of the MAC of a store; 0 where there is no store or no MAC.
+pub fn mac_rounds(store: &[u8]) -> u64 {
+    match StoreView::parse(store) {
+        Ok(
+            StoreView {
+                mac_data: Some(mac),
+                ..
+            },
+        ) => u64::from(mac.iterations),
+        _ => 0,
+    }
+}
+
+/// The steps of the MAC and of opening the contents, which are seen before one of them is opened; 0
+/// where there is no store. Those of the private keys are not.
+pub fn visible_work(store: &[u8]) -> u128 {
+    let Ok(store) = StoreView::parse(store) else {
+        return 0;
+    };
+    let mac = match &store.mac_data {
+        Some(mac) => u128::from(mac.iterations),
+        None => 0,
+    };
+    match contents_in(&store) {
+        Some(contents) => mac.saturating_add(contents_work(contents)),
+        None => mac,
+    }
+}
+
+/// The first private key among the bags in these octets that is under an algorithm that is not
+/// opened.
+fn key_not_opened(alloc: Global, text: &[u8]) -> Result<Option<String>, AllocError> {
+    let Ok(mut bags) = BagsView::parse(text) else {
+        return Ok(None);
+    };
+    while let Some(bag) = bags.next() {
+        if let BagView::Shrouded { algorithm, .. } = bag
+            && !algorithm.is_openable()
+        {
+            let name = AlgorithmName(&algorithm);
+            return Ok(Some(format!(in alloc; "a private key is encrypted by {name}")?));
+        }
+    }
+    Ok(None)
+}
+
+/// Why one content is not opened, by its kind or its algorithm.
+fn content_not_opened(
+    alloc: Global,
+    content: &ContentView<'_>,
+) -> Result<Option<String>, AllocError> {
+    match content {
+        ContentView::Plain { .. } => Ok(None),
+        ContentView::Encrypted { algorithm, .. } if algorithm.is_openable() => Ok(None),
+        ContentView::Encrypted { algorithm, .. } => {
+            let name = AlgorithmName(algorithm);
+            Ok(Some(format!(in alloc; "a content is encrypted by {name}")?))
+        }
+        ContentView::Other { content_type, .. } => {
+            let name = Named(*content_type);
+            Ok(Some(format!(in alloc; "a content is of the kind {name}")?))
+        }
+    }
+}
+
+/// The first of the contents that is not opened.
+fn contents_not_opened(
+    alloc: Global,
+    mut contents: ContentsView<'_>,
+) -> Result<Option<String>, AllocError> {
+    while let Some(content) = contents.next() {
+        if let Some(text) = content_not_opened(alloc, &content)? {
+            return Ok(Some(text));
+        }
+    }
+    Ok(None)
+}
+
+/// The first of the contents' keys that is not opened.
+fn keys_not_opened(
+    alloc: Global,
+    mut contents: ContentsView<'_>,
+    password: &Password,
+) -> Result<Option<String>, Error> {
+    while let Some(content) = contents.next() {
+        if let Some(plain) = plain_of(alloc, &content, password)? {
+            if let Some(text) = key_not_opened(alloc, plain.as_slice())? {
+                return Ok(Some(text));
+            }
+        }
+    }
+    Ok(None)
+}
+
+/// Why the outer content is not opened: it has to be data, in which the contents are.
+fn outer_not_opened(alloc: Global, outer: &ContentView<'_>) -> Result<Option<String>, AllocError> {
+    match outer {
+        ContentView::Plain { .. } => Ok(None),
+        ContentView::Encrypted { .. } => Ok(Some(format!(in alloc;
+            "the outer content is of the kind encryptedData (1.2.840.113549.1.7.6)"
+        )?)),
+        ContentView::Other { content_type, .. } => {
+            let name = Named(*content_type);
+            Ok(Some(format!(in alloc; "the outer content is of the kind {name}")?))
+        }
+    }
+}
+
+/// What of the store is unsupported, under its password: the kind of the outer content, the first content that is not opened, or
+/// the first key; None where nothing is. The only error is out of memory.
+pub fn unsupported(
+    alloc: Global,
+    store: &[u8],
+    password: &Password,
+) -> Result<Option<String>, Error> {
+    let Ok(view) = StoreView::parse(store) else {
+        return Ok(None);
+    };
+    if let Some(text) = outer_not_opened(alloc, &view.auth_safe)? {
+        return Ok(Some(text));
+    }
+    if let Some(contents) = contents_in(&view) {
+        if let Some(text) = contents_not_opened(alloc, contents)? {
+            return Ok(Some(text));
+        }
+    }
+    match contents_in(&view) {
+        Some(contents) => keys_not_opened(alloc, contents, password),
+        None => Ok(None),
+    }
+}
+
+/// What the MAC is made with, where there is a MAC.
+fn mac_digest(store: &[u8]) -> Option<AlgorithmView<'_>> {
+    match StoreView::parse(store) {
+        Ok(
+            StoreView {
+                mac_data: Some(mac),
+                ..
+            },
+        ) => Some(mac.algorithm),
+        _ => None,
+    }
+}
+
+/// What the MAC is made with that is not supported. The only error is out of memory.
+pub fn mac_unsupported(alloc: Global, store: &[u8]) -> Result<Option<Detail>, AllocError> {
+    let Some(digest) = mac_digest(store) else {
+        return Ok(None);
+    };
+    let name = AlgorithmName(&digest);
+    Ok(Some(Detail::of(format!(in alloc;
+        "the MAC of the store is made with {name}, and only SHA-1 and SHA-256 are supported"
+    )?)))
+}

@@ -1,0 +1,28 @@
+//! What is in a PKCS#12 store, as people and programs read it: its certificates and private keys by their names, what else it
+//! holds, how much work it takes to open, and what is wrong with one that is refused.
+#![tactic(auto)]
+
+mod algorithm_name;
+mod certificate_shape;
+mod damage;
+mod detail;
+mod inspection;
+mod json_text;
+mod listing;
+mod no_password;
+mod no_store;
+mod not_der;
+mod other_bag;
+mod others;
+mod summary_text;
+
+pub use damage::damaged;
+pub use detail::Detail;
+pub use inspection::{mac_rounds, mac_unsupported, unsupported, visible_work};
+pub use json_text::{add_comma, add_others_json, json};
+pub use listing::{Label, Listing};
+pub use no_password::is_without_password;
+pub use no_store::malformed;
+pub use other_bag::OtherBag;
+pub use others::has_others;
+pub use summary_text::{add_others_text, counts, not_exported, summary, warnings};
