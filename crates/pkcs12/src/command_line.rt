@@ -1,5 +1,5 @@
 //! The arguments of the command, as `--help` shows them.
-use crate::{check, export, list, rekey};
+use crate::{check, export, list, reading, rekey};
 use clap::Command;
 use command_base::{Argument, Form, with_arguments};
 use std::alloc::{AllocError, Global};
@@ -90,6 +90,46 @@ pub const LIMIT: Argument = Argument {
         derivation) to open: 0 to 18446744073709551615",
 };
 
+/// A subcommand: its name, what it is for, and its arguments.
+#[derive(Clone, Copy)]
+struct Subcommand {
+    name: &'static str,
+    about: &'static str,
+    arguments: &'static [Argument],
+}
+
+/// The subcommands that take arguments, in the order of the help.
+fn subcommands() -> [Subcommand; 4] {
+    [
+        Subcommand {
+            name: export::NAME,
+            about: export::ABOUT,
+            arguments: &export::ARGUMENTS,
+        },
+        Subcommand {
+            name: check::NAME,
+            about: check::ABOUT,
+            arguments: &reading::ARGUMENTS,
+        },
+        Subcommand {
+            name: list::NAME,
+            about: list::ABOUT,
+            arguments: &reading::ARGUMENTS,
+        },
+        Subcommand {
+            name: rekey::NAME,
+            about: rekey::ABOUT,
+            arguments: &rekey::ARGUMENTS,
+        },
+    ]
+}
+
+fn self_test<'a>(alloc: Global) -> Command<'a> {
+    Command::new(alloc, "self-test").about(
+        "Make a sample store and transfer it, and tell whether what comes of it is right",
+    )
+}
+
 /// The command with one subcommand more.
 fn with_subcommand<'a>(
     alloc: Global,
@@ -102,22 +142,12 @@ fn with_subcommand<'a>(
     command.subcommand(with_arguments(alloc, subcommand, arguments)?)
 }
 
-fn self_test<'a>(alloc: Global) -> Command<'a> {
-    Command::new(alloc, "self-test").about(
-        "Make a sample store and transfer it, and tell whether what comes of it is right",
-    )
-}
-
 /// The command with its subcommands.
 fn with_subcommands<'a>(alloc: Global, command: Command<'a>) -> Result<Command<'a>, AllocError> {
-    let export = &export::ARGUMENTS;
-    let command = with_subcommand(alloc, command, export::NAME, export::ABOUT, export)?;
-    let check = &check::ARGUMENTS;
-    let command = with_subcommand(alloc, command, check::NAME, check::ABOUT, check)?;
-    let list = &list::ARGUMENTS;
-    let command = with_subcommand(alloc, command, list::NAME, list::ABOUT, list)?;
-    let rekey = &rekey::ARGUMENTS;
-    let command = with_subcommand(alloc, command, rekey::NAME, rekey::ABOUT, rekey)?;
+    let mut command = command;
+    for each in subcommands() {
+        command = with_subcommand(alloc, command, each.name, each.about, each.arguments)?;
+    }
     command.subcommand(self_test(alloc))
 }
 

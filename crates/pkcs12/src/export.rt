@@ -1,12 +1,11 @@
 //! What the subcommand `export` is asked for.
-ghost use Rattle.std.specs.Prelude.{◌≤◌};
-
 use crate::command_line::{LIMIT, PASSWORD_ENV, PASSWORD_FILE, PASSWORD_STDIN, STORE};
-use crate::ending::{Ending, Failure};
 use crate::request::{number_of, rounds_of, text_of};
 use clap::ArgMatches;
 use command_base::{Argument, Form, Origin};
 use std::alloc::Global;
+use store_export::{Bounds, Export, Format, Layout, Part, Target};
+use store_opening::{Ending, Failure};
 use terminal_text::InQuotes;
 
 pub const NAME: &str = "export";
@@ -170,81 +169,6 @@ pub static ARGUMENTS: [Argument; 23] = [
     SEAL_LIMIT,
     MOST_FILES,
 ];
-
-/// How files are written.
-#[derive(Clone, Copy)]
-pub enum Format {
-    Pem,
-    Der,
-}
-
-impl Format {
-    /// The ending of a file's name.
-    pub fn suffix(self) -> &'static str {
-        match self {
-            Format::Pem => "pem",
-            Format::Der => "der",
-        }
-    }
-}
-
-/// Which part of a store is written.
-#[derive(Clone, Copy, PartialEq)]
-pub enum Part {
-    Whole,
-    Keys,
-    Certificates,
-}
-
-/// Which files there are.
-#[derive(Clone, Copy, PartialEq)]
-pub enum Layout {
-    /// One for each certificate and private key, by its number.
-    Numbered,
-    /// The same, with its friendly name.
-    Named,
-    /// One with all.
-    OneFile,
-}
-
-/// The bounds within which a store is exported.
-#[derive(Clone, Copy)]
-pub struct Bounds {
-    /// The rounds of all private keys.
-    pub seal_limit: u64,
-    /// The certificates and private keys.
-    pub most_files: u64,
-    /// Whether bags that are not exported are skipped.
-    pub skip_others: bool,
-}
-
-/// What is written, and where.
-#[derive(Clone, Copy)]
-pub struct Target<'a> {
-    pub out: &'a str,
-    pub format: Format,
-    pub part: Part,
-    pub layout: Layout,
-    /// Whether the chain of each private key is written too.
-    pub chain: bool,
-    pub force: bool,
-}
-
-/// What `export` is asked for.
-#[derive(Drop)]
-pub struct Export<'a> {
-    pub store: &'a str,
-    pub target: Target<'a>,
-    pub password: Option<Origin<'a>>,
-    pub new_password: Option<Origin<'a>>,
-    pub same_password: bool,
-    pub allow_empty: bool,
-    pub rounds: u32,
-    pub limit: u64,
-    pub bounds: Bounds,
-    pub verbose: bool,
-    ghost rounds_fit: { (1 ≤ rounds) × (rounds ≤ 100000000) },
-}
 
 fn format_of(alloc: Global, matches: &ArgMatches<'_>) -> Result<Format, Failure> {
     let text = text_of(matches, "format")?;

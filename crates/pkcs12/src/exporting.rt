@@ -1,298 +1,65 @@
 //! The subcommand `export`: writes what an opened store has.
-ghost use Rattle.std.specs.Prelude.{◌≡◌, ◌≢◌, ◌≤◌, ◌+◌, ◌*◌, ◌↔◌, ◌⊎◌, [], length, IfOk, IfSome, IfNone, OnOk, IsTrue, None, true};
-ghost use Rattle.std.specs.Option.{ForSome};
-ghost use Rattle.transfer.specs.Opening.{all_certificates};
-ghost use Rattle.transfer.specs.Transferred.{SealsOpened};
-ghost use Rattle.pkcs12.specs.Exports.{Exports};
-ghost use Rattle.store_inspection.specs.Others.{has_others};
-
-use crate::counted::Counted;
-use crate::ending::{Ending, Failure};
-use crate::export::{Export, Part};
-use crate::given::{Given, is_not_given_again, new_password_missing, opened, read_given};
-use crate::input::{inputs_differ, path_of_store};
-use crate::long_work::{is_long_sealing, sealing_time, tell_long_work};
-use crate::opening::{certificates_alone, sealed_store};
-use crate::password::{NewPassword, read_password, without_nul};
-use crate::run::Surroundings;
-use crate::written_files::Output;
-use asn1_core::Items;
-use command_base::{Origin, Password};
-use std::alloc::Global;
-use std::rt::{Env, Files, Runtime};
-use store_certificates::{chain_warnings, chains};
-use store_inspection::{Listing, has_others, not_exported, summary, warnings};
+use std::alloc::{AllocError, Global};
+use std::io;
+use std::rt::{Files, Runtime};
+use store_certificates::{Chain, chain_text, chain_warnings, chains};
+use store_export::{
+    Export, Exported, Output, find_folder, needs_new_password, new_password, open_and_seal,
+    tell_exported,
+};
+use store_opening::{Failure, Surroundings, new_password_missing, read_given, tell_long_work};
 use store_output::Folder;
-use transfer::{Opened, Transferred};
 
-/// The store's password as a new one.
-fn same_password(
+/// The chains of the private keys that are exported, where they are asked for.
+fn chains_of(
     alloc: Global,
-    password: &Password,
-    may_be_empty: bool,
-) -> Result<NewPassword, Failure>
-    ensures { IfOk result (λ p. length p ≡ 0 → IsTrue may_be_empty) }
-{
-    NewPassword::new(password.try_clone(alloc)?, may_be_empty)
-}
-
-/// The new password, where one is given and private keys are written.
-fn new_password<R: Files + Env + Input + AllocGlobal>(
-    rt: &R,
-    asked: &Export<'_>,
-    given: &Given,
-) -> Result<Option<NewPassword>, Failure>
-    ensures { IfOk result (λ o. IfSome o (λ p. length p ≡ 0 → IsTrue asked.now.allow_empty)) }
-{
-    if asked.target.part == Part::Certificates {
-        return Ok(None);
-    }
-    if asked.same_password {
-        return Ok(Some(same_password(rt.alloc(), &given.password, asked.allow_empty)?));
-    }
-    match asked.new_password {
-        Some(origin) => {
-            let password = read_password(rt, "new password", origin)?;
-            without_nul(&password)?;
-            Ok(Some(NewPassword::new(password, asked.allow_empty)?))
-        }
-        None => Ok(None),
-    }
-}
-
-/// The failure of a store that has more than is exported.
-fn has_more(alloc: Global, found: &Listing) -> Failure {
-    Failure::told(
-        Ending::NotExported,
-        not_exported(alloc, found.others.as_slice()),
-    )
-}
-
-/// The failure of a store with too many certificates and private keys.
-fn too_many_files(alloc: Global, certificates: usize, keys: usize, most: u64) -> Failure {
-    let certificates = Counted(certificates, "certificate");
-    let keys = Counted(keys, "private key");
-    let text = format!(in alloc;
-        "the store has {certificates} and {keys}, and --most-files allows {most}"
-    );
-    Failure::told(Ending::TooManyFiles, text)
-}
-
-/// Whether so many rounds for each of so many keys are within the limit.
-fn is_within(keys: usize, rounds: u32, limit: u64) -> bool
-    ensures { IsTrue result ↔ (keys * rounds ≤ limit) }
-{
-    keys as u128 * u128::from(rounds) <= u128::from(limit)
-}
-
-/// The failure of private keys that take too many rounds.
-fn too_many_rounds(alloc: Global, keys: usize, rounds: u32, limit: u64) -> Failure {
-    let all = (keys as u128).saturating_mul(u128::from(rounds));
-    let time = sealing_time(keys, rounds);
-    let keys = Counted(keys, "private key");
-    let text = format!(in alloc;
-        "sealing {keys} takes {all} rounds, {rounds} for each, about {time}, and --seal-limit \
-         allows {limit}"
-    );
-    Failure::told(Ending::SealLimit, text)
-}
-
-/// How many certificates are written where this part of the store is.
-fn written_certificates(found: &Listing, part: Part) -> usize
-    ensures all { part ≢ Part.Keys → result ≡ length found.now.certificates }
-{
-    match part {
-        Part::Keys => 0,
-        Part::Whole | Part::Certificates => found.certificates.len(),
-    }
-}
-
-/// That a store is exported within these bounds: it has no other bags, unless these are skipped; so
-/// many certificates and its private keys are not too many files; and the keys do not take too many
-/// rounds.
-fn within_bounds(
-    alloc: Global,
-    asked: &Export<'_>,
-    opened: &Opened,
-    found: &Listing,
-) -> Result<(), Failure>
-    ensures others { OnOk result (has_others opened.now.contents ≡ true
-        → IsTrue asked.now.bounds.skip_others) }
-    ensures files { OnOk result (asked.now.target.part ≢ Part.Keys
-        → length found.now.certificates + length opened.now.keys ≤ asked.now.bounds.most_files) }
-    ensures rounds { OnOk result
-        (length opened.now.keys * asked.now.rounds ≤ asked.now.bounds.seal_limit) }
-{
-    let bounds = asked.bounds;
-    if has_others(opened.contents.as_slice()) && !bounds.skip_others {
-        return Err(has_more(alloc, found));
-    }
-    let keys = opened.keys.len();
-    let certificates = written_certificates(found, asked.target.part);
-    if certificates as u128 + keys as u128 > u128::from(bounds.most_files) {
-        return Err(too_many_files(alloc, certificates, keys, bounds.most_files));
-    }
-    if !is_within(keys, asked.rounds, bounds.seal_limit) {
-        return Err(too_many_rounds(alloc, keys, asked.rounds, bounds.seal_limit));
-    }
-    Ok(())
-}
-
-/// The opened store without its private keys.
-fn without_keys(alloc: Global, opened: Opened) -> Opened
-    ensures contents { result.contents ≡ opened.contents }
-    ensures keys { result.keys ≡ [] }
-{
-    let Opened { contents, keys: _ } = opened;
-    Opened {
-        contents,
-        keys: Items::new(alloc),
-    }
-}
-
-/// The opened store as far as it is written: where the certificates alone are, without its keys.
-fn part_of(alloc: Global, opened: Opened, part: Part) -> Opened
-    ensures contents { result.contents ≡ opened.contents }
-    ensures keys { (result.keys ≡ opened.keys)
-        ⊎ ((part ≡ Part.Certificates) × (result.keys ≡ [])) }
-{
-    if let Part::Certificates = part {
-        return without_keys(alloc, opened);
-    }
-    opened
-}
-
-/// What is written of an opened store: its keys sealed under the new password, in the rounds that
-/// are asked for. Without a new password it may have none.
-fn sealed_anew<R: Files + Eprint + AllocGlobal + Drop>(
-    rt: &R,
-    around: Surroundings,
-    asked: &Export<'_>,
-    opened: &Opened,
-    new_password: &Option<NewPassword>,
-) -> Result<Transferred, Failure>
-    ensures sealed { IfOk result (λ t. IfSome new_password.now (λ q.
-        SealsOpened asked.now.rounds q None None opened.now.contents opened.now.keys
-        t.certificates t.documents)) }
-    ensures keyless { IfOk result (λ t. IfNone new_password.now
-        ((opened.now.keys ≡ []) × (t.documents ≡ [])
-        × (t.certificates ≡ all_certificates opened.now.contents))) }
-{
-    match new_password {
-        Some(new_password) => {
-            let is_shown = around.at_terminal && is_long_sealing(opened.keys.len(), asked.rounds);
-            sealed_store(rt, opened, new_password, asked.rounds, is_shown)
-        }
-        None => certificates_alone(rt.alloc(), opened),
-    }
-}
-
-/// What is exported of a store, and what its bags are called.
-#[derive(Drop)]
-struct Exported {
-    transferred: Transferred,
-    found: Listing,
-}
-
-/// What is exported of a store.
-fn open_and_seal<R: Files + Eprint + AllocGlobal + Drop>(
-    rt: &R,
-    around: Surroundings,
-    asked: &Export<'_>,
-    given: &Given,
-    new_password: &Option<NewPassword>,
-) -> Result<Exported, Failure>
-    requires { ForSome new_password.now (λ q. length q ≡ 0 → IsTrue asked.now.allow_empty) }
-    ensures { IfOk result (λ e. Exports asked.now.rounds asked.now.target.part new_password.now
-        asked.now.allow_empty asked.now.bounds.seal_limit asked.now.bounds.skip_others
-        asked.now.limit given.now.store.items given.now.password
-        e.transferred.certificates e.transferred.documents) }
-{
-    let opened = opened(rt.alloc(), given, asked.limit)?;
-    let found = Listing::of(rt.alloc(), opened.contents.as_slice())?;
-    let opened = part_of(rt.alloc(), opened, asked.target.part);
-    within_bounds(rt.alloc(), asked, &opened, &found)?;
-    let transferred = sealed_anew(rt, around, asked, &opened, new_password)?;
-    Ok(Exported { transferred, found })
-}
-
-/// `Usage` where `--force` would remove the file in which this password is.
-fn password_stays<R: Files + AllocGlobal>(
-    rt: &R,
-    folder: &Folder<'_>,
-    origin: Option<Origin<'_>>,
-) -> Result<(), Failure> {
-    match origin {
-        Some(Origin::Variable(_)) | None => Ok(()),
-        Some(origin) => Ok(folder.keeps(rt, origin.path())?),
-    }
-}
-
-/// The folder that is to be made, where it may be made and no file that is read would go with it.
-fn free_folder<'a, R: Files + Eprint + AllocGlobal + Clone + Drop>(
-    rt: &R,
-    around: Surroundings,
-    asked: &Export<'a>,
-) -> Result<Folder<'a>, Failure> {
-    let folder = Folder::find(rt, asked.target.out, asked.target.force, around.process)?;
-    folder.keeps(rt, path_of_store(asked.store))?;
-    password_stays(rt, &folder, asked.password)?;
-    password_stays(rt, &folder, asked.new_password)?;
-    Ok(folder)
-}
-
-/// Whether a new password that is not given has to be given from the beginning.
-fn needs_new_password<R: Files + Env + AllocGlobal>(rt: &R, asked: &Export<'_>) -> bool {
-    let is_given = asked.same_password || asked.new_password.is_some();
-    !is_given
-        && asked.target.part != Part::Certificates
-        && is_not_given_again(rt, asked.store, asked.password)
-}
-
-/// Says what was exported: all of it where somebody looks or asked for it or something was skipped,
-/// and else the warnings alone.
-fn tell<R: Eprint + AllocGlobal>(
-    rt: &R,
-    around: Surroundings,
-    asked: &Export<'_>,
-    found: &Listing,
-) -> Result<(), Failure> {
-    let is_told = around.at_terminal || asked.verbose || !found.others.is_empty();
-    let text = if is_told {
-        summary(rt.alloc(), found)?
-    } else {
-        warnings(rt.alloc(), found)?
-    };
-    // The files are there: that nobody hears of it is no failure.
-    match rt.eprint(text.as_str()) {
-        Ok(()) | Err(_) => Ok(()),
-    }
-}
-
-/// Says which chains that were asked for are not there, or not whole.
-fn warn_of_chains<R: Eprint + AllocGlobal>(
-    rt: &R,
     asked: &Export<'_>,
     exported: &Exported,
-) -> Result<(), Failure> {
+) -> Result<Vec<Option<Chain>>, AllocError> {
     if !asked.target.chain {
-        return Ok(());
+        return Ok(Vec::new(alloc));
     }
     let certificates = exported.transferred.certificates.as_slice();
-    let chains = chains(rt.alloc(), certificates, &exported.found)?;
-    let text = chain_warnings(rt.alloc(), chains.as_slice())?;
+    chains(alloc, certificates, &exported.found)
+}
+
+/// Says which of the chains are not there, or not whole.
+fn warn_of_chains<R: Eprint + AllocGlobal>(
+    rt: &R,
+    chains: &[Option<Chain>],
+) -> Result<(), Failure> {
+    let text = chain_warnings(rt.alloc(), chains)?;
     // The files are there: that nobody hears of it is no failure.
     match rt.eprint(text.as_str()) {
         Ok(()) | Err(_) => Ok(()),
     }
 }
 
-/// Writes it into the folder.
+/// Writes the files of the folder.
+fn fill<R: Files + AllocGlobal>(
+    rt: &R,
+    output: Output<'_>,
+    exported: &Exported,
+    chains: &[Option<Chain>],
+) -> io::Result<()> {
+    output.write(rt, exported)?;
+    let certificates = exported.transferred.certificates.as_slice();
+    for (number, chain) in chains.iter().enumerate() {
+        if let Some(chain) = chain {
+            let text = chain_text(rt.alloc(), chain, certificates)?;
+            output.write_chain(rt, number, text.as_slice())?;
+        }
+    }
+    output.end(rt)
+}
+
+/// Writes what is exported into the folder.
 fn write<R: Files + Eprint + AllocGlobal + Clone + Drop>(
     rt: &R,
     folder: &Folder<'_>,
     asked: &Export<'_>,
     exported: &Exported,
+    chains: &[Option<Chain>],
 ) -> Result<(), Failure> {
     let part = folder.begin(rt)?;
     let output = Output {
@@ -300,7 +67,7 @@ fn write<R: Files + Eprint + AllocGlobal + Clone + Drop>(
         target: &asked.target,
         part: part.as_str(),
     };
-    let filled = output.fill(rt, &exported.transferred, &exported.found);
+    let filled = fill(rt, output, exported, chains);
     Ok(folder.finish(rt, part.as_str(), filled)?)
 }
 
@@ -310,8 +77,7 @@ pub fn run_export<R: Runtime + AllocGlobal>(
     around: Surroundings,
     asked: &Export<'_>,
 ) -> Result<(), Failure> {
-    inputs_differ(rt, asked.store, asked.password, asked.new_password)?;
-    let folder = free_folder(rt, around, asked)?;
+    let folder = find_folder(rt, around, asked)?;
     if needs_new_password(rt, asked) {
         return Err(new_password_missing());
     }
@@ -323,7 +89,8 @@ pub fn run_export<R: Runtime + AllocGlobal>(
     };
     tell_long_work(rt, around, given.store.as_slice(), rounds);
     let exported = open_and_seal(rt, around, asked, &given, &new_password)?;
-    write(rt, &folder, asked, &exported)?;
-    warn_of_chains(rt, asked, &exported)?;
-    tell(rt, around, asked, &exported.found)
+    let chains = chains_of(rt.alloc(), asked, &exported)?;
+    write(rt, &folder, asked, &exported, chains.as_slice())?;
+    warn_of_chains(rt, chains.as_slice())?;
+    tell_exported(rt, around, asked, &exported.found)
 }

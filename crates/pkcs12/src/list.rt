@@ -1,71 +1,23 @@
 //! The subcommand `list`: opens a store, and says of each certificate and private key what it is.
 use crate::clock::now_text;
-use crate::command_line::{LIMIT, PASSWORD_ENV, PASSWORD_FILE, PASSWORD_STDIN, STORE};
-use crate::ending::Failure;
-use crate::given::{opened, read_given};
-use crate::input::inputs_differ;
-use crate::long_work::tell_long_work;
-use crate::output::printed;
-use crate::request::{number_of, text_of};
-use crate::run::Surroundings;
-use clap::ArgMatches;
-use command_base::{Argument, Form, Origin};
-use std::alloc::Global;
+use crate::reading::Reading;
 use std::rt::Runtime;
 use store_certificates::{listed_json, listed_text, read_certificates};
 use store_inspection::Listing;
+use store_opening::{Failure, Surroundings, printed};
 
 pub const NAME: &str = "list";
 
 pub const ABOUT: &str =
     "Open the store, write nothing, and say of each certificate and private key what it is";
 
-const JSON: Argument = Argument {
-    name: "json",
-    form: Form::Flag,
-    group: None,
-    help: "Say it in JSON, whose members the manual page lists",
-};
-
-/// The arguments, in the order of the help.
-pub static ARGUMENTS: [Argument; 6] = [
-    STORE,
-    PASSWORD_FILE,
-    PASSWORD_ENV,
-    PASSWORD_STDIN,
-    JSON,
-    LIMIT,
-];
-
-/// What `list` is asked for.
-#[derive(Drop)]
-pub struct List<'a> {
-    pub store: &'a str,
-    pub password: Option<Origin<'a>>,
-    pub in_json: bool,
-    pub limit: u64,
-}
-
-/// What these matches ask for.
-pub fn asked<'a>(alloc: Global, matches: &ArgMatches<'a>) -> Result<List<'a>, Failure> {
-    Ok(List {
-        store: text_of(matches, "store")?,
-        password: Origin::of_password(matches),
-        in_json: matches.get_flag("json"),
-        limit: number_of(alloc, matches, "limit")?,
-    })
-}
-
 /// Opens the store, and prints what its certificates and private keys are.
 pub fn run_list<R: Runtime + AllocGlobal>(
     rt: &R,
     around: Surroundings,
-    asked: &List<'_>,
+    asked: &Reading<'_>,
 ) -> Result<(), Failure> {
-    inputs_differ(rt, asked.store, asked.password, None)?;
-    let given = read_given(rt, asked.store, asked.password, asked.limit)?;
-    tell_long_work(rt, around, given.store.as_slice(), None);
-    let opened = opened(rt.alloc(), &given, asked.limit)?;
+    let opened = asked.opened(rt, around)?;
     let labels = Listing::of(rt.alloc(), opened.contents.as_slice())?;
     let read = read_certificates(rt.alloc(), opened.contents.as_slice())?;
     let certificates = read.indexed(rt.alloc())?;

@@ -2,36 +2,23 @@
 //! `self-test`.
 #![tactic(auto)]
 
-mod advice;
 mod check;
 mod clock;
 mod command_line;
-mod counted;
-mod ending;
 mod export;
 mod exporting;
-mod given;
-mod input;
 mod list;
-mod long_work;
-mod opening;
-mod output;
-mod password;
-mod password_argument;
-mod progress;
-mod read_advice;
-mod refusal;
+mod reading;
 mod rekey;
 mod rekeying;
 mod request;
 mod run;
 mod self_test;
-mod written_files;
 
-use run::Surroundings;
 use std::io::IsTerminal;
 use std::process;
 use std::process::ExitCode;
+use store_opening::Surroundings;
 
 fn main(rt: HostRuntime) -> ExitCode {
     let around = Surroundings {

@@ -1,11 +1,11 @@
 //! What the subcommand `rekey` is asked for.
 use crate::command_line::{LIMIT, PASSWORD_ENV, PASSWORD_FILE, PASSWORD_STDIN, STORE};
-use crate::ending::{Ending, Failure};
 use crate::export::{NEW_PASSWORD_ENV, NEW_PASSWORD_FILE, NEW_PASSWORD_STDIN};
 use crate::request::{number_of, text_of};
 use clap::ArgMatches;
 use command_base::{Argument, Form, Origin};
 use std::alloc::Global;
+use store_opening::{Ending, Failure};
 
 pub const NAME: &str = "rekey";
 

@@ -2,15 +2,7 @@
 ghost use Rattle.std.specs.Prelude.{◌≡◌, ◌<◌, ℕ, IfOk, None};
 ghost use Rattle.rekey_core.specs.Rekeyed.{Rekeys};
 
-use crate::ending::{Ending, Failure};
-use crate::given::{Given, is_not_given_again, new_password_missing, opened, read_given};
-use crate::input::{are_one, inputs_differ, output_differs, path_of_store};
-use crate::long_work::tell_long_work;
-use crate::opening::{RANDOM, opened_store, refused};
-use crate::password::{NewPassword, read_password, without_nul};
-use crate::refusal::with_detail;
 use crate::rekey::Rekey;
-use crate::run::Surroundings;
 use asn1_core::Octets;
 use octet_core::{Draw, FileDraw};
 use p12::{CertBag, SafeBag, SafeBagKind};
@@ -21,6 +13,11 @@ use std::rt::{Env, Files, Runtime};
 use std::sync::ledger::{Blank, Ledger};
 use steps::Steps;
 use store_inspection::{Listing, counts};
+use store_opening::{
+    Ending, Failure, Given, NewPassword, RANDOM, Surroundings, are_one, inputs_differ,
+    is_not_given_again, new_password_missing, opened, opened_store, output_differs, path_of_store,
+    read_given, read_password, refused, tell_long_work, with_detail, without_nul,
+};
 use store_output::StoreFile;
 use transfer::{Opened, TransferError};
 

@@ -2,13 +2,12 @@
 ghost use Rattle.std.specs.Prelude.{◌≤◌, IfOk, OkIff};
 ghost use Rattle.std.specs.Str.Parse.{IsNumeral, digits_value, without_leading_plus};
 
-use crate::check::Check;
-use crate::ending::{Ending, Failure};
-use crate::export::Export;
-use crate::list::List;
+use crate::reading::Reading;
 use crate::rekey::Rekey;
 use clap::ArgMatches;
 use std::alloc::Global;
+use store_export::Export;
+use store_opening::{Ending, Failure};
 use terminal_text::InQuotes;
 
 /// The most rounds of PBKDF2.
@@ -17,9 +16,9 @@ const MOST_ROUNDS: u32 = 100_000_000;
 /// What the command is asked for.
 #[derive(Drop)]
 pub enum Request<'a> {
-    Check(Check<'a>),
+    Check(Reading<'a>),
     Export(Export<'a>),
-    List(List<'a>),
+    List(Reading<'a>),
     Rekey(Rekey<'a>),
     SelfTest,
 }
@@ -72,8 +71,8 @@ pub fn request_of<'a>(alloc: Global, matches: &ArgMatches<'a>) -> Result<Request
     };
     match name {
         "export" => Ok(Request::Export(crate::export::asked(alloc, inner)?)),
-        "check" => Ok(Request::Check(crate::check::asked(alloc, inner)?)),
-        "list" => Ok(Request::List(crate::list::asked(alloc, inner)?)),
+        "check" => Ok(Request::Check(crate::reading::asked(alloc, inner)?)),
+        "list" => Ok(Request::List(crate::reading::asked(alloc, inner)?)),
         "rekey" => Ok(Request::Rekey(crate::rekey::asked(alloc, inner)?)),
         "self-test" => Ok(Request::SelfTest),
         _ => Err(no_subcommand()),

@@ -1,13 +1,8 @@
 //! The command, from its arguments to its end.
-use crate::advice::advice;
 use crate::check::run_check;
 use crate::command_line::command;
-use crate::ending::{Ending, Failure};
 use crate::exporting::run_export;
-use crate::given::ASKING;
 use crate::list::run_list;
-use crate::output::printed;
-use crate::password_argument::password_argument;
 use crate::rekeying::run_rekey;
 use crate::request::{Request, request_of};
 use crate::self_test::self_test;
@@ -17,13 +12,7 @@ use command_base::{arguments, refusal_text};
 use std::alloc::AllocError;
 use std::rt::{Env, Runtime};
 use std::{env, io};
-
-/// What the process tells: its number, and whether its standard error is a terminal.
-#[derive(Clone, Copy)]
-pub struct Surroundings {
-    pub process: u32,
-    pub at_terminal: bool,
-}
+use store_opening::{ASKING, Ending, Failure, Surroundings, printed, without_password_argument};
 
 fn run_self_test<R: Print + AllocGlobal>(rt: &R) -> Result<(), Failure> {
     let lines = self_test(rt.alloc())?;
@@ -83,7 +72,7 @@ pub fn run<R: Runtime + AllocGlobal>(rt: &R, around: Surroundings) -> Result<(),
     let Some(arguments) = arguments(rt)? else {
         return Err(Failure::new(Ending::Usage, "an argument is not UTF-8"));
     };
-    password_argument(arguments.as_slice())?;
+    without_password_argument(arguments.as_slice())?;
     let command = command(rt.alloc())?;
     match command.try_get_matches_from(arguments.as_slice()) {
         Ok(matches) => answer(rt, around, &matches),
@@ -110,7 +99,7 @@ pub fn explain<R: Env + Eprint + AllocGlobal>(rt: &R, failure: &Failure) -> io::
     let name = ending.name();
     let advice = match &failure.advice {
         Some(advice) => advice.as_str(),
-        None => advice(ending),
+        None => ending.advice(),
     };
     eprintln!(rt; "pkcs12: {name} ({code}): {message}\n{advice}")
 }

@@ -2,13 +2,13 @@
 //! compared with what has to.
 ghost use Rattle.std.specs.Prelude.{◌≡◌, ◌<◌};
 
-use crate::ending::{Ending, Failure};
 use asn1_core::{Error, Items, Octets};
 use mac_modes::DrawnBytes;
 use std::alloc::Global;
 use std::marker::Brand;
 use std::sync::ledger::{Blank, Ledger};
 use steps::Steps;
+use store_opening::{Ending, Failure};
 use transfer::{MemorySink, MemorySource, Status, run};
 
 /// How many keys the sample has.

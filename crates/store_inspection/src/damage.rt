@@ -3,15 +3,15 @@ use crate::detail::Detail;
 use crate::inspection::plain_of;
 use crate::no_store::in_ber;
 use command_base::Password;
-use p12::{BagsView, ContentView, ContentsView, Error, StoreView};
-use std::alloc::Global;
+use p12::{BagsView, ContentView, ContentsView, StoreView};
+use std::alloc::{AllocError, Global};
 
 /// Whether a content opens to something other than a list of bags.
 fn is_damaged(
     alloc: Global,
     content: &ContentView<'_>,
     password: &Password,
-) -> Result<bool, Error> {
+) -> Result<bool, AllocError> {
     match plain_of(alloc, content, password)? {
         Some(plain) => Ok(BagsView::parse(plain.as_slice()).is_err()),
         None => Ok(false),
@@ -33,7 +33,7 @@ fn damaged_among(
     mut contents: ContentsView<'_>,
     first: usize,
     password: &Password,
-) -> Result<Option<String>, Error> {
+) -> Result<Option<String>, AllocError> {
     let mut number: u64 = 0;
     while let Some(content) = contents.next() {
         number = number.saturating_add(1);
@@ -54,7 +54,7 @@ fn damaged_in(
     list: &[u8],
     first: usize,
     password: &Password,
-) -> Result<Option<String>, Error> {
+) -> Result<Option<String>, AllocError> {
     match ContentsView::parse(list) {
         Ok(contents) => damaged_among(alloc, contents, first, password),
         Err(_) => match in_ber(alloc, list, first)? {
@@ -68,7 +68,11 @@ fn damaged_in(
 }
 
 /// What is damaged in a store whose MAC agrees.
-pub fn damaged(alloc: Global, store: &[u8], password: &Password) -> Result<Option<Detail>, Error> {
+pub fn damaged(
+    alloc: Global,
+    store: &[u8],
+    password: &Password,
+) -> Result<Option<Detail>, AllocError> {
     let Ok(store) = StoreView::parse(store) else {
         return Ok(None);
     };

@@ -5,9 +5,10 @@ ghost use Rattle.p12.specs.AlgorithmView.{seen_algorithm};
 
 use crate::algorithm_name::{AlgorithmName, Named};
 use crate::detail::Detail;
+use crate::out_of_memory::out_of_memory;
 use asn1_core::Octets;
 use command_base::Password;
-use p12::{AlgorithmView, BagView, BagsView, ContentView, ContentsView, Error, StoreView};
+use p12::{AlgorithmView, BagView, BagsView, ContentView, ContentsView, StoreView};
 use std::alloc::{AllocError, Global};
 use std::marker::Brand;
 use std::sync::ledger::{Blank, Ledger};
@@ -54,7 +55,7 @@ fn opened_from<L: Ledger>(
     password: &Password,
     ciphertext: &[u8],
     blank: Blank,
-) -> Result<Option<Octets>, Error>
+) -> Result<Option<Octets>, AllocError>
     requires name { blank.name ≡ L.name }
     requires parts { blank.parts ≡ L.parts }
     requires some { 0 < blank.parts }
@@ -63,18 +64,18 @@ fn opened_from<L: Ledger>(
 {
     let mut steps = Steps::<L>::open(blank);
     let mut text = Octets::from_slice(alloc, ciphertext)?;
-    let opened = algorithm.decrypt_in_place_counted(
+    match algorithm.decrypt_in_place_counted(
         alloc,
         password.as_str(),
         text.as_mut_slice(),
         &mut steps,
-    )?;
-    match opened {
-        Some(len) => {
+    ) {
+        Ok(Some(len)) => {
             text.truncate(len);
             Ok(Some(text))
         }
-        None => Ok(None),
+        Ok(None) => Ok(None),
+        Err(error) => Err(out_of_memory(error)),
     }
 }
 
@@ -83,7 +84,7 @@ pub fn plain_of(
     alloc: Global,
     content: &ContentView<'_>,
     password: &Password,
-) -> Result<Option<Octets>, Error> {
+) -> Result<Option<Octets>, AllocError> {
     match content {
         ContentView::Plain { content, .. } => Ok(Some(Octets::from_slice(alloc, content)?)),
         ContentView::Encrypted {
@@ -200,7 +201,7 @@ fn keys_not_opened(
     alloc: Global,
     mut contents: ContentsView<'_>,
     password: &Password,
-) -> Result<Option<String>, Error> {
+) -> Result<Option<String>, AllocError> {
     while let Some(content) = contents.next() {
         if let Some(plain) = plain_of(alloc, &content, password)? {
             if let Some(text) = key_not_opened(alloc, plain.as_slice())? {
@@ -226,12 +227,12 @@ fn outer_not_opened(alloc: Global, outer: &ContentView<'_>) -> Result<Option<Str
 }
 
 /// What of the store is unsupported, under its password: the kind of the outer content, the first content that is not opened, or
-/// the first key; None where nothing is. The only error is out of memory.
+/// the first key; None where nothing is.
 pub fn unsupported(
     alloc: Global,
     store: &[u8],
     password: &Password,
-) -> Result<Option<String>, Error> {
+) -> Result<Option<String>, AllocError> {
     let Ok(view) = StoreView::parse(store) else {
         return Ok(None);
     };

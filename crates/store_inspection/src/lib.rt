@@ -14,6 +14,7 @@ mod no_store;
 mod not_der;
 mod other_bag;
 mod others;
+mod out_of_memory;
 mod summary_text;
 
 pub use damage::damaged;

@@ -8,8 +8,9 @@ ghost use Rattle.store_inspection.specs.Pairs.{first_of, has_key_id, pair_of};
 
 use crate::certificate_shape::has_certificate_shape;
 use crate::other_bag::OtherBag;
+use crate::out_of_memory::out_of_memory;
 use asn1_core::{Items, Octets, Text};
-use p12::{CertBag, Error, SafeBag, SafeBagKind};
+use p12::{CertBag, SafeBag, SafeBagKind};
 use std::alloc::{AllocError, Global};
 use std::collections::BTreeMap;
 use std::fmt;
@@ -33,14 +34,28 @@ fn is_no_certificate(bag: &SafeBagKind) -> bool {
     }
 }
 
+/// The first friendly name of a bag.
+fn friendly_name_of(alloc: Global, bag: &SafeBag) -> Result<Option<Text>, AllocError> {
+    match bag.friendly_name(alloc) {
+        Ok(name) => Ok(name),
+        Err(error) => Err(out_of_memory(error)),
+    }
+}
+
+/// The first local key id of a bag.
+fn local_key_id_of(alloc: Global, bag: &SafeBag) -> Result<Option<Octets>, AllocError> {
+    match bag.local_key_id(alloc) {
+        Ok(id) => Ok(id),
+        Err(error) => Err(out_of_memory(error)),
+    }
+}
+
 impl Label {
     /// The label of a bag: the first attribute of each kind.
-    pub fn of(alloc: Global, bag: &SafeBag) -> Result<Label, Error> {
-        let friendly_name = bag.friendly_name(alloc)?;
-        let local_key_id = bag.local_key_id(alloc)?;
+    pub fn of(alloc: Global, bag: &SafeBag) -> Result<Label, AllocError> {
         Ok(Label {
-            friendly_name,
-            local_key_id,
+            friendly_name: friendly_name_of(alloc, bag)?,
+            local_key_id: local_key_id_of(alloc, bag)?,
             is_no_certificate: is_no_certificate(&bag.bag),
         })
     }
@@ -97,8 +112,8 @@ pub struct Listing {
 }
 
 impl Listing {
-    /// What is in the bags of an opened store. The only error is out of memory.
-    pub fn of(alloc: Global, contents: &[Items<SafeBag>]) -> Result<Listing, Error> {
+    /// What is in the bags of an opened store.
+    pub fn of(alloc: Global, contents: &[Items<SafeBag>]) -> Result<Listing, AllocError> {
         let mut found = Listing {
             certificates: Items::new(alloc),
             keys: Items::new(alloc),
@@ -113,7 +128,7 @@ impl Listing {
     }
 
     /// Adds a bag.
-    fn add(&mut self, alloc: Global, bag: &SafeBag) -> Result<(), Error> {
+    fn add(&mut self, alloc: Global, bag: &SafeBag) -> Result<(), AllocError> {
         match OtherBag::of(&bag.bag) {
             Some(kind) => self.others.push(kind)?,
             None => {

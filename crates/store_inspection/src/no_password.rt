@@ -1,11 +1,12 @@
 //! Stores that were made with no password at all.
 ghost use Rattle.std.specs.Prelude.{◌≡◌, ◌<◌, ◌^◌, length};
 
+use crate::out_of_memory::out_of_memory;
 use asn1_core::Octets;
 use p12::{
-    AlgorithmIdentifier, AlgorithmView, ContentView, DigestInfo, Error, MacData, MacView, StoreView,
+    AlgorithmIdentifier, AlgorithmView, ContentView, DigestInfo, MacData, MacView, StoreView,
 };
-use std::alloc::Global;
+use std::alloc::{AllocError, Global};
 
 /// The most octets of a store that is opened, and so of each of its parts.
 const STORE_LIMIT: usize = 16_777_215;
@@ -20,7 +21,7 @@ fn digest_of(mac: &MacView<'_>) -> Option<AlgorithmIdentifier> {
 }
 
 /// Whether the MAC of the content agrees under a password of no octets.
-fn agrees(alloc: Global, mac: &MacView<'_>, content: &[u8]) -> Result<bool, Error> {
+fn agrees(alloc: Global, mac: &MacView<'_>, content: &[u8]) -> Result<bool, AllocError> {
     let Some(digest_algorithm) = digest_of(mac) else {
         return Ok(false);
     };
@@ -35,13 +36,16 @@ fn agrees(alloc: Global, mac: &MacView<'_>, content: &[u8]) -> Result<bool, Erro
         salt: Octets::from_slice(alloc, mac.salt)?,
         iterations: mac.iterations,
     };
-    mac.verify_mac(alloc, content, &[])
+    match mac.verify_mac(alloc, content, &[]) {
+        Ok(agrees) => Ok(agrees),
+        Err(error) => Err(out_of_memory(error)),
+    }
 }
 
 /// Whether the MAC of the store agrees under no password at all, which some programs tell from the
 /// empty one: RFC 7292 appendix B.1 gives the empty password two octets, and these programs give
 /// none. It takes the rounds of the MAC.
-pub fn is_without_password(alloc: Global, store: &[u8]) -> Result<bool, Error> {
+pub fn is_without_password(alloc: Global, store: &[u8]) -> Result<bool, AllocError> {
     let Ok(store) = StoreView::parse(store) else {
         return Ok(false);
     };

@@ -1,4 +1,7 @@
 //! Why output is not written.
+ghost use Rattle.std.specs.Prelude.{◌≡◌, IsErr, IsOk};
+ghost use Rattle.store_output.specs.declared.output_error.OutputErrorKind.TheVariants.{Memory};
+
 use crate::write_advice::write_advice;
 use command_base::Message;
 use std::alloc::{AllocError, AllocFailed, Global};
@@ -27,7 +30,9 @@ pub struct OutputError {
 }
 
 impl OutputError {
-    pub fn new(kind: OutputErrorKind, text: &'static str) -> OutputError {
+    pub fn new(kind: OutputErrorKind, text: &'static str) -> OutputError
+        ensures { result.kind ≡ kind }
+    {
         OutputError {
             kind,
             message: Message::Fixed(text),
@@ -36,7 +41,10 @@ impl OutputError {
     }
 
     /// The error with a text that was made for it; `Memory` where there was none for the text.
-    pub fn told(kind: OutputErrorKind, text: Result<String, AllocError>) -> OutputError {
+    pub fn told(kind: OutputErrorKind, text: Result<String, AllocError>) -> OutputError
+        ensures made { IsOk text → result.kind ≡ kind }
+        ensures refused { IsErr text → result.kind ≡ Memory }
+    {
         match text {
             Ok(text) => OutputError {
                 kind,
@@ -48,7 +56,9 @@ impl OutputError {
     }
 
     /// The error with this advice.
-    pub fn advised(self, advice: &'static str) -> OutputError {
+    pub fn advised(self, advice: &'static str) -> OutputError
+        ensures { result.kind ≡ self.kind }
+    {
         OutputError {
             kind: self.kind,
             message: self.message,
@@ -57,7 +67,9 @@ impl OutputError {
     }
 
     /// The error with this advice, where there was memory for it.
-    pub fn advised_by(self, advice: Result<String, AllocError>) -> OutputError {
+    pub fn advised_by(self, advice: Result<String, AllocError>) -> OutputError
+        ensures { result.kind ≡ self.kind }
+    {
         match advice {
             Ok(text) => OutputError {
                 kind: self.kind,
@@ -82,12 +94,16 @@ impl OutputError {
 }
 
 impl From<AllocError> for OutputError {
+    ghost from_gives = { λ _ e. e.kind ≡ Memory };
+
     fn from(_refused: AllocError) -> OutputError {
         OutputError::new(OutputErrorKind::Memory, "there was not enough memory")
     }
 }
 
 impl<T: Drop> From<AllocFailed<T>> for OutputError {
+    ghost from_gives = { λ _ e. e.kind ≡ Memory };
+
     fn from(_refused: AllocFailed<T>) -> OutputError {
         OutputError::from(AllocError)
     }

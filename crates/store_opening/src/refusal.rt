@@ -24,7 +24,7 @@ fn mac_mismatch(
     alloc: Global,
     store: &[u8],
     password: &Password,
-) -> Result<Option<Detail>, Failure> {
+) -> Result<Option<Detail>, AllocError> {
     if !password.as_str().is_empty() || !is_without_password(alloc, store)? {
         return Ok(None);
     }
@@ -65,7 +65,7 @@ fn not_supported(
     alloc: Global,
     store: &[u8],
     password: &Password,
-) -> Result<Option<Detail>, Failure> {
+) -> Result<Option<Detail>, AllocError> {
     match unsupported(alloc, store, password)? {
         Some(text) => Ok(Some(Detail::of(text))),
         None => Ok(None),
@@ -79,14 +79,14 @@ fn detail(
     store: &[u8],
     password: &Password,
     limit: u64,
-) -> Result<Option<Detail>, Failure> {
+) -> Result<Option<Detail>, AllocError> {
     match refusal {
-        TransferError::Malformed => Ok(malformed(alloc, store)?),
-        TransferError::ContentMalformed => Ok(damaged(alloc, store, password)?),
+        TransferError::Malformed => malformed(alloc, store),
+        TransferError::ContentMalformed => damaged(alloc, store, password),
         TransferError::Unsupported => not_supported(alloc, store, password),
-        TransferError::MacUnsupported => Ok(mac_unsupported(alloc, store)?),
+        TransferError::MacUnsupported => mac_unsupported(alloc, store),
         TransferError::MacMismatch => mac_mismatch(alloc, store, password),
-        TransferError::WorkLimit => Ok(work_limit(alloc, store, limit)?),
+        TransferError::WorkLimit => work_limit(alloc, store, limit),
         _ => Ok(None),
     }
 }
@@ -95,7 +95,8 @@ fn message_of(text: String) -> Message {
     Message::Made(text)
 }
 
-/// The failure with what more there is to say of it, where the store was to be opened within this limit. Its kind stays.
+/// The failure of opening a store within this limit, with what more there is to say of it. Its kind stays. What is unsupported or damaged
+/// is looked for by decrypting the contents once more, within the limit that opening kept.
 pub fn with_detail(
     alloc: Global,
     failure: Failure,

@@ -1,6 +1,6 @@
 //! Work that takes a while.
 use crate::counted::Counted;
-use crate::run::Surroundings;
+use crate::surroundings::Surroundings;
 use std::{fmt, io};
 use store_inspection::visible_work;
 
@@ -77,7 +77,8 @@ fn tell_work<R: Eprint>(rt: &R, work: u128, rounds: Option<u32>) -> io::Result<(
     }
 }
 
-/// Says at a terminal that the work takes a while.
+/// Says at a terminal that the work takes more than about a second; `rounds` are those of each private key that is written, where some
+/// are.
 pub fn tell_long_work<R: Eprint>(rt: &R, around: Surroundings, store: &[u8], rounds: Option<u32>) {
     let work = visible_work(store);
     if around.at_terminal && (work > LONG_WORK || are_many(rounds)) {

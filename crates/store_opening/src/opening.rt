@@ -1,17 +1,12 @@
-//! The store: its opening, and the sealing of its private keys.
-ghost use Rattle.std.specs.Prelude.{◌≡◌, ◌<◌, ◌≤◌, ℕ, [], IfOk, None};
-ghost use Rattle.transfer.specs.Opening.{all_certificates};
-ghost use Rattle.transfer.specs.Transferred.{SealsOpened};
+//! Opening a store.
+ghost use Rattle.std.specs.Prelude.{◌≡◌, ◌<◌, ◌≤◌, ℕ, IfOk};
+ghost use Rattle.frame.specs.Status.{status_code};
+ghost use Rattle.store_opening.specs.Ending.{code_of};
+ghost use Rattle.transfer.specs.Status.{status_of};
 ghost use Rattle.transfer.specs.Verdicts.{StoreOpens};
 
-use crate::advice::NEW_PASSWORD_OF_EXPORT;
 use crate::ending::{Ending, Failure};
-use crate::long_work::tell_sealing;
-use crate::password::NewPassword;
-use crate::progress::{Progress, end_progress};
-use asn1_core::Octets;
 use command_base::Password;
-use mac_modes::{DrawnBytes, ReadDraw};
 use std::alloc::Global;
 use std::io::Read;
 use std::marker::Brand;
@@ -19,7 +14,7 @@ use std::rt::Files;
 use std::sync::ledger::{Blank, Ledger};
 use std::{fs, io};
 use steps::Steps;
-use transfer::{Opened, TransferError, Transferred, open_store, seal_opened};
+use transfer::{Opened, TransferError, open_store};
 
 /// Where the system's random octets are read.
 pub const RANDOM: &str = "/dev/urandom";
@@ -48,8 +43,11 @@ pub fn read_store<R: Files + Input + AllocGlobal>(rt: &R, store: &str) -> Result
     }
 }
 
-/// The failure that a refusal is.
-pub fn refused(refusal: TransferError) -> Failure {
+/// The failure that a refusal is: its exit number is the one of the refusal's status, and its message says what it means.
+#[tactic(auto, unfolding(crate::specs::Ending::code_of))]
+pub fn refused(refusal: TransferError) -> Failure
+    ensures { code_of result.ending ≡ status_code (status_of refusal) }
+{
     match refusal {
         TransferError::Memory => Failure::new(Ending::Memory, "there was not enough memory"),
         refusal => Failure::new(Ending::Refused(refusal), meaning_of(refusal)),
@@ -74,7 +72,7 @@ fn open_from<L: Ledger>(
     open_store(alloc, store, password.as_str(), limit, &mut steps)
 }
 
-/// Opens a store under its password, within the limit.
+/// Opens a store under its password within the limit, in steps, by a step counter of its own. `Refused` where `open_store` refuses it.
 pub fn opened_store(
     alloc: Global,
     store: &[u8],
@@ -86,70 +84,6 @@ pub fn opened_store(
 {
     match open_from::<Brand>(alloc, store, password, limit, Blank::new(1)) {
         Ok(opened) => Ok(opened),
-        Err(refusal) => Err(refused(refusal)),
-    }
-}
-
-/// Seals the keys of an opened store under the new password, in so many rounds, over the system's
-/// random octets. Where `is_shown` is set, the standard error says how many there are and about how
-/// long they take, and shows how much is done.
-pub fn sealed_store<R: Files + Eprint + AllocGlobal + Drop>(
-    rt: &R,
-    opened: &Opened,
-    new_password: &NewPassword,
-    rounds: u32,
-    is_shown: bool,
-) -> Result<Transferred, Failure>
-    requires { (1 ≤ rounds) × (rounds ≤ 100000000) }
-    ensures { IfOk result (λ t. SealsOpened rounds new_password.now None None opened.now.contents
-        opened.now.keys t.certificates t.documents) }
-{
-    let random = match fs::open(rt, RANDOM) {
-        Ok(random) => random,
-        Err(error) => {
-            return Err(Failure::io(
-                rt.alloc(),
-                Ending::Refused(TransferError::Rng),
-                "random octets",
-                RANDOM,
-                error,
-            ));
-        }
-    };
-    if is_shown {
-        tell_sealing(rt, opened.keys.len(), rounds);
-    }
-    let keys = opened.keys.len();
-    let mut draw = Progress::new(rt, ReadDraw::new(random), keys, is_shown);
-    let new_password = new_password.as_str().as_bytes();
-    let sealed = seal_opened(rt.alloc(), opened, new_password, rounds, &mut draw);
-    if is_shown {
-        end_progress(rt, keys, sealed.is_ok());
-    }
-    match sealed {
-        Ok(transferred) => Ok(transferred),
-        Err(refusal) => Err(refused(refusal)),
-    }
-}
-
-/// What an opened store gives where there is no new password: it may have no private keys.
-pub fn certificates_alone(alloc: Global, opened: &Opened) -> Result<Transferred, Failure>
-    ensures keyless { IfOk result (λ t. opened.now.keys ≡ []) }
-    ensures certificates { IfOk result
-        (λ t. t.certificates ≡ all_certificates opened.now.contents) }
-    ensures documents { IfOk result (λ t. t.documents ≡ []) }
-{
-    if !opened.keys.is_empty() {
-        return Err(Failure::new(
-            Ending::NewPasswordMissing,
-            "the store has private keys, and there is no new password to seal them under",
-        )
-        .advised(NEW_PASSWORD_OF_EXPORT));
-    }
-    // Without a key nothing is sealed, and nothing drawn.
-    let mut draw = DrawnBytes::new(Octets::new(alloc));
-    match seal_opened(alloc, opened, b"", 1, &mut draw) {
-        Ok(transferred) => Ok(transferred),
         Err(refusal) => Err(refused(refusal)),
     }
 }

@@ -1,8 +1,8 @@
 -- What export writes of a store.
 use Rattle.std.specs.Prelude.{ℕ, ◌≤◌, ◌≡◌, ◌⊎◌, ◌*◌, List, [], Bool, Option, None, true, length, IfSome, IfNone, IsTrue}
 use Rattle.p12.specs.declared.safe_bag.SafeBag.{SafeBag}
-use Rattle.pkcs12.specs.declared.export.Part.{Part}
-use Rattle.pkcs12.specs.declared.export.Part.TheVariants.{Certificates}
+use Rattle.store_export.specs.declared.target.Part.{Part}
+use Rattle.store_export.specs.declared.target.Part.TheVariants.{Certificates}
 use Rattle.transfer.specs.Opening.{all_certificates}
 use Rattle.transfer.specs.Sealing.{SealsAll}
 use Rattle.transfer.specs.Verdicts.{StoreOpens}

@@ -10,7 +10,7 @@ Give it by one of these, or with --new- in front; or run pkcs12 at a terminal, w
     --password-file FILE    --password-env NAME    --password-stdin";
 
 /// `Usage` where a password is given as an argument, which is not printed.
-pub fn password_argument(arguments: &[String]) -> Result<(), Failure> {
+pub fn without_password_argument(arguments: &[String]) -> Result<(), Failure> {
     if is_password_given(arguments) {
         return Err(Failure::new(Ending::Usage, NO_PASSWORD_ARGUMENT).advised(PASSWORD_OPTIONS));
     }

@@ -37,7 +37,8 @@ fn not_had(
     }
 }
 
-/// The password of an origin; `purpose` says which password it is.
+/// The password of an origin; `purpose` says in a message which password it is. `ReadFault` where it cannot be read,
+/// `PasswordUnusable` where it is not UTF-8 or has more than 1,024 octets.
 pub fn read_password<R: Files + Env + Input + AllocGlobal>(
     rt: &R,
     purpose: &'static str,

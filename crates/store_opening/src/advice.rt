@@ -51,12 +51,6 @@ const NEW_PASSWORD: &str = "\
 Run pkcs12 at a terminal, where it asks for it, or give it by one of these:
     --new-password-file FILE    --new-password-env NAME    --new-password-stdin";
 
-/// The same for `export`.
-pub const NEW_PASSWORD_OF_EXPORT: &str = "\
-Run pkcs12 at a terminal, where it asks for it, or give it by one of these:
-    --new-password-file FILE    --new-password-env NAME    --new-password-stdin
-To keep the store's: --same-password. To write the certificates alone: --certificates-only.";
-
 const WRONG_PASSWORD: &str = "\
 Try the password again. Of a file the first line counts, with its spaces; a byte order mark \
 would be a part of it.
@@ -78,24 +72,27 @@ const NOT_EXPORTED: &str = "\
 Give --skip-others to export the rest. OpenSSL writes out a private key that is not encrypted too:
     openssl pkcs12 -in STORE.p12 -out all.pem";
 
-/// The next command to type, or what to look at.
-pub fn advice(ending: Ending) -> &'static str {
-    match ending {
-        Ending::Usage => "See pkcs12 --help, and pkcs12 SUBCOMMAND --help.",
-        Ending::ReadFault => "Look whether the file is there and can be read.",
-        Ending::WriteFault => "Look at the folder above it.",
-        Ending::Memory =>
-            "Nothing was left behind. Close other programs, or use a machine with more memory.",
-        Ending::PasswordMissing => PASSWORD,
-        Ending::NewPasswordMissing => NEW_PASSWORD,
-        Ending::PasswordUnusable => UNUSABLE,
-        Ending::OutputExists => "Give another name.",
-        Ending::SelfTestFailed => SELF_TEST,
-        Ending::NotExported => NOT_EXPORTED,
-        Ending::SealLimit =>
-            "Give a larger --seal-limit, or fewer --rounds, which make a password easier to guess.",
-        Ending::TooManyFiles => "If that is what you expect of the store, give a larger number.",
-        Ending::Refused(refusal) => advice_on_store(refusal),
+impl Ending {
+    /// The next command to type, or what to look at.
+    pub fn advice(self) -> &'static str {
+        match self {
+            Ending::Usage => "See pkcs12 --help, and pkcs12 SUBCOMMAND --help.",
+            Ending::ReadFault => "Look whether the file is there and can be read.",
+            Ending::WriteFault => "Look at the folder above it.",
+            Ending::Memory =>
+                "Nothing was left behind. Close other programs, or use a machine with more memory.",
+            Ending::PasswordMissing => PASSWORD,
+            Ending::NewPasswordMissing => NEW_PASSWORD,
+            Ending::PasswordUnusable => UNUSABLE,
+            Ending::OutputExists => "Give another name.",
+            Ending::SelfTestFailed => SELF_TEST,
+            Ending::NotExported => NOT_EXPORTED,
+            Ending::SealLimit =>
+                "Give a larger --seal-limit, or fewer --rounds, which make a password easier to guess.",
+            Ending::TooManyFiles =>
+                "If that is what you expect of the store, give a larger number.",
+            Ending::Refused(refusal) => advice_on_store(refusal),
+        }
     }
 }
 

@@ -1,6 +1,7 @@
 //! Why the command ends without having done what was asked.
-ghost use Rattle.std.specs.Prelude.{◌≡◌};
-ghost use Rattle.pkcs12.specs.Ending.{code_of};
+ghost use Rattle.std.specs.Prelude.{◌≡◌, IsErr, IsOk};
+ghost use Rattle.store_opening.specs.declared.ending.Ending.TheVariants.{Memory};
+ghost use Rattle.store_opening.specs.Ending.{code_of, ending_of};
 
 use crate::read_advice::read_advice;
 use command_base::Message;
@@ -140,7 +141,10 @@ impl Failure {
     }
 
     /// The failure with a text that was made for it; `Memory` where there was none for the text.
-    pub fn told(ending: Ending, text: Result<String, AllocError>) -> Failure {
+    pub fn told(ending: Ending, text: Result<String, AllocError>) -> Failure
+        ensures made { IsOk text → result.ending ≡ ending }
+        ensures refused { IsErr text → result.ending ≡ Memory }
+    {
         match text {
             Ok(text) => Failure::with(ending, text),
             Err(refused) => Failure::from(refused),
@@ -169,42 +173,24 @@ impl Failure {
 }
 
 impl From<AllocError> for Failure {
+    ghost from_gives = { λ _ f. f.ending ≡ Memory };
+
     fn from(_refused: AllocError) -> Failure {
         Failure::new(Ending::Memory, "there was not enough memory")
     }
 }
 
 impl<T: Drop> From<AllocFailed<T>> for Failure {
+    ghost from_gives = { λ _ f. f.ending ≡ Memory };
+
     fn from(_refused: AllocFailed<T>) -> Failure {
         Failure::from(AllocError)
     }
 }
 
-impl From<asn1_core::Error> for Failure {
-    fn from(error: asn1_core::Error) -> Failure {
-        match error {
-            asn1_core::Error::Memory => Failure::from(AllocError),
-            _ => Failure::new(
-                Ending::Refused(TransferError::Malformed),
-                "the store is damaged",
-            ),
-        }
-    }
-}
-
-impl From<p12::Error> for Failure {
-    fn from(error: p12::Error) -> Failure {
-        match error {
-            p12::Error::Memory => Failure::from(AllocError),
-            _ => Failure::new(
-                Ending::Refused(TransferError::Malformed),
-                "the store is damaged",
-            ),
-        }
-    }
-}
-
 impl From<OutputErrorKind> for Ending {
+    ghost from_gives = { λ k e. e ≡ ending_of k };
+
     fn from(kind: OutputErrorKind) -> Ending {
         match kind {
             OutputErrorKind::Usage => Ending::Usage,
@@ -216,6 +202,8 @@ impl From<OutputErrorKind> for Ending {
 }
 
 impl From<OutputError> for Failure {
+    ghost from_gives = { λ e f. f.ending ≡ ending_of e.kind };
+
     fn from(error: OutputError) -> Failure {
         Failure {
             ending: Ending::from(error.kind),

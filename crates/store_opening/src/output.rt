@@ -3,7 +3,7 @@ use crate::ending::{Ending, Failure};
 use std::alloc::{AllocError, Global};
 use std::io;
 
-/// The failure of a write to the standard output, where it failed.
+/// `WriteFault` where a write to the standard output failed, with advice by its cause.
 pub fn printed(alloc: Global, outcome: io::Result<()>) -> Result<(), Failure> {
     match outcome {
         Ok(()) => Ok(()),

@@ -19,7 +19,7 @@ use transfer::{Opened, TransferError};
 /// which the script gives the store's password in each run.
 pub const ASKING: &str = "PKCS12_ASKING";
 
-/// A store and its password.
+/// The octets of a store, which nothing has looked at, and its password.
 #[derive(Drop)]
 pub struct Given {
     pub store: Vec<u8>,
@@ -33,7 +33,7 @@ fn password_missing() -> Failure {
     )
 }
 
-/// The failure where the new password is needed from the beginning.
+/// `NewPasswordMissing`, where the script could not ask for it later.
 pub fn new_password_missing() -> Failure {
     Failure::new(
         Ending::NewPasswordMissing,
@@ -86,7 +86,12 @@ fn refused_unasked(alloc: Global, store: &[u8], limit: u64) -> Failure {
     }
 }
 
-/// Reads a store and its password.
+/// Reads the store at the path, or for `-` on the standard input, and its password, where that has an origin. `limit` is the most
+/// steps of opening it.
+///
+/// `ReadFault` where one of them cannot be read, `PasswordUnusable` where the password is not UTF-8 or has more than 1,024 octets.
+/// Without an origin it fails in any case: as `Refused` where the store is refused under any password, which takes no steps, and else
+/// as `PasswordMissing`.
 pub fn read_given<R: Files + Env + Input + AllocGlobal>(
     rt: &R,
     path: &str,
@@ -104,7 +109,7 @@ pub fn read_given<R: Files + Env + Input + AllocGlobal>(
     Ok(Given { store, password })
 }
 
-/// Opens a store, with what more there is to say where it is refused.
+/// Opens a store within the limit, in steps. `Refused` where `open_store` refuses it, with what more there is to say of that.
 pub fn opened(alloc: Global, given: &Given, limit: u64) -> Result<Opened, Failure>
     ensures { IfOk result (λ o. (n : ℕ)
         × StoreOpens given.now.store.items given.now.password o.contents o.keys n × (n ≤ limit)) }

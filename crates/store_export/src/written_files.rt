@@ -1,5 +1,6 @@
 //! The files of the output folder.
-use crate::export::{Format, Layout, Part, Target};
+use crate::exporting::Exported;
+use crate::target::{Format, Layout, Part, Target};
 use asn1_core::Octets;
 use command_base::Attributes;
 use pem_text::pem_of;
@@ -9,8 +10,7 @@ use std::io;
 use std::io::Write;
 use std::os::unix::fs::OpenOptionsExt;
 use std::rt::Files;
-use store_certificates::{chain_text, chains};
-use store_inspection::{Label, Listing};
+use store_inspection::Label;
 use store_output::{ALL, Folder, Kind, file_name, sync_folder};
 use transfer::Transferred;
 
@@ -146,53 +146,37 @@ fn certificates_of(part: Part, transferred: &Transferred) -> &[Octets] {
     }
 }
 
-/// Writes the chain of each private key that has one.
-fn write_chains<R: Files + AllocGlobal>(
-    rt: &R,
-    place: Place<'_>,
-    certificates: &[Octets],
-    found: &Listing,
-) -> io::Result<()> {
-    let chains = chains(rt.alloc(), certificates, found)?;
-    for (number, chain) in chains.as_slice().iter().enumerate() {
-        if let Some(chain) = chain {
-            let text = chain_text(rt.alloc(), chain, certificates)?;
-            let name = format!(in rt.alloc(); "chain-{number}.pem")?;
-            write_new(rt, place, name.as_str(), text.as_slice())?;
-        }
-    }
-    Ok(())
-}
-
 impl<'a> Output<'a> {
     fn of_kind(self, kind: Kind) -> Place<'a> {
         Place { output: self, kind }
     }
 
-    /// Writes everything, gives the folder what is kept, and brings it to the disk.
-    pub fn fill<R: Files + AllocGlobal>(
+    /// Writes the certificates and the private keys, as the target asks for them.
+    pub fn write<R: Files + AllocGlobal>(self, rt: &R, exported: &Exported) -> io::Result<()> {
+        let certificates = certificates_of(self.target.part, &exported.transferred);
+        let documents = exported.transferred.documents.as_slice();
+        if matches!(self.target.layout, Layout::OneFile) {
+            return write_all(rt, self.of_kind(Kind::Key), certificates, documents);
+        }
+        let labels = exported.found.certificates.as_slice();
+        write_each(rt, self.of_kind(Kind::Certificate), certificates, labels)?;
+        let labels = exported.found.keys.as_slice();
+        write_each(rt, self.of_kind(Kind::Key), documents, labels)
+    }
+
+    /// Writes the chain of the private key of this number, as PEM text.
+    pub fn write_chain<R: Files + AllocGlobal>(
         self,
         rt: &R,
-        transferred: &Transferred,
-        found: &Listing,
+        number: usize,
+        text: &[u8],
     ) -> io::Result<()> {
-        let certificates = certificates_of(self.target.part, transferred);
-        let documents = transferred.documents.as_slice();
-        if matches!(self.target.layout, Layout::OneFile) {
-            write_all(rt, self.of_kind(Kind::Key), certificates, documents)?;
-        } else {
-            let labels = found.certificates.as_slice();
-            write_each(rt, self.of_kind(Kind::Certificate), certificates, labels)?;
-            write_each(
-                rt,
-                self.of_kind(Kind::Key),
-                documents,
-                found.keys.as_slice(),
-            )?;
-        }
-        if self.target.chain {
-            write_chains(rt, self.of_kind(Kind::Certificate), certificates, found)?;
-        }
+        let name = format!(in rt.alloc(); "chain-{number}.pem")?;
+        write_new(rt, self.of_kind(Kind::Certificate), name.as_str(), text)
+    }
+
+    /// Gives the folder what is kept of the one that it replaces, and brings it to the disk.
+    pub fn end<R: Files + AllocGlobal>(self, rt: &R) -> io::Result<()> {
         if let Some(kept) = &self.folder.kept {
             kept.folder.give_to_folder(rt, self.part)?;
         }
