@@ -152,6 +152,11 @@ open_pipe() {
 }
 holds file_that_stays_open open_pipe open-file --password-file "$work/open-file" /dev/null
 holds standard_input_that_stays_open open_pipe open-input --password-stdin "" "$work/open-input"
+closed_input() {
+    fails 3 ReadFault "Bad file descriptor" check - --password-file "$plain_password" <&- &&
+        fails 3 ReadFault "Bad file descriptor" check "$plain" --password-stdin <&-
+}
+holds a_closed_standard_input_is_no_empty_one closed_input
 holds input_gives_one_thing fails 2 Usage "only one of" check - --password-stdin
 certificates_from_a_pipe() {
     cat "$plain" | ends 0 export - --out "$work/piped" --password-file "$plain_password" && [ -s "$work/piped/cert-1.pem" ]

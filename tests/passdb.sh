@@ -502,6 +502,12 @@ closed_standard_input() {
     "$PASSDB" list "$file" <&- >"$work/said" 2>"$work/told" && grep -qx gil "$work/said"
 }
 holds closed_standard_input closed_standard_input
+closed_input() {
+    code=0
+    setsid -w "$PASSDB" check "$file" gil --password-stdin <&- >"$work/said" 2>"$work/told" || code=$?
+    [ "$code" -eq 3 ] && grep -q '^passdb: ReadFault (3): .*Bad file descriptor' "$work/told"
+}
+holds a_closed_standard_input_is_no_empty_one closed_input
 few_descriptors() {
     # shellcheck disable=SC2016
     setsid -w sh -c 'ulimit -S -n 12 && exec sh "$@"' sh "$PASSDB" list "$file" </dev/null >"$work/said" 2>"$work/told" && grep -qx gil "$work/said"

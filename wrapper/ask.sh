@@ -135,11 +135,12 @@ run() {
     pkcs12_child=
 }
 
-# A program in the background has no standard input but what it is given.
+# A program in the background has no standard input but what it is given. In place of a closed one it is given one that cannot be
+# read, and not one that is empty.
 if (: 7<&0) 2>/dev/null; then
     exec 7<&0
 else
-    exec 7</dev/null
+    exec 7>/dev/null
 fi
 case ${1-} in
     rekey) pkcs12_new_question="New password of the store" ;;
