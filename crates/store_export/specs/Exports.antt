@@ -1,29 +1,99 @@
--- What export writes of a store.
-use Rattle.std.specs.Prelude.{ℕ, ◌≤◌, ◌≡◌, ◌⊎◌, ◌*◌, List, [], Bool, Option, None, true, length, IfSome, IfNone, IsTrue}
+-- What export makes of a store, and when it makes nothing.
+use Rattle.std.specs.Prelude.{ℕ, ◌≤◌, ◌<◌, ◌≡◌, ◌⊎◌, ◌+◌, ◌*◌, ◌≢◌, List, [], Option, None, true, length, IfSome, IfNone, IsSome, IsTrue, IsFalse}
 use Rattle.p12.specs.declared.safe_bag.SafeBag.{SafeBag}
+use Rattle.store_export.specs.declared.export.Export.{Export}
 use Rattle.store_export.specs.declared.target.Part.{Part}
-use Rattle.store_export.specs.declared.target.Part.TheVariants.{Certificates}
+use Rattle.store_export.specs.declared.target.Part.TheVariants.{Whole, Keys, Certificates}
+use Rattle.store_opening.specs.declared.ending.Ending.{Ending}
+use Rattle.store_opening.specs.declared.ending.Ending.TheVariants.{Memory, NewPasswordMissing, NotExported, TooManyFiles, SealLimit, Refused}
+use Rattle.store_opening.specs.Ending.{FailsToOpen}
 use Rattle.transfer.specs.Opening.{all_certificates}
 use Rattle.transfer.specs.Sealing.{SealsAll}
 use Rattle.transfer.specs.Verdicts.{StoreOpens}
+use Rattle.transfer.specs.declared.store.error.TransferError.TheVariants.{Rng}
 use Rattle.store_inspection.specs.Others.{has_others}
 
--- The store opens under its password within the limit, and has no other bags unless these are
--- skipped. Its certificates are written in order, and under a new password the keys that are
--- written are sealed in so many rounds, within the limit of these; without one no key is.
-pub record Exports (rounds : ℕ) (part : Part) (new_password : Option (List ℕ)) (allow_empty : Bool)
-    (seal_limit : ℕ) (skips : Bool) (limit : ℕ) (store password : List ℕ)
+-- how many of so many certificates are in this part of the store
+unfoldable pub certificates_in : Part → ℕ → ℕ
+certificates_in Whole all = all
+certificates_in Keys all = 0
+certificates_in Certificates all = all
+
+-- which of these private keys are in this part of the store
+unfoldable pub keys_in : Part → List (List ℕ) → List (List ℕ)
+keys_in Whole all = all
+keys_in Keys all = all
+keys_in Certificates all = []
+
+-- ---- The bounds, in the order in which they are looked at. `certificates` is how many the store
+-- has, and `keys` how many are in the part of it that is asked for.
+
+abbrev pub AreOthersAllowed : Export → List (List SafeBag) → Type 0
+AreOthersAllowed asked contents = has_others contents ≡ true → IsTrue asked.bounds.skip_others
+
+abbrev pub AreFilesAllowed : Export → ℕ → ℕ → Type 0
+AreFilesAllowed asked certificates keys =
+    certificates_in asked.target.part certificates + keys ≤ asked.bounds.most_files
+
+abbrev pub AreRoundsAllowed : Export → ℕ → Type 0
+AreRoundsAllowed asked keys = keys * asked.rounds ≤ asked.bounds.seal_limit
+
+-- The store is outside the bounds, and fails by the first of them that it is outside of, or out of
+-- memory.
+abbrev pub IsOutside : Export → List (List SafeBag) → ℕ → ℕ → Ending → Type 0
+IsOutside asked contents certificates keys ending = (ending ≡ Memory)
+    ⊎ ((ending ≡ NotExported) × (has_others contents ≡ true) × IsFalse asked.bounds.skip_others)
+    ⊎ ((ending ≡ TooManyFiles) × AreOthersAllowed asked contents
+    × (asked.bounds.most_files < certificates_in asked.target.part certificates + keys))
+    ⊎ ((ending ≡ SealLimit) × AreOthersAllowed asked contents
+    × AreFilesAllowed asked certificates keys
+    × (asked.bounds.seal_limit < keys * asked.rounds))
+
+-- ---- What is made
+
+-- The store opens under its password within the limit, and the part of it that is asked for is
+-- within the bounds. What is made are the store's certificates, in order, and under a new password a
+-- document for each private key of the part, sealed in so many rounds. Without one there is no key.
+pub record Exports (asked : Export) (new_password : Option (List ℕ)) (store password : List ℕ)
     (certificates documents : List (List ℕ)) : Type 0 where
   pub contents : List (List SafeBag)
-  pub keys : List (List ℕ)
+  pub all_keys : List (List ℕ)
   pub work : ℕ
-  pub opens : StoreOpens store password contents keys work
-  pub within : work ≤ limit
-  pub others : has_others contents ≡ true → IsTrue skips
+  pub opens : StoreOpens store password contents all_keys work
+  pub within : work ≤ asked.limit
   pub in_order : certificates ≡ all_certificates contents
-  pub written : List (List ℕ)
-  pub whole : (written ≡ keys) ⊎ ((part ≡ Certificates) × (written ≡ []))
-  pub bounded : length written * rounds ≤ seal_limit
-  pub not_empty : IfSome new_password (λ q. length q ≡ 0 → IsTrue allow_empty)
-  pub sealed : IfSome new_password (λ q. SealsAll rounds q None None written documents)
-  pub keyless : IfNone new_password ((written ≡ []) × (documents ≡ []))
+  pub keys : List (List ℕ)
+  pub part : keys ≡ keys_in asked.target.part all_keys
+  pub others : AreOthersAllowed asked contents
+  pub files : AreFilesAllowed asked (length certificates) (length keys)
+  pub rounds : AreRoundsAllowed asked (length keys)
+  pub not_empty : IfSome new_password (λ q. length q ≡ 0 → IsTrue asked.allow_empty)
+  pub sealed : IfSome new_password (λ q. SealsAll asked.rounds q None None keys documents)
+  pub keyless : IfNone new_password ((keys ≡ []) × (documents ≡ []))
+
+-- ---- Where nothing is made
+
+-- There is no new password for these private keys, or there are no random octets, or no memory.
+abbrev pub FailsToSeal : Option (List ℕ) → List (List ℕ) → Ending → Type 0
+FailsToSeal new_password keys ending = (ending ≡ Memory)
+    ⊎ ((ending ≡ NewPasswordMissing) × (new_password ≡ None) × (keys ≢ []))
+    ⊎ ((ending ≡ Refused Rng) × IsSome new_password)
+
+-- The store opens within the limit, and the part that is asked for is outside the bounds or is not
+-- sealed.
+pub record FailsOpened (asked : Export) (new_password : Option (List ℕ)) (store password : List ℕ)
+    (ending : Ending) : Type 0 where
+  pub contents : List (List SafeBag)
+  pub all_keys : List (List ℕ)
+  pub work : ℕ
+  pub opens : StoreOpens store password contents all_keys work
+  pub within : work ≤ asked.limit
+  pub keys : List (List ℕ)
+  pub part : keys ≡ keys_in asked.target.part all_keys
+  pub fails : IsOutside asked contents (length (all_certificates contents)) (length keys) ending
+      ⊎ FailsToSeal new_password keys ending
+
+abbrev pub FailsToExport : Export → Option (List ℕ) → List ℕ → List ℕ → Ending → Type 0
+FailsToExport asked new_password store password ending =
+    FailsToOpen store password asked.limit ending
+    ⊎ FailsOpened asked new_password store password ending

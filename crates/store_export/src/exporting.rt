@@ -1,10 +1,9 @@
 //! What is exported of a store: reading the new password, the bounds, and the sealing.
-ghost use Rattle.std.specs.Prelude.{◌≡◌, ◌≢◌, ◌≤◌, ◌+◌, ◌*◌, ◌↔◌, ◌⊎◌, [], length, IfOk, IfSome, IfNone, OnOk, IsTrue, None, true};
+ghost use Rattle.std.specs.Prelude.{◌≡◌, ◌≤◌, ◌*◌, ◌↔◌, ◌⊎◌, [], length, IfOk, IfErr, IfSome, IfNone, OnOk, IsTrue, None};
 ghost use Rattle.std.specs.Option.{ForSome};
 ghost use Rattle.transfer.specs.Opening.{all_certificates};
 ghost use Rattle.transfer.specs.Transferred.{SealsOpened};
-ghost use Rattle.store_export.specs.Exports.{Exports};
-ghost use Rattle.store_inspection.specs.Others.{has_others};
+ghost use Rattle.store_export.specs.Exports.{AreFilesAllowed, AreOthersAllowed, AreRoundsAllowed, Exports, FailsToExport, FailsToSeal, IsOutside, certificates_in, keys_in};
 
 use crate::export::Export;
 use crate::sealing::{certificates_alone, sealed_store};
@@ -65,7 +64,9 @@ pub fn new_password<R: Files + Env + Input + AllocGlobal>(
 }
 
 /// The failure of a store that has more than is exported.
-fn has_more(alloc: Global, found: &Listing) -> Failure {
+fn has_more(alloc: Global, found: &Listing) -> Failure
+    ensures { (result.ending ≡ Ending.NotExported) ⊎ (result.ending ≡ Ending.Memory) }
+{
     Failure::told(
         Ending::NotExported,
         not_exported(alloc, found.others.as_slice()),
@@ -73,7 +74,9 @@ fn has_more(alloc: Global, found: &Listing) -> Failure {
 }
 
 /// The failure of a store with too many certificates and private keys.
-fn too_many_files(alloc: Global, certificates: usize, keys: usize, most: u64) -> Failure {
+fn too_many_files(alloc: Global, certificates: usize, keys: usize, most: u64) -> Failure
+    ensures { (result.ending ≡ Ending.TooManyFiles) ⊎ (result.ending ≡ Ending.Memory) }
+{
     let certificates = Counted(certificates, "certificate");
     let keys = Counted(keys, "private key");
     let text = format!(in alloc;
@@ -90,7 +93,9 @@ fn is_within(keys: usize, rounds: u32, limit: u64) -> bool
 }
 
 /// The failure of private keys that take too many rounds.
-fn too_many_rounds(alloc: Global, keys: usize, rounds: u32, limit: u64) -> Failure {
+fn too_many_rounds(alloc: Global, keys: usize, rounds: u32, limit: u64) -> Failure
+    ensures { (result.ending ≡ Ending.SealLimit) ⊎ (result.ending ≡ Ending.Memory) }
+{
     let all = (keys as u128).saturating_mul(u128::from(rounds));
     let time = sealing_time(keys, rounds);
     let keys = Counted(keys, "private key");
@@ -101,38 +106,39 @@ fn too_many_rounds(alloc: Global, keys: usize, rounds: u32, limit: u64) -> Failu
     Failure::told(Ending::SealLimit, text)
 }
 
-/// How many certificates are written where this part of the store is.
-fn written_certificates(found: &Listing, part: Part) -> usize
-    ensures all { part ≢ Part.Keys → result ≡ length found.now.certificates }
+/// How many of so many certificates are in this part of the store.
+#[tactic(auto, unfolding(crate::specs::Exports::certificates_in))]
+fn certificates_in(part: Part, all: usize) -> usize
+    ensures { result ≡ certificates_in part all }
 {
     match part {
         Part::Keys => 0,
-        Part::Whole | Part::Certificates => found.certificates.len(),
+        Part::Whole | Part::Certificates => all,
     }
 }
 
-/// That a store is exported within these bounds: it has no other bags, unless these are skipped; so
-/// many certificates and its private keys are not too many files; and the keys do not take too many
-/// rounds.
+/// That a store is exported within these bounds: it has no other bags, unless these are skipped; the
+/// certificates and private keys that are asked for are not too many files; and these keys do not
+/// take too many rounds. The failure is that of the first bound that it is outside of.
 fn within_bounds(
     alloc: Global,
     asked: &Export<'_>,
     opened: &Opened,
     found: &Listing,
 ) -> Result<(), Failure>
-    ensures others { OnOk result (has_others opened.now.contents ≡ true
-        → IsTrue asked.now.bounds.skip_others) }
-    ensures files { OnOk result (asked.now.target.part ≢ Part.Keys
-        → length found.now.certificates + length opened.now.keys ≤ asked.now.bounds.most_files) }
-    ensures rounds { OnOk result
-        (length opened.now.keys * asked.now.rounds ≤ asked.now.bounds.seal_limit) }
+    ensures others { OnOk result (AreOthersAllowed asked.now opened.now.contents) }
+    ensures files { OnOk result (AreFilesAllowed asked.now (length found.now.certificates)
+        (length opened.now.keys)) }
+    ensures rounds { OnOk result (AreRoundsAllowed asked.now (length opened.now.keys)) }
+    ensures err { IfErr result (λ f. IsOutside asked.now opened.now.contents
+        (length found.now.certificates) (length opened.now.keys) f.ending) }
 {
     let bounds = asked.bounds;
     if has_others(opened.contents.as_slice()) && !bounds.skip_others {
         return Err(has_more(alloc, found));
     }
     let keys = opened.keys.len();
-    let certificates = written_certificates(found, asked.target.part);
+    let certificates = certificates_in(asked.target.part, found.certificates.len());
     if certificates as u128 + keys as u128 > u128::from(bounds.most_files) {
         return Err(too_many_files(alloc, certificates, keys, bounds.most_files));
     }
@@ -155,15 +161,15 @@ fn without_keys(alloc: Global, opened: Opened) -> Opened
 }
 
 /// The opened store as far as it is written: where the certificates alone are, without its keys.
+#[tactic(auto, unfolding(crate::specs::Exports::keys_in))]
 fn part_of(alloc: Global, opened: Opened, part: Part) -> Opened
     ensures contents { result.contents ≡ opened.contents }
-    ensures keys { (result.keys ≡ opened.keys)
-        ⊎ ((part ≡ Part.Certificates) × (result.keys ≡ [])) }
+    ensures keys { result.keys ≡ keys_in part opened.keys }
 {
-    if let Part::Certificates = part {
-        return without_keys(alloc, opened);
+    match part {
+        Part::Certificates => without_keys(alloc, opened),
+        Part::Whole | Part::Keys => opened,
     }
-    opened
 }
 
 /// What is written of an opened store: its keys sealed under the new password, in the rounds that
@@ -181,6 +187,7 @@ fn sealed_anew<R: Files + Eprint + AllocGlobal + Drop>(
     ensures keyless { IfOk result (λ t. IfNone new_password.now
         ((opened.now.keys ≡ []) × (t.documents ≡ [])
         × (t.certificates ≡ all_certificates opened.now.contents))) }
+    ensures err { IfErr result (λ f. FailsToSeal new_password.now opened.now.keys f.ending) }
 {
     match new_password {
         Some(new_password) => {
@@ -201,8 +208,8 @@ pub struct Exported {
 /// Opens a store and seals its private keys, over the system's random octets; both as far as they are asked for.
 ///
 /// `Refused` where the store is refused within `asked.limit`, or there are no random octets. `NotExported`, `TooManyFiles` or `SealLimit`
-/// where it is not within the bounds, in this order, and `NewPasswordMissing` where it has private keys to seal and there is no new
-/// password. Nothing is sealed in these cases.
+/// where it is not within the bounds, in this order, and then `NewPasswordMissing` where it has private keys to seal and there is no new
+/// password. Nothing is sealed in these cases. `Memory` may come in the place of each.
 pub fn open_and_seal<R: Files + Eprint + AllocGlobal + Drop>(
     rt: &R,
     around: Surroundings,
@@ -211,10 +218,10 @@ pub fn open_and_seal<R: Files + Eprint + AllocGlobal + Drop>(
     new_password: &Option<NewPassword>,
 ) -> Result<Exported, Failure>
     requires { ForSome new_password.now (λ q. length q ≡ 0 → IsTrue asked.now.allow_empty) }
-    ensures { IfOk result (λ e. Exports asked.now.rounds asked.now.target.part new_password.now
-        asked.now.allow_empty asked.now.bounds.seal_limit asked.now.bounds.skip_others
-        asked.now.limit given.now.store.items given.now.password
-        e.transferred.certificates e.transferred.documents) }
+    ensures ok { IfOk result (λ e. Exports asked.now new_password.now given.now.store.items
+        given.now.password e.transferred.certificates e.transferred.documents) }
+    ensures err { IfErr result (λ f. FailsToExport asked.now new_password.now
+        given.now.store.items given.now.password f.ending) }
 {
     let opened = opened(rt.alloc(), given, asked.limit)?;
     let found = Listing::of(rt.alloc(), opened.contents.as_slice())?;

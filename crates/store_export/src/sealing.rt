@@ -1,5 +1,5 @@
 //! The sealing of the private keys of an opened store.
-ghost use Rattle.std.specs.Prelude.{◌≡◌, ◌≤◌, [], IfOk, None};
+ghost use Rattle.std.specs.Prelude.{◌≡◌, ◌≢◌, ◌⊎◌, ◌≤◌, [], IfOk, IfErr, None};
 ghost use Rattle.transfer.specs.Opening.{all_certificates};
 ghost use Rattle.transfer.specs.Transferred.{SealsOpened};
 
@@ -29,8 +29,10 @@ pub fn sealed_store<R: Files + Eprint + AllocGlobal + Drop>(
     is_shown: bool,
 ) -> Result<Transferred, Failure>
     requires { (1 ≤ rounds) × (rounds ≤ 100000000) }
-    ensures { IfOk result (λ t. SealsOpened rounds new_password.now None None opened.now.contents
-        opened.now.keys t.certificates t.documents) }
+    ensures ok { IfOk result (λ t. SealsOpened rounds new_password.now None None
+        opened.now.contents opened.now.keys t.certificates t.documents) }
+    ensures err { IfErr result (λ f. (f.ending ≡ Ending.Memory)
+        ⊎ (f.ending ≡ Ending.Refused TransferError.Rng)) }
 {
     let random = match fs::open(rt, RANDOM) {
         Ok(random) => random,
@@ -66,6 +68,8 @@ pub fn certificates_alone(alloc: Global, opened: &Opened) -> Result<Transferred,
     ensures certificates { IfOk result
         (λ t. t.certificates ≡ all_certificates opened.now.contents) }
     ensures documents { IfOk result (λ t. t.documents ≡ []) }
+    ensures err { IfErr result (λ f. (f.ending ≡ Ending.Memory)
+        ⊎ ((f.ending ≡ Ending.NewPasswordMissing) × (opened.now.keys ≢ []))) }
 {
     if !opened.keys.is_empty() {
         return Err(Failure::new(

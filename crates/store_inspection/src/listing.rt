@@ -1,9 +1,12 @@
 //! The certificates and private keys of a store by what their attributes say of them, and the bags
 //! that are not exported.
-ghost use Rattle.std.specs.Prelude.{◌≡◌, ℕ, List, IfOk, OnOk, map, option_map, option_and_then, position};
+ghost use Rattle.std.specs.Prelude.{◌≡◌, ◌+◌, ℕ, List, IfOk, OnOk, length, map, option_map, option_and_then, position};
 ghost use Rattle.std.specs.BTreeMap as tree;
+ghost use Rattle.std.specs.List.{flat_map};
 ghost use Rattle.std.specs.Cmp.Lexicographic.{slice_cmp};
 ghost use Rattle.std.specs.Ordering.{nat_cmp};
+ghost use Rattle.p12.specs.Collected.{at_most_one, certificates_among};
+ghost use Rattle.p12.specs.SafeBag.{x509_of};
 ghost use Rattle.store_inspection.specs.Pairs.{first_of, has_key_id, pair_of};
 
 use crate::certificate_shape::has_certificate_shape;
@@ -112,34 +115,46 @@ pub struct Listing {
 }
 
 impl Listing {
-    /// What is in the bags of an opened store.
-    pub fn of(alloc: Global, contents: &[Items<SafeBag>]) -> Result<Listing, AllocError> {
+    /// What is in the bags of an opened store: a label for each of its X.509 certificates and
+    /// encrypted private keys.
+    pub fn of(alloc: Global, contents: &[Items<SafeBag>]) -> Result<Listing, AllocError>
+        ensures { IfOk result
+            (λ l. length l.certificates ≡ length (flat_map certificates_among contents.now)) }
+    {
         let mut found = Listing {
             certificates: Items::new(alloc),
             keys: Items::new(alloc),
             others: Items::new(alloc),
         };
         for bags in contents {
-            for bag in bags.as_slice() {
-                found.add(alloc, bag)?;
-            }
+            found.add_all(alloc, bags.as_slice())?;
         }
         Ok(found)
     }
 
+    /// Adds these bags.
+    fn add_all(&mut self, alloc: Global, bags: &[SafeBag]) -> Result<(), AllocError>
+        ensures { OnOk result (length self.new.certificates
+            ≡ length self.old.certificates + length (certificates_among bags.now)) }
+    {
+        for bag in bags {
+            self.add(alloc, bag)?;
+        }
+        Ok(())
+    }
+
     /// Adds a bag.
-    fn add(&mut self, alloc: Global, bag: &SafeBag) -> Result<(), AllocError> {
-        match OtherBag::of(&bag.bag) {
-            Some(kind) => self.others.push(kind)?,
-            None => {
-                let label = Label::of(alloc, bag)?;
-                match &bag.bag {
-                    SafeBagKind::Pkcs8ShroudedKeyBag(_) => self.keys.push(label)?,
-                    SafeBagKind::CertBag(_) | SafeBagKind::OtherBagKind(_) => {
-                        self.certificates.push(label)?
-                    }
-                }
+    fn add(&mut self, alloc: Global, bag: &SafeBag) -> Result<(), AllocError>
+        ensures { OnOk result (length self.new.certificates
+            ≡ length self.old.certificates + length (at_most_one (x509_of bag.now.bag))) }
+    {
+        match &bag.bag {
+            SafeBagKind::CertBag(CertBag::X509(_)) => {
+                self.certificates.push(Label::of(alloc, bag)?)?;
             }
+            SafeBagKind::Pkcs8ShroudedKeyBag(_) => self.keys.push(Label::of(alloc, bag)?)?,
+            SafeBagKind::CertBag(CertBag::SDSI(_)) => self.others.push(OtherBag::SdsiCertificate)?,
+            SafeBagKind::OtherBagKind(other) => self.others.push(OtherBag::of(other.bag_id))?,
         }
         Ok(())
     }

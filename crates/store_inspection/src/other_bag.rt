@@ -1,6 +1,5 @@
 //! Bags that are not exported.
 use asn1_core::ObjectIdentifier;
-use p12::{CertBag, SafeBagKind};
 use std::fmt;
 
 /// The arcs that the kinds of bags have in common (RFC 7292 appendix D: 1.2.840.113549.1.12.10.1),
@@ -25,7 +24,7 @@ pub enum OtherBag {
 
 impl OtherBag {
     /// The kind of a bag by its identifier.
-    fn of_identifier(identifier: ObjectIdentifier) -> OtherBag {
+    pub fn of(identifier: ObjectIdentifier) -> OtherBag {
         let [front @ .., kind] = identifier.as_bytes() else {
             return OtherBag::Unnamed(identifier);
         };
@@ -38,15 +37,6 @@ impl OtherBag {
             5 => OtherBag::Secret,
             6 => OtherBag::Nested,
             _ => OtherBag::Unnamed(identifier),
-        }
-    }
-
-    /// None for an X.509 certificate and an encrypted private key.
-    pub fn of(bag: &SafeBagKind) -> Option<OtherBag> {
-        match bag {
-            SafeBagKind::CertBag(CertBag::X509(_)) | SafeBagKind::Pkcs8ShroudedKeyBag(_) => None,
-            SafeBagKind::CertBag(CertBag::SDSI(_)) => Some(OtherBag::SdsiCertificate),
-            SafeBagKind::OtherBagKind(other) => Some(OtherBag::of_identifier(other.bag_id)),
         }
     }
 }

@@ -1,5 +1,5 @@
 //! Why the command ends without having done what was asked.
-ghost use Rattle.std.specs.Prelude.{◌≡◌, IsErr, IsOk};
+ghost use Rattle.std.specs.Prelude.{◌≡◌, ◌⊎◌, IsErr, IsOk};
 ghost use Rattle.store_opening.specs.declared.ending.Ending.TheVariants.{Memory};
 ghost use Rattle.store_opening.specs.Ending.{code_of, ending_of};
 
@@ -95,6 +95,7 @@ pub struct Failure {
 }
 
 impl Failure {
+    /// The failure of this kind, with this text.
     pub fn new(ending: Ending, text: &'static str) -> Failure
         ensures { result.ending ≡ ending }
     {
@@ -105,6 +106,7 @@ impl Failure {
         }
     }
 
+    /// The failure of this kind, with a text that was made for it.
     pub fn with(ending: Ending, text: String) -> Failure
         ensures { result.ending ≡ ending }
     {
@@ -140,10 +142,11 @@ impl Failure {
         }
     }
 
-    /// The failure with a text that was made for it; `Memory` where there was none for the text.
+    /// The same where there was memory for the text, and `Memory` where there was not.
     pub fn told(ending: Ending, text: Result<String, AllocError>) -> Failure
         ensures made { IsOk text → result.ending ≡ ending }
         ensures refused { IsErr text → result.ending ≡ Memory }
+        ensures kind { (result.ending ≡ ending) ⊎ (result.ending ≡ Memory) }
     {
         match text {
             Ok(text) => Failure::with(ending, text),
@@ -151,15 +154,11 @@ impl Failure {
         }
     }
 
-    /// The failure of a call on the system that reads, for this purpose and at this path, with advice
-    /// by its cause.
-    pub fn io(
-        alloc: Global,
-        ending: Ending,
-        purpose: &str,
-        path: &str,
-        error: io::Error,
-    ) -> Failure {
+    /// The failure of a call on the system, for this purpose and at this path: of this kind, or
+    /// `Memory`. A `ReadFault` has advice by its cause.
+    pub fn io(alloc: Global, ending: Ending, purpose: &str, path: &str, error: io::Error) -> Failure
+        ensures { (result.ending ≡ ending) ⊎ (result.ending ≡ Memory) }
+    {
         if error.kind() == io::ErrorKind::OutOfMemory {
             return Failure::from(AllocError);
         }

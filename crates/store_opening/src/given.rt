@@ -1,5 +1,6 @@
 //! The store and its password, as they are read.
-ghost use Rattle.std.specs.Prelude.{◌≤◌, ℕ, IfOk};
+ghost use Rattle.std.specs.Prelude.{◌≤◌, ℕ, IfOk, IfErr};
+ghost use Rattle.store_opening.specs.Ending.{FailsToOpen};
 ghost use Rattle.transfer.specs.Verdicts.{StoreOpens};
 
 use crate::ending::{Ending, Failure};
@@ -109,10 +110,12 @@ pub fn read_given<R: Files + Env + Input + AllocGlobal>(
     Ok(Given { store, password })
 }
 
-/// Opens a store within the limit, in steps. `Refused` where `open_store` refuses it, with what more there is to say of that.
+/// Opens a store within the limit, in steps, as `opened_store` does. A refusal has what more there is to say of it.
 pub fn opened(alloc: Global, given: &Given, limit: u64) -> Result<Opened, Failure>
-    ensures { IfOk result (λ o. (n : ℕ)
+    ensures ok { IfOk result (λ o. (n : ℕ)
         × StoreOpens given.now.store.items given.now.password o.contents o.keys n × (n ≤ limit)) }
+    ensures err { IfErr result
+        (λ f. FailsToOpen given.now.store.items given.now.password limit f.ending) }
 {
     let store = given.store.as_slice();
     match opened_store(alloc, store, &given.password, limit) {

@@ -1,4 +1,6 @@
 //! The files and streams that are read, which may be one and the same.
+ghost use Rattle.std.specs.Prelude.{◌≡◌, IfErr};
+
 use crate::ending::{Ending, Failure};
 use command_base::{Origin, STANDARD_INPUT};
 use std::fs;
@@ -57,7 +59,9 @@ pub fn inputs_differ<R: Files>(
     store: &str,
     password: Option<Origin<'_>>,
     new_password: Option<Origin<'_>>,
-) -> Result<(), Failure> {
+) -> Result<(), Failure>
+    ensures { IfErr result (λ f. f.ending ≡ Ending.Usage) }
+{
     if is_in_store(rt, store, password) || is_in_store(rt, store, new_password) {
         return Err(Failure::new(
             Ending::Usage,
@@ -83,7 +87,9 @@ pub fn output_differs<R: Files>(
     out: &str,
     password: Option<Origin<'_>>,
     new_password: Option<Origin<'_>>,
-) -> Result<(), Failure> {
+) -> Result<(), Failure>
+    ensures { IfErr result (λ f. f.ending ≡ Ending.Usage) }
+{
     if is_in_store(rt, out, password) || is_in_store(rt, out, new_password) {
         return Err(Failure::new(
             Ending::Usage,

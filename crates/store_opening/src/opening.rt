@@ -1,7 +1,7 @@
 //! Opening a store.
-ghost use Rattle.std.specs.Prelude.{◌≡◌, ◌<◌, ◌≤◌, ℕ, IfOk};
+ghost use Rattle.std.specs.Prelude.{◌≡◌, ◌⊎◌, ◌<◌, ◌≤◌, ℕ, IfOk, IfErr};
 ghost use Rattle.frame.specs.Status.{status_code};
-ghost use Rattle.store_opening.specs.Ending.{code_of};
+ghost use Rattle.store_opening.specs.Ending.{FailsToOpen, IsRefusedBy, code_of, ending_of_refusal};
 ghost use Rattle.transfer.specs.Status.{status_of};
 ghost use Rattle.transfer.specs.Verdicts.{StoreOpens};
 
@@ -36,7 +36,9 @@ fn store_octets<R: Files + Input + AllocGlobal>(rt: &R, store: &str) -> io::Resu
 }
 
 /// The same; `ReadFault` where they cannot be read.
-pub fn read_store<R: Files + Input + AllocGlobal>(rt: &R, store: &str) -> Result<Vec<u8>, Failure> {
+pub fn read_store<R: Files + Input + AllocGlobal>(rt: &R, store: &str) -> Result<Vec<u8>, Failure>
+    ensures { IfErr result (λ f. (f.ending ≡ Ending.ReadFault) ⊎ (f.ending ≡ Ending.Memory)) }
+{
     match store_octets(rt, store) {
         Ok(octets) => Ok(octets),
         Err(error) => Err(Failure::io(rt.alloc(), Ending::ReadFault, "the store", store, error)),
@@ -46,7 +48,8 @@ pub fn read_store<R: Files + Input + AllocGlobal>(rt: &R, store: &str) -> Result
 /// The failure that a refusal is: its exit number is the one of the refusal's status, and its message says what it means.
 #[tactic(auto, unfolding(crate::specs::Ending::code_of))]
 pub fn refused(refusal: TransferError) -> Failure
-    ensures { code_of result.ending ≡ status_code (status_of refusal) }
+    ensures kind { result.ending ≡ ending_of_refusal refusal }
+    ensures code { code_of result.ending ≡ status_code (status_of refusal) }
 {
     match refusal {
         TransferError::Memory => Failure::new(Ending::Memory, "there was not enough memory"),
@@ -65,22 +68,26 @@ fn open_from<L: Ledger>(
     requires name { blank.name ≡ L.name }
     requires parts { blank.parts ≡ L.parts }
     requires some { 0 < blank.parts }
-    ensures { IfOk result (λ o. (n : ℕ)
+    ensures ok { IfOk result (λ o. (n : ℕ)
         × StoreOpens store.now password.now o.contents o.keys n × (n ≤ limit)) }
+    ensures err { IfErr result (IsRefusedBy store.now password.now limit) }
 {
     let mut steps = Steps::<L>::open(blank);
     open_store(alloc, store, password.as_str(), limit, &mut steps)
 }
 
-/// Opens a store under its password within the limit, in steps, by a step counter of its own. `Refused` where `open_store` refuses it.
+/// Opens a store under its password within the limit, in steps, by a step counter of its own. Where the store is refused, by the first
+/// cause that `open_store` names, the failure is that refusal; out of memory may come in its place.
+#[tactic(auto, using(crate::proofs::Refusals::fails_to_open))]
 pub fn opened_store(
     alloc: Global,
     store: &[u8],
     password: &Password,
     limit: u64,
 ) -> Result<Opened, Failure>
-    ensures { IfOk result (λ o. (n : ℕ)
+    ensures ok { IfOk result (λ o. (n : ℕ)
         × StoreOpens store.now password.now o.contents o.keys n × (n ≤ limit)) }
+    ensures err { IfErr result (λ f. FailsToOpen store.now password.now limit f.ending) }
 {
     match open_from::<Brand>(alloc, store, password, limit, Blank::new(1)) {
         Ok(opened) => Ok(opened),

@@ -1,5 +1,6 @@
 //! Passwords of stores and of private keys.
 ghost use Rattle.std.specs.Prelude.{◌≡◌, ◌≤◌, ◌<◌, IfOk, IfErr, IsOk, IsTrue, length};
+ghost use Rattle.store_opening.specs.Ending.{IsOfPassword};
 
 use crate::ending::{Ending, Failure};
 use crate::read_advice::read_advice;
@@ -21,7 +22,9 @@ fn not_had(
     purpose: &'static str,
     origin: Origin<'_>,
     error: PasswordError,
-) -> Failure {
+) -> Failure
+    ensures { IsOfPassword result.ending }
+{
     let text = error.text(alloc, purpose, origin);
     match &error {
         PasswordError::TooLong | PasswordError::NotUtf8 => {
@@ -43,7 +46,9 @@ pub fn read_password<R: Files + Env + Input + AllocGlobal>(
     rt: &R,
     purpose: &'static str,
     origin: Origin<'_>,
-) -> Result<Password, Failure> {
+) -> Result<Password, Failure>
+    ensures { IfErr result (λ f. IsOfPassword f.ending) }
+{
     match origin.read(rt) {
         Ok(password) => Ok(password),
         Err(error) => Err(not_had(rt.alloc(), purpose, origin, error)),
@@ -51,7 +56,9 @@ pub fn read_password<R: Files + Env + Input + AllocGlobal>(
 }
 
 /// `PasswordUnusable` where a new password has a NUL, which few programs take.
-pub fn without_nul(password: &Password) -> Result<(), Failure> {
+pub fn without_nul(password: &Password) -> Result<(), Failure>
+    ensures { IfErr result (λ f. f.ending ≡ Ending.PasswordUnusable) }
+{
     if password.as_str().as_bytes().contains(&0) {
         return Err(Failure::new(
             Ending::PasswordUnusable,
