@@ -1,5 +1,8 @@
 //! The subcommand `check`: opens a store, and says what is in it.
 use crate::reading::Reading;
+use asn1_core::Items;
+use p12::SafeBag;
+use std::alloc::{AllocError, Global};
 use std::rt::Runtime;
 use store_inspection::{Listing, json, summary};
 use store_opening::{Failure, Surroundings, printed};
@@ -8,6 +11,20 @@ pub const NAME: &str = "check";
 
 pub const ABOUT: &str = "Open the store, write nothing, and say what is in it";
 
+/// What is said of these contents.
+fn described(
+    alloc: Global,
+    contents: &[Items<SafeBag>],
+    in_json: bool,
+) -> Result<String, AllocError> {
+    let found = Listing::of(alloc, contents)?;
+    if in_json {
+        json(alloc, &found)
+    } else {
+        summary(alloc, &found)
+    }
+}
+
 /// Opens the store, and prints what is in it.
 pub fn run_check<R: Runtime + AllocGlobal>(
     rt: &R,
@@ -15,11 +32,6 @@ pub fn run_check<R: Runtime + AllocGlobal>(
     asked: &Reading<'_>,
 ) -> Result<(), Failure> {
     let opened = asked.opened(rt, around)?;
-    let found = Listing::of(rt.alloc(), opened.contents.as_slice())?;
-    let text = if asked.in_json {
-        json(rt.alloc(), &found)?
-    } else {
-        summary(rt.alloc(), &found)?
-    };
+    let text = described(rt.alloc(), opened.contents.as_slice(), asked.in_json)?;
     printed(rt.alloc(), rt.print(text.as_str()))
 }

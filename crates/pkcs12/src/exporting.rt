@@ -53,8 +53,8 @@ fn fill<R: Files + AllocGlobal>(
     output.end(rt)
 }
 
-/// Writes what is exported into the folder.
-fn write<R: Files + Eprint + AllocGlobal + Clone + Drop>(
+/// Makes the folder with its files.
+fn make<R: Files + Eprint + AllocGlobal + Clone + Drop>(
     rt: &R,
     folder: &Folder<'_>,
     asked: &Export<'_>,
@@ -71,13 +71,24 @@ fn write<R: Files + Eprint + AllocGlobal + Clone + Drop>(
     Ok(folder.finish(rt, part.as_str(), filled)?)
 }
 
-/// Writes what a store has into the folder that is asked for.
-pub fn run_export<R: Runtime + AllocGlobal>(
+/// Writes what is exported into the folder, with the chains that are asked for.
+fn write<R: Files + Eprint + AllocGlobal + Clone + Drop>(
+    rt: &R,
+    folder: &Folder<'_>,
+    asked: &Export<'_>,
+    exported: &Exported,
+) -> Result<(), Failure> {
+    let chains = chains_of(rt.alloc(), asked, exported)?;
+    make(rt, folder, asked, exported, chains.as_slice())?;
+    warn_of_chains(rt, chains.as_slice())
+}
+
+/// What is exported of the store, which is read with its passwords.
+fn exported<R: Runtime + AllocGlobal>(
     rt: &R,
     around: Surroundings,
     asked: &Export<'_>,
-) -> Result<(), Failure> {
-    let folder = find_folder(rt, around, asked)?;
+) -> Result<Exported, Failure> {
     if needs_new_password(rt, asked) {
         return Err(new_password_missing());
     }
@@ -88,9 +99,17 @@ pub fn run_export<R: Runtime + AllocGlobal>(
         None => None,
     };
     tell_long_work(rt, around, given.store.as_slice(), rounds);
-    let exported = open_and_seal(rt, around, asked, &given, &new_password)?;
-    let chains = chains_of(rt.alloc(), asked, &exported)?;
-    write(rt, &folder, asked, &exported, chains.as_slice())?;
-    warn_of_chains(rt, chains.as_slice())?;
+    open_and_seal(rt, around, asked, &given, &new_password)
+}
+
+/// Writes what a store has into the folder that is asked for, which is looked at before any work is done.
+pub fn run_export<R: Runtime + AllocGlobal>(
+    rt: &R,
+    around: Surroundings,
+    asked: &Export<'_>,
+) -> Result<(), Failure> {
+    let folder = find_folder(rt, around, asked)?;
+    let exported = exported(rt, around, asked)?;
+    write(rt, &folder, asked, &exported)?;
     tell_exported(rt, around, asked, &exported.found)
 }

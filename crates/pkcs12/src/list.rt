@@ -1,6 +1,9 @@
 //! The subcommand `list`: opens a store, and says of each certificate and private key what it is.
 use crate::clock::now_text;
 use crate::reading::Reading;
+use asn1_core::Items;
+use p12::SafeBag;
+use std::alloc::{AllocError, Global};
 use std::rt::Runtime;
 use store_certificates::{listed_json, listed_text, read_certificates};
 use store_inspection::Listing;
@@ -11,6 +14,23 @@ pub const NAME: &str = "list";
 pub const ABOUT: &str =
     "Open the store, write nothing, and say of each certificate and private key what it is";
 
+/// What is said of the certificates and private keys of these contents; `now` is the time.
+fn listed(
+    alloc: Global,
+    contents: &[Items<SafeBag>],
+    in_json: bool,
+    now: Option<&str>,
+) -> Result<String, AllocError> {
+    let labels = Listing::of(alloc, contents)?;
+    let read = read_certificates(alloc, contents)?;
+    let certificates = read.indexed(alloc)?;
+    if in_json {
+        listed_json(alloc, &certificates, &labels, now)
+    } else {
+        listed_text(alloc, &certificates, &labels, now)
+    }
+}
+
 /// Opens the store, and prints what its certificates and private keys are.
 pub fn run_list<R: Runtime + AllocGlobal>(
     rt: &R,
@@ -18,15 +38,8 @@ pub fn run_list<R: Runtime + AllocGlobal>(
     asked: &Reading<'_>,
 ) -> Result<(), Failure> {
     let opened = asked.opened(rt, around)?;
-    let labels = Listing::of(rt.alloc(), opened.contents.as_slice())?;
-    let read = read_certificates(rt.alloc(), opened.contents.as_slice())?;
-    let certificates = read.indexed(rt.alloc())?;
     let now = now_text(rt)?;
     let now = now.as_ref().map(|text| text.as_str());
-    let text = if asked.in_json {
-        listed_json(rt.alloc(), &certificates, &labels, now)?
-    } else {
-        listed_text(rt.alloc(), &certificates, &labels, now)?
-    };
+    let text = listed(rt.alloc(), opened.contents.as_slice(), asked.in_json, now)?;
     printed(rt.alloc(), rt.print(text.as_str()))
 }

@@ -198,6 +198,39 @@ fn tell<R: Eprint + AllocGlobal>(
     }
 }
 
+/// Opens the store, and writes it under the new password into the file. What it has.
+fn rekeyed<R: Runtime + AllocGlobal>(
+    rt: &R,
+    around: Surroundings,
+    asked: &Rekey<'_>,
+    file: &StoreFile<'_>,
+    change: &Change<'_>,
+) -> Result<Listing, Failure> {
+    tell_long_work(rt, around, change.given.store.as_slice(), None);
+    let before = opened(rt.alloc(), change.given, change.limit)?;
+    let found = Listing::of(rt.alloc(), before.contents.as_slice())?;
+    let replaces_store = are_one(rt, path_of_store(asked.store), asked.out);
+    write_changed(rt, file, change, &before, replaces_store)?;
+    Ok(found)
+}
+
+/// The same of the store and the passwords that are read.
+fn rekeyed_as_read<R: Runtime + AllocGlobal>(
+    rt: &R,
+    around: Surroundings,
+    asked: &Rekey<'_>,
+    file: &StoreFile<'_>,
+) -> Result<Listing, Failure> {
+    let given = read_given(rt, asked.store, asked.password, asked.limit)?;
+    let new_password = new_password(rt, asked)?;
+    let change = Change {
+        given: &given,
+        new_password: &new_password,
+        limit: asked.limit,
+    };
+    rekeyed(rt, around, asked, file, &change)
+}
+
 /// Changes the password of a store.
 pub fn run_rekey<R: Runtime + AllocGlobal>(
     rt: &R,
@@ -210,17 +243,6 @@ pub fn run_rekey<R: Runtime + AllocGlobal>(
     if asked.new_password.is_none() && is_not_given_again(rt, asked.store, asked.password) {
         return Err(new_password_missing());
     }
-    let given = read_given(rt, asked.store, asked.password, asked.limit)?;
-    let new_password = new_password(rt, asked)?;
-    tell_long_work(rt, around, given.store.as_slice(), None);
-    let before = opened(rt.alloc(), &given, asked.limit)?;
-    let found = Listing::of(rt.alloc(), before.contents.as_slice())?;
-    let change = Change {
-        given: &given,
-        new_password: &new_password,
-        limit: asked.limit,
-    };
-    let replaces_store = are_one(rt, path_of_store(asked.store), asked.out);
-    write_changed(rt, &file, &change, &before, replaces_store)?;
+    let found = rekeyed_as_read(rt, around, asked, &file)?;
     tell(rt, around, asked, &found)
 }
