@@ -25,7 +25,11 @@ stolen=$(stolen)
 "$work/clone/pkcs12" build 2>&1 | while IFS= read -r line; do
     printf '%s  %s\n' "$(awk -v seconds="$(($(date +%s) - began))" 'BEGIN { printf "%5.1f", seconds / 60 }')" "$line"
 done
-[ -x "$work/clone/crates/pkcs12/out/pkcs12" ]
+if [ ! -x "$work/clone/crates/pkcs12/out/pkcs12" ]; then
+    trap - EXIT
+    echo "The build failed. The clone stays in $work/clone." >&2
+    exit 1
+fi
 if grep -q 'begins with what a check kept' "$work/clone/crates/pkcs12/out/build.log"; then
     echo "This was no first build: rt took over what it had kept of some crates." >&2
 fi
