@@ -11,7 +11,7 @@ pub const NAME: &str = "check";
 
 pub const ABOUT: &str = "Open the store, write nothing, and say what is in it";
 
-/// What is said of these contents.
+/// What `check` says of these contents.
 fn described(
     alloc: Global,
     contents: &[Items<SafeBag>],

@@ -83,7 +83,7 @@ fn write<R: Files + Eprint + AllocGlobal + Clone + Drop>(
     warn_of_chains(rt, chains.as_slice())
 }
 
-/// What is exported of the store, which is read with its passwords.
+/// Reads the store and the passwords, and returns what is exported.
 fn exported<R: Runtime + AllocGlobal>(
     rt: &R,
     around: Surroundings,

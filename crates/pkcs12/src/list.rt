@@ -14,7 +14,7 @@ pub const NAME: &str = "list";
 pub const ABOUT: &str =
     "Open the store, write nothing, and say of each certificate and private key what it is";
 
-/// What is said of the certificates and private keys of these contents; `now` is the time.
+/// What `list` says of the certificates and private keys of these contents; `now` is the time, where the clock tells it.
 fn listed(
     alloc: Global,
     contents: &[Items<SafeBag>],

@@ -198,8 +198,8 @@ fn tell<R: Eprint + AllocGlobal>(
     }
 }
 
-/// Opens the store, and writes it under the new password into the file. What it has.
-fn rekeyed<R: Runtime + AllocGlobal>(
+/// Opens the store, writes it under the new password into the file, and returns what it has.
+fn write_rekeyed<R: Runtime + AllocGlobal>(
     rt: &R,
     around: Surroundings,
     asked: &Rekey<'_>,
@@ -214,8 +214,8 @@ fn rekeyed<R: Runtime + AllocGlobal>(
     Ok(found)
 }
 
-/// The same of the store and the passwords that are read.
-fn rekeyed_as_read<R: Runtime + AllocGlobal>(
+/// Reads the store and the passwords, and then does the same.
+fn read_and_rekey<R: Runtime + AllocGlobal>(
     rt: &R,
     around: Surroundings,
     asked: &Rekey<'_>,
@@ -228,7 +228,7 @@ fn rekeyed_as_read<R: Runtime + AllocGlobal>(
         new_password: &new_password,
         limit: asked.limit,
     };
-    rekeyed(rt, around, asked, file, &change)
+    write_rekeyed(rt, around, asked, file, &change)
 }
 
 /// Changes the password of a store.
@@ -243,6 +243,6 @@ pub fn run_rekey<R: Runtime + AllocGlobal>(
     if asked.new_password.is_none() && is_not_given_again(rt, asked.store, asked.password) {
         return Err(new_password_missing());
     }
-    let found = rekeyed_as_read(rt, around, asked, &file)?;
+    let found = read_and_rekey(rt, around, asked, &file)?;
     tell(rt, around, asked, &found)
 }

@@ -5,7 +5,7 @@ use Rattle.store_export.specs.declared.export.Export.{Export}
 use Rattle.store_export.specs.declared.target.Part.{Part}
 use Rattle.store_export.specs.declared.target.Part.TheVariants.{Whole, Keys, Certificates}
 use Rattle.store_opening.specs.declared.ending.Ending.{Ending}
-use Rattle.store_opening.specs.declared.ending.Ending.TheVariants.{Memory, NewPasswordMissing, NotExported, TooManyFiles, SealLimit, Refused}
+use Rattle.store_opening.specs.declared.ending.Ending.TheVariants.{NewPasswordMissing, NotExported, TooManyFiles, SealLimit, Refused}
 use Rattle.store_opening.specs.Ending.{FailsToOpen}
 use Rattle.transfer.specs.Opening.{all_certificates}
 use Rattle.transfer.specs.Sealing.{SealsAll}
@@ -38,11 +38,14 @@ AreFilesAllowed asked certificates keys =
 abbrev pub AreRoundsAllowed : Export → ℕ → Type 0
 AreRoundsAllowed asked keys = keys * asked.rounds ≤ asked.bounds.seal_limit
 
--- The store is outside the bounds, and fails by the first of them that it is outside of, or out of
--- memory.
+abbrev pub IsWithin : Export → List (List SafeBag) → ℕ → ℕ → Type 0
+IsWithin asked contents certificates keys = AreOthersAllowed asked contents
+    × AreFilesAllowed asked certificates keys × AreRoundsAllowed asked keys
+
+-- The failure of what is outside the bounds: the first of them that it is outside of.
 abbrev pub IsOutside : Export → List (List SafeBag) → ℕ → ℕ → Ending → Type 0
-IsOutside asked contents certificates keys ending = (ending ≡ Memory)
-    ⊎ ((ending ≡ NotExported) × (has_others contents ≡ true) × IsFalse asked.bounds.skip_others)
+IsOutside asked contents certificates keys ending =
+    ((ending ≡ NotExported) × (has_others contents ≡ true) × IsFalse asked.bounds.skip_others)
     ⊎ ((ending ≡ TooManyFiles) × AreOthersAllowed asked contents
     × (asked.bounds.most_files < certificates_in asked.target.part certificates + keys))
     ⊎ ((ending ≡ SealLimit) × AreOthersAllowed asked contents
@@ -64,23 +67,22 @@ pub record Exports (asked : Export) (new_password : Option (List ℕ)) (store pa
   pub in_order : certificates ≡ all_certificates contents
   pub keys : List (List ℕ)
   pub part : keys ≡ keys_in asked.target.part all_keys
-  pub others : AreOthersAllowed asked contents
-  pub files : AreFilesAllowed asked (length certificates) (length keys)
-  pub rounds : AreRoundsAllowed asked (length keys)
+  pub bounded : IsWithin asked contents (length certificates) (length keys)
   pub not_empty : IfSome new_password (λ q. length q ≡ 0 → IsTrue asked.allow_empty)
   pub sealed : IfSome new_password (λ q. SealsAll asked.rounds q None None keys documents)
   pub keyless : IfNone new_password ((keys ≡ []) × (documents ≡ []))
 
 -- ---- Where nothing is made
 
--- There is no new password for these private keys, or there are no random octets, or no memory.
+-- The failure of private keys that are not sealed: there is no new password for them, or there are
+-- no random octets.
 abbrev pub FailsToSeal : Option (List ℕ) → List (List ℕ) → Ending → Type 0
-FailsToSeal new_password keys ending = (ending ≡ Memory)
-    ⊎ ((ending ≡ NewPasswordMissing) × (new_password ≡ None) × (keys ≢ []))
+FailsToSeal new_password keys ending =
+    ((ending ≡ NewPasswordMissing) × (new_password ≡ None) × (keys ≢ []))
     ⊎ ((ending ≡ Refused Rng) × IsSome new_password)
 
--- The store opens within the limit, and the part that is asked for is outside the bounds or is not
--- sealed.
+-- The failure of a store that opens within the limit: the part that is asked for is outside the
+-- bounds, or it is within them and its keys are not sealed.
 pub record FailsOpened (asked : Export) (new_password : Option (List ℕ)) (store password : List ℕ)
     (ending : Ending) : Type 0 where
   pub contents : List (List SafeBag)
@@ -91,8 +93,10 @@ pub record FailsOpened (asked : Export) (new_password : Option (List ℕ)) (stor
   pub keys : List (List ℕ)
   pub part : keys ≡ keys_in asked.target.part all_keys
   pub fails : IsOutside asked contents (length (all_certificates contents)) (length keys) ending
-      ⊎ FailsToSeal new_password keys ending
+      ⊎ (IsWithin asked contents (length (all_certificates contents)) (length keys)
+      × FailsToSeal new_password keys ending)
 
+-- Each failure of an export before anything is written; out of memory is one of FailsToOpen.
 abbrev pub FailsToExport : Export → Option (List ℕ) → List ℕ → List ℕ → Ending → Type 0
 FailsToExport asked new_password store password ending =
     FailsToOpen store password asked.limit ending

@@ -3,7 +3,7 @@ ghost use Rattle.std.specs.Prelude.{◌≡◌, ◌≤◌, ◌*◌, ◌↔◌, �
 ghost use Rattle.std.specs.Option.{ForSome};
 ghost use Rattle.transfer.specs.Opening.{all_certificates};
 ghost use Rattle.transfer.specs.Transferred.{SealsOpened};
-ghost use Rattle.store_export.specs.Exports.{AreFilesAllowed, AreOthersAllowed, AreRoundsAllowed, Exports, FailsToExport, FailsToSeal, IsOutside, certificates_in, keys_in};
+ghost use Rattle.store_export.specs.Exports.{Exports, FailsToExport, FailsToSeal, IsOutside, IsWithin, certificates_in, keys_in};
 
 use crate::export::Export;
 use crate::sealing::{certificates_alone, sealed_store};
@@ -126,12 +126,11 @@ fn within_bounds(
     opened: &Opened,
     found: &Listing,
 ) -> Result<(), Failure>
-    ensures others { OnOk result (AreOthersAllowed asked.now opened.now.contents) }
-    ensures files { OnOk result (AreFilesAllowed asked.now (length found.now.certificates)
-        (length opened.now.keys)) }
-    ensures rounds { OnOk result (AreRoundsAllowed asked.now (length opened.now.keys)) }
-    ensures err { IfErr result (λ f. IsOutside asked.now opened.now.contents
-        (length found.now.certificates) (length opened.now.keys) f.ending) }
+    ensures ok { OnOk result (IsWithin asked.now opened.now.contents
+        (length found.now.certificates) (length opened.now.keys)) }
+    ensures err { IfErr result (λ f. (f.ending ≡ Ending.Memory)
+        ⊎ IsOutside asked.now opened.now.contents (length found.now.certificates)
+        (length opened.now.keys) f.ending) }
 {
     let bounds = asked.bounds;
     if has_others(opened.contents.as_slice()) && !bounds.skip_others {
@@ -187,7 +186,8 @@ fn sealed_anew<R: Files + Eprint + AllocGlobal + Drop>(
     ensures keyless { IfOk result (λ t. IfNone new_password.now
         ((opened.now.keys ≡ []) × (t.documents ≡ [])
         × (t.certificates ≡ all_certificates opened.now.contents))) }
-    ensures err { IfErr result (λ f. FailsToSeal new_password.now opened.now.keys f.ending) }
+    ensures err { IfErr result (λ f. (f.ending ≡ Ending.Memory)
+        ⊎ FailsToSeal new_password.now opened.now.keys f.ending) }
 {
     match new_password {
         Some(new_password) => {

@@ -5,7 +5,7 @@ use Rattle.store_opening.specs.declared.ending.Ending.TheVariants.{Usage, ReadFa
 use Rattle.frame.specs.Status.{status_code}
 use Rattle.store_output.specs.declared.output_error.OutputErrorKind.{OutputErrorKind}
 use Rattle.store_output.specs.declared.output_error.OutputErrorKind.TheVariants as output
-use Rattle.transfer.specs.Opening.{FirstCause, HasVerdict, RefusedAfter, refused}
+use Rattle.transfer.specs.Opening.{FirstCause}
 use Rattle.transfer.specs.Status.{status_of}
 use Rattle.transfer.specs.declared.store.error.TransferError.{TransferError}
 use Rattle.transfer.specs.declared.store.error.TransferError.TheVariants as refusals
@@ -34,23 +34,17 @@ ending_of output.WriteFault = WriteFault
 ending_of output.OutputExists = OutputExists
 ending_of output.Memory = Memory
 
--- A password fails so where it is read: it cannot be read, it is not one that is taken, or there is
--- no memory for it.
-abbrev pub IsOfPassword : Ending → Type 0
-IsOfPassword ending = (ending ≡ ReadFault) ⊎ (ending ≡ PasswordUnusable) ⊎ (ending ≡ Memory)
+-- A failure of reading a password: it cannot be read, it cannot be used, or there is no memory for it.
+abbrev pub IsPasswordFailure : Ending → Type 0
+IsPasswordFailure ending = (ending ≡ ReadFault) ⊎ (ending ≡ PasswordUnusable) ⊎ (ending ≡ Memory)
 
 -- the failure that a refusal is
 abbrev pub ending_of_refusal : TransferError → Ending
 ending_of_refusal refusals.Memory = Memory
 ending_of_refusal e = Refused e
 
--- The store is refused by e under its password and the limit, after so many steps.
-abbrev pub IsRefusedBy : List ℕ → List ℕ → ℕ → TransferError → Type 0
-IsRefusedBy store password limit e = (n : ℕ)
-    × RefusedAfter (λ e n. HasVerdict store password limit (refused e) n) 0 n e
-
--- A store that does not open under its password and the limit fails so: by its first cause, or out
--- of memory.
+-- The failure of a store that is not opened under its password and the limit: its first cause to be
+-- refused, or out of memory.
 abbrev pub FailsToOpen : List ℕ → List ℕ → ℕ → Ending → Type 0
 FailsToOpen store password limit ending = (ending ≡ Memory)
     ⊎ ((e : TransferError) × FirstCause store password limit (Some e) × (ending ≡ Refused e))

@@ -1,7 +1,7 @@
 //! Opening a store.
 ghost use Rattle.std.specs.Prelude.{◌≡◌, ◌⊎◌, ◌<◌, ◌≤◌, ℕ, IfOk, IfErr};
 ghost use Rattle.frame.specs.Status.{status_code};
-ghost use Rattle.store_opening.specs.Ending.{FailsToOpen, IsRefusedBy, code_of, ending_of_refusal};
+ghost use Rattle.store_opening.specs.Ending.{FailsToOpen, code_of, ending_of_refusal};
 ghost use Rattle.transfer.specs.Status.{status_of};
 ghost use Rattle.transfer.specs.Verdicts.{StoreOpens};
 
@@ -58,6 +58,7 @@ pub fn refused(refusal: TransferError) -> Failure
 }
 
 /// Opens a store with a step counter of its own.
+#[tactic(auto, using(crate::proofs::Refusals::fails_to_open))]
 fn open_from<L: Ledger>(
     alloc: Global,
     store: &[u8],
@@ -70,7 +71,8 @@ fn open_from<L: Ledger>(
     requires some { 0 < blank.parts }
     ensures ok { IfOk result (λ o. (n : ℕ)
         × StoreOpens store.now password.now o.contents o.keys n × (n ≤ limit)) }
-    ensures err { IfErr result (IsRefusedBy store.now password.now limit) }
+    ensures err { IfErr result
+        (λ e. FailsToOpen store.now password.now limit (ending_of_refusal e)) }
 {
     let mut steps = Steps::<L>::open(blank);
     open_store(alloc, store, password.as_str(), limit, &mut steps)
@@ -78,7 +80,6 @@ fn open_from<L: Ledger>(
 
 /// Opens a store under its password within the limit, in steps, by a step counter of its own. Where the store is refused, by the first
 /// cause that `open_store` names, the failure is that refusal; out of memory may come in its place.
-#[tactic(auto, using(crate::proofs::Refusals::fails_to_open))]
 pub fn opened_store(
     alloc: Global,
     store: &[u8],

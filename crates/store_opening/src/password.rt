@@ -1,6 +1,6 @@
 //! Passwords of stores and of private keys.
 ghost use Rattle.std.specs.Prelude.{◌≡◌, ◌≤◌, ◌<◌, IfOk, IfErr, IsOk, IsTrue, length};
-ghost use Rattle.store_opening.specs.Ending.{IsOfPassword};
+ghost use Rattle.store_opening.specs.Ending.{IsPasswordFailure};
 
 use crate::ending::{Ending, Failure};
 use crate::read_advice::read_advice;
@@ -23,7 +23,7 @@ fn not_had(
     origin: Origin<'_>,
     error: PasswordError,
 ) -> Failure
-    ensures { IsOfPassword result.ending }
+    ensures { IsPasswordFailure result.ending }
 {
     let text = error.text(alloc, purpose, origin);
     match &error {
@@ -47,7 +47,7 @@ pub fn read_password<R: Files + Env + Input + AllocGlobal>(
     purpose: &'static str,
     origin: Origin<'_>,
 ) -> Result<Password, Failure>
-    ensures { IfErr result (λ f. IsOfPassword f.ending) }
+    ensures { IfErr result (λ f. IsPasswordFailure f.ending) }
 {
     match origin.read(rt) {
         Ok(password) => Ok(password),
