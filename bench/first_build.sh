@@ -4,8 +4,7 @@
 #     bench/first_build.sh
 #
 # The last line has the minutes of the clock and of the machine's processors, and for how many of these minutes the machine gave its
-# processors to others (`steal`, where the machine is a virtual one). Nothing else should run meanwhile. rt takes over what it kept of
-# the same crates in other folders, and this says so where it did: then it was no first build. Needs Linux.
+# processors to others (`steal`, where the machine is a virtual one). Nothing else should run meanwhile. Needs Linux.
 set -eu
 
 home=$(cd "$(dirname "$0")/.." && pwd)
@@ -29,8 +28,5 @@ if [ ! -x "$work/clone/crates/pkcs12/out/pkcs12" ]; then
     trap - EXIT
     echo "The build failed. The clone stays in $work/clone." >&2
     exit 1
-fi
-if grep -q 'begins with what a check kept' "$work/clone/crates/pkcs12/out/build.log"; then
-    echo "This was no first build: rt took over what it had kept of some crates." >&2
 fi
 echo "$(minutes $((($(date +%s) - began) * 100))) minutes, $(minutes $(($(busy) - busy))) of processors, $(minutes $(($(stolen) - stolen))) stolen, $(nproc) processors"

@@ -135,33 +135,34 @@ installed_library() {
 }
 holds the_library_is_found_by_pkg_config installed_library
 
-# Where the archive is not built, rt proves the crates below it and then builds it, in its crate.
+# Where the archive is not built, the crates below it are proved, and then it is. This compiler does that for the crate `low` alone.
 library_is_built() {
     mkdir -p "$work/unbuilt/crates/pkcs12/out" "$work/unbuilt/crates/pkcs12_c/src" "$work/unbuilt/crates/low/src" "$work/unbuilt/bin"
     cp -r "$home/pkcs12" "$home/wrapper" "$home/docs" "$work/unbuilt" && printf 'low:\npkcs12_c staticlib: low\npkcs12: low\n' >"$work/unbuilt/crates.txt" &&
         cp "$home/crates/pkcs12/out/pkcs12" "$work/unbuilt/crates/pkcs12/out" || return 1
+    printf '#!/bin/sh\necho "%s/page"\n' "$work/unbuilt" >"$work/unbuilt/bin/rt"
     # shellcheck disable=SC2016
-    printf '#!/bin/sh\necho "${PWD##*/} $*" >>"%s/calls"\n[ "${PWD##*/}" = low ] && mkdir -p out/rlib && : >out/rlib/stamp\n' "$work/unbuilt" \
-        >"$work/unbuilt/bin/rt" && chmod 755 "$work/unbuilt/bin/rt"
+    printf '#!/bin/sh\necho "${PWD##*/} $*" >>"%s/calls"\n[ "${PWD##*/}" = low ] && mkdir out/rlib/statements/low.rlib\n' "$work/unbuilt" \
+        >"$work/unbuilt/bin/rattle" && chmod 755 "$work/unbuilt/bin/rt" "$work/unbuilt/bin/rattle"
     refused 1 env "PATH=$work/unbuilt/bin:$PATH" CC=sh "$work/unbuilt/pkcs12" install "$work/unbuilt/prefix" &&
-        head -n 1 "$work/unbuilt/calls" | grep -qxE 'low lib --jobs [0-9]+' &&
-        tail -n 1 "$work/unbuilt/calls" | grep -qxE 'pkcs12_c lib --jobs [0-9]+' && [ "$(wc -l <"$work/unbuilt/calls")" -eq 2 ] &&
-        [ ! -e "$work/unbuilt/prefix" ] && [ -f "$work/unbuilt/crates/low/out/rlib/stamp" ]
+        head -n 1 "$work/unbuilt/calls" | grep -q '^low build --statements ' &&
+        tail -n 1 "$work/unbuilt/calls" | grep -q '^pkcs12_c build --crate-type staticlib ' && [ "$(wc -l <"$work/unbuilt/calls")" -eq 2 ] &&
+        [ ! -e "$work/unbuilt/prefix" ] && [ -s "$work/unbuilt/crates/low/out/rlib/statements/sum" ]
 }
 holds the_library_is_built_where_it_is_not library_is_built
-# Nothing is left of a build of the library that a signal ends, and what rt kept is back in its place.
+# Nothing is left of a build of the library that a signal ends.
 signal_while_building_the_library() {
-    rm -rf "$work/unbuilt/crates/low/out" && mkdir -p "$work/unbuilt/crates/low/out/incremental" && : >"$work/unbuilt/crates/low/out/incremental/kept"
+    rm -rf "$work/unbuilt/crates/low/out"
     # shellcheck disable=SC2016
-    printf '#!/bin/sh\necho $$ >"%s/number"\nexec sleep 600\n' "$work/unbuilt" >"$work/unbuilt/bin/rt"
+    printf '#!/bin/sh\necho $$ >"%s/number"\nexec sleep 600\n' "$work/unbuilt" >"$work/unbuilt/bin/rattle"
     PATH=$work/unbuilt/bin:$PATH CC=sh "$work/unbuilt/pkcs12" install "$work/unbuilt/prefix" >"$work/said" 2>"$work/told" &
     started=$!
     while [ ! -s "$work/unbuilt/number" ] && kill -0 "$started" 2>/dev/null; do sleep 0.01; done
     kill "$started"
     code=0
     wait "$started" || code=$?
-    [ "$code" -eq 143 ] && [ ! -e "$work/unbuilt/prefix" ] && [ ! -e "$work/unbuilt/crates/pkcs12_c/out/rooms" ] &&
-        [ -f "$work/unbuilt/crates/low/out/incremental/kept" ] && ! grep -qs sleep "/proc/$(cat "$work/unbuilt/number")/cmdline"
+    [ "$code" -eq 143 ] && [ ! -e "$work/unbuilt/prefix" ] && [ "$(ls "$work/unbuilt/crates/pkcs12_c/out")" = build.log ] &&
+        [ ! -e "$work/unbuilt/crates/low/out/rlib/statements" ] && ! grep -qs sleep "/proc/$(cat "$work/unbuilt/number")/cmdline"
 }
 holds a_signal_ends_the_build_of_the_library signal_while_building_the_library
 
@@ -308,26 +309,28 @@ closed_tree() {
         [ "$(ls "$work/theirs")" = prefix ] && [ "$(wc -l <"$work/told")" -eq 1 ]
 }
 holds a_tree_that_is_not_writable closed_tree
-# Where the library is not built yet: rt, here one that hands out the archive that is there, is called in its crate.
+# Where the library is not built yet, it is built, here by a compiler that hands out the archive that is there, and installed.
 library_built() {
     [ "$expected" != "${expected#*libpkcs12.a}" ] || {
         echo "skipped $name: the library is not built"
         return 0
     }
-    mkdir -p "$work/fresh/crates/pkcs12/out" "$work/fresh/crates/pkcs12_c" "$work/rt" &&
+    mkdir -p "$work/fresh/crates/pkcs12/out" "$work/fresh/crates/pkcs12_c" "$work/kit/bin" &&
         cp -r "$home/pkcs12" "$home/wrapper" "$home/docs" "$work/fresh" && printf 'pkcs12:\npkcs12_c staticlib:\n' >"$work/fresh/crates.txt" &&
         cp -r "$home/crates/pkcs12_c/include" "$home/crates/pkcs12_c/link" "$work/fresh/crates/pkcs12_c" &&
         cp "$home/crates/pkcs12/out/pkcs12" "$work/fresh/crates/pkcs12/out" &&
-        printf '#!/bin/sh\nmkdir -p out && cp "%s" out && echo "${PWD##*/} $1" >>"%s"\n' \
-            "$home/crates/pkcs12_c/out/libpkcs12_c.a" "$work/calls" >"$work/rt/rt" && chmod +x "$work/rt/rt" || return 1
-    status 0 env "PATH=$work/rt:$PATH" "$work/fresh/pkcs12" install "$work/of fresh" &&
-        [ "$(cat "$work/calls")" = 'pkcs12_c lib' ] && [ "$(files_and_modes "$work/of fresh")" = "$expected" ] &&
+        printf '#!/bin/sh\necho "%s/page"\n' "$work/kit" >"$work/kit/bin/rt" &&
+        printf '#!/bin/sh\necho "${PWD##*/} $1" >>"%s"\nwhile [ "$1" != -o ]; do shift; done\ncp "%s" "$2"\n' \
+            "$work/calls" "$home/crates/pkcs12_c/out/libpkcs12_c.a" >"$work/kit/bin/rattle" && chmod +x "$work/kit/bin"/* || return 1
+    status 0 env "PATH=$work/kit/bin:$PATH" "$work/fresh/pkcs12" install "$work/of fresh" &&
+        [ "$(cat "$work/calls")" = 'pkcs12_c build' ] && [ "$(files_and_modes "$work/of fresh")" = "$expected" ] &&
         status 0 "$work/fresh/pkcs12" uninstall "$work/of fresh" && nothing_at "$work/of fresh" || return 1
     # and a build that fails leaves nothing
-    rm "$work/fresh/crates/pkcs12_c/out/libpkcs12_c.a" && printf '#!/bin/sh\necho no proof\nexit 1\n' >"$work/rt/rt" &&
-        refused 1 env "PATH=$work/rt:$PATH" "$work/fresh/pkcs12" install "$work/of fresh" && nothing_at "$work/of fresh"
+    rm "$work/fresh/crates/pkcs12_c/out/libpkcs12_c.a" && printf '#!/bin/sh\necho no proof\nexit 1\n' >"$work/kit/bin/rattle" &&
+        refused 1 env "PATH=$work/kit/bin:$PATH" "$work/fresh/pkcs12" install "$work/of fresh" && grep -q 'no proof' "$work/told" &&
+        nothing_at "$work/of fresh"
 }
-holds the_library_is_built_where_it_is_not library_built
+holds the_library_is_built_and_installed library_built
 full_disk() {
     mkdir -p "$work/full" && mount -t tmpfs -o size=200k none "$work/full" 2>/dev/null || {
         echo "skipped $name: no file system can be mounted here"

@@ -1,5 +1,5 @@
 #!/bin/sh
-# make_library.sh FOLDER: makes libpkcs12.a and libpkcs12.so.1 in the folder, from the archive that `rt lib` leaves in out/ and the
+# make_library.sh FOLDER: makes libpkcs12.a and libpkcs12.so.1 in the folder, from the archive that a build leaves in out/ and the
 # allocator of heap.c. CC and AR name other programs than cc and ar; CC may have options.
 # shellcheck disable=SC2086 # so that it may
 set -eu
