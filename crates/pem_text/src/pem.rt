@@ -1,37 +1,50 @@
 //! The text of a structure.
 ghost use Rattle.std.specs.Prelude.{◌≡◌, ◌++◌, IfOk, IfErr, OnOk, codes};
+ghost use Rattle.std.specs.String.{string_bytes};
 ghost use Rattle.base64.specs.Engines.{standard};
 ghost use Rattle.base64.specs.GeneralPurpose.{encode_of};
 ghost use Rattle.pem_text.specs.Pem.{Says, boundary, in_lines, pem};
 
 use asn1_core::{Error, Octets};
 use base64::engine::general_purpose::STANDARD;
-use std::alloc::Global;
+use std::alloc::{AllocError, Global};
 
-/// How many characters a line of the body has; the last may have fewer.
-const WIDTH: usize = 64;
+/// How many octets a line of the body has, in 64 characters; the last may have fewer.
+const LINE: usize = 48;
 
-/// Adds the characters in lines of 64, each ended by a line feed.
-fn add_lines(characters: &[u8], text: &mut Octets) -> Result<(), Error>
-    ensures ok { OnOk result (text.new ≡ text.old ++ in_lines characters.now) }
-    ensures err { IfErr result (λ e. e ≡ Error.Memory) }
+/// How many octets the boundaries have without their labels.
+const BOUNDARIES: usize = 32;
+
+/// How many octets the text has, so that its memory is taken once.
+fn text_len(label: &str, octets: &[u8]) -> usize {
+    let characters = octets.len().div_ceil(3).saturating_mul(4);
+    let labels = label.len().saturating_mul(2);
+    characters
+        .saturating_add(octets.len().div_ceil(LINE))
+        .saturating_add(labels)
+        .saturating_add(BOUNDARIES)
+}
+
+/// Adds the octets in Base64, in lines of 64 characters, each ended by a line feed.
+fn add_lines(octets: &[u8], text: &mut String) -> Result<(), AllocError>
+    ensures { OnOk result (string_bytes text.new
+        ≡ string_bytes text.old ++ in_lines (encode_of standard octets.now)) }
 {
-    for line in characters.chunks(WIDTH) {
-        text.extend(line)?;
-        text.push(b'\n')?;
+    for line in octets.chunks(LINE) {
+        STANDARD.encode_string(line, text)?;
+        text.push('\n')?;
     }
     Ok(())
 }
 
 /// Adds a line with an encapsulation boundary.
-fn add_boundary(before: &str, label: &str, text: &mut Octets) -> Result<(), Error>
-    ensures ok { OnOk result (text.new ≡ text.old ++ boundary before.now label.now) }
-    ensures err { IfErr result (λ e. e ≡ Error.Memory) }
+fn add_boundary(before: &str, label: &str, text: &mut String) -> Result<(), AllocError>
+    ensures { OnOk result
+        (string_bytes text.new ≡ string_bytes text.old ++ boundary before.now label.now) }
 {
-    text.extend(before.as_bytes())?;
-    text.extend(label.as_bytes())?;
-    text.extend(b"-----\n")?;
-    Ok(())
+    text.push_str(before)?;
+    text.push_str(label)?;
+    text.push_str("-----\n")
 }
 
 /// The text of these octets under this label. The only refusal is `Memory`.
@@ -40,12 +53,9 @@ pub fn pem_of(alloc: Global, label: &str, octets: &[u8]) -> Result<Octets, Error
     ensures read_back { IfOk result (λ t. Says t label.now octets.now) }
     ensures err { IfErr result (λ e. e ≡ Error.Memory) }
 {
-    let Ok(characters) = STANDARD.encode(alloc, octets) else {
-        return Err(Error::Memory);
-    };
-    let mut text = Octets::new(alloc);
+    let mut text = String::with_capacity(alloc, text_len(label, octets))?;
     add_boundary("-----BEGIN ", label, &mut text)?;
-    add_lines(characters.as_bytes(), &mut text)?;
+    add_lines(octets, &mut text)?;
     add_boundary("-----END ", label, &mut text)?;
-    Ok(text)
+    Ok(Octets::from_vec(text.into_bytes()))
 }

@@ -52,8 +52,22 @@ fn keep<R: Files>(rt: &R, place: Place<'_>, path: &str, file: &R::File) -> io::R
     }
 }
 
-/// Writes a file that was not there, which only its owner may read unless more is kept, and brings
-/// it to the disk.
+/// Makes a file that was not there, which only its owner may read.
+fn create<R: Files>(rt: &R, path: &str) -> io::Result<R::File> {
+    OpenOptions::new()
+        .write(true)
+        .create_new(true)
+        .mode(0o600)
+        .open(rt, path)
+}
+
+/// Gives a file that is written what is kept, and brings it to the disk.
+fn finish<R: Files>(rt: &R, place: Place<'_>, path: &str, file: &R::File) -> io::Result<()> {
+    keep(rt, place, path, file)?;
+    file.sync_all()
+}
+
+/// Writes a file that was not there, which only its owner may read unless more is kept.
 fn write_new<R: Files + AllocGlobal>(
     rt: &R,
     place: Place<'_>,
@@ -62,14 +76,9 @@ fn write_new<R: Files + AllocGlobal>(
 ) -> io::Result<()> {
     let part = place.output.part;
     let path = format!(in rt.alloc(); "{part}/{name}")?;
-    let mut file = OpenOptions::new()
-        .write(true)
-        .create_new(true)
-        .mode(0o600)
-        .open(rt, path.as_str())?;
+    let mut file = create(rt, path.as_str())?;
     file.write_all(octets)?;
-    keep(rt, place, path.as_str(), &file)?;
-    file.sync_all()
+    finish(rt, place, path.as_str(), &file)
 }
 
 /// The PEM text of one of these.
@@ -117,10 +126,15 @@ fn write_each<R: Files + AllocGlobal>(
     Ok(())
 }
 
-/// Adds the PEM text of each of these.
-fn add_each(alloc: Global, text: &mut Octets, kind: Kind, each: &[Octets]) -> io::Result<()> {
+/// Adds the PEM text of each of these to the file.
+fn add_each<R: Files + AllocGlobal>(
+    rt: &R,
+    file: &mut R::File,
+    kind: Kind,
+    each: &[Octets],
+) -> io::Result<()> {
     for octets in each {
-        text.extend(pem(alloc, kind, octets.as_slice())?.as_slice())?;
+        file.write_all(pem(rt.alloc(), kind, octets.as_slice())?.as_slice())?;
     }
     Ok(())
 }
@@ -132,10 +146,12 @@ fn write_all<R: Files + AllocGlobal>(
     certificates: &[Octets],
     documents: &[Octets],
 ) -> io::Result<()> {
-    let mut text = Octets::new(rt.alloc());
-    add_each(rt.alloc(), &mut text, Kind::Key, documents)?;
-    add_each(rt.alloc(), &mut text, Kind::Certificate, certificates)?;
-    write_new(rt, place, ALL, text.as_slice())
+    let part = place.output.part;
+    let path = format!(in rt.alloc(); "{part}/{ALL}")?;
+    let mut file = create(rt, path.as_str())?;
+    add_each(rt, &mut file, Kind::Key, documents)?;
+    add_each(rt, &mut file, Kind::Certificate, certificates)?;
+    finish(rt, place, path.as_str(), &file)
 }
 
 /// The certificates that are written.

@@ -7,7 +7,7 @@ use Rattle.pem_text.proofs.pem.pem_of.Goals as goal
 
 pub returns-clause-read_back : goal.returns-clause-read_back
 returns-clause-read_back c =
-    let text : c.add_boundary-2.new.text ≡ pem c.args.label.now c.args.octets.now = search rules in
+    let text : c.from_vec.result ≡ pem c.args.label.now c.args.octets.now = search rules in
     let bytes : IsBytes c.args.octets.now = search (rules, c.type_inv.octets) in
     record {
       lines = in_lines (encode_of standard c.args.octets.now);
