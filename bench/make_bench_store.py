@@ -15,6 +15,11 @@ writes the store to STORE and its hexadecimal line to STORE.hex. The kinds:
     keys NUMBER           NUMBER private keys under Triple DES, counts 1
     keys-aes NUMBER       ten private keys under AES-256 (PBES2, HMAC-SHA256) with NUMBER rounds, count 1 of the MAC
     hundred-keys-aes NUMBER   a hundred of them
+    contents-aes NUMBER   two contents under AES-256 (PBES2, HMAC-SHA256) with NUMBER rounds, a certificate in each
+    certificates NUMBER   NUMBER certificates of 1,000 octets, not encrypted
+    long-keys NUMBER      NUMBER private keys of 1,200 octets under Triple DES, counts 1
+    pairs NUMBER          NUMBER certificates of two octets, and as many private keys under Triple DES, counts 1, in the other
+                          order, with the local key ids of the certificates
 """
 
 import os
@@ -71,18 +76,40 @@ def sealed_store(certificate, count):
     return with_mac(make.sequence(make.sealed(bags, PASSWORD, CONTENT_SALT, count)), count)
 
 
-def aes_store(certificate):
-    parameters = CONTENT_SALT, 1, None, HMAC_SHA256, AES_256_CBC, bytes(16)
+def aes_content(certificate, rounds):
+    parameters = CONTENT_SALT, rounds, None, HMAC_SHA256, AES_256_CBC, bytes(16)
     bags = make.padded(make.sequence(make.certificate_bag(certificate)), 16)
     ciphertext = make.encrypt_pbes2(PASSWORD, parameters, bags)
-    return with_mac(make.sequence(make.encrypted_data(make.pbes2(parameters), ciphertext)))
+    return make.encrypted_data(make.pbes2(parameters), ciphertext)
+
+
+def aes_store(certificate):
+    return with_mac(make.sequence(aes_content(certificate, 1)))
+
+
+def plain_bags(bags):
+    return with_mac(make.sequence(make.data(make.sequence(*bags))))
+
+
+def long_keys(number):
+    """Keys of an algorithm without parameters (RFC 5958 section 2)."""
+    algorithm = make.sequence(make.identifier("2.999.1"))
+    key = of_length(1200, lambda filling: make.sequence(make.number(0), algorithm, make.octet_string(bytes(filling))))
+    return plain_bags([make.sealed_key(key, PASSWORD, at.to_bytes(8, "big"), 1) for at in range(number)])
+
+
+def pairs_store(number):
+    key = make.sequence(make.number(0), make.sequence(make.identifier("2.999.1")), make.octet_string(b"key"))
+    ids = [make.local_key_id(at.to_bytes(4, "big")) for at in range(number)]
+    certificates = [make.certificate_bag(bytes.fromhex("3000"), key_id) for key_id in ids]
+    keys = [make.sealed_key(key, PASSWORD, at.to_bytes(8, "big"), 1, key_id) for at, key_id in enumerate(ids)]
+    return plain_bags(certificates + keys[::-1])
 
 
 def keys_store(number):
     with open(os.path.join(HOME, "examples", "openssl-key", "key-0.der"), "rb") as file:
         key = file.read()
-    bags = [make.sealed_key(key, PASSWORD, at.to_bytes(8, "big"), 1) for at in range(number)]
-    return with_mac(make.sequence(make.data(make.sequence(*bags))))
+    return plain_bags([make.sealed_key(key, PASSWORD, at.to_bytes(8, "big"), 1) for at in range(number)])
 
 
 def aes_keys_store(number, rounds):
@@ -92,7 +119,7 @@ def aes_keys_store(number, rounds):
     for at in range(number):
         parameters = at.to_bytes(8, "big"), rounds, None, HMAC_SHA256, AES_256_CBC, bytes(16)
         bags.append(make.key_bag(make.pbes2(parameters), make.encrypt_pbes2(PASSWORD, parameters, key)))
-    return with_mac(make.sequence(make.data(make.sequence(*bags))))
+    return plain_bags(bags)
 
 
 def store_of(kind, number):
@@ -101,7 +128,7 @@ def store_of(kind, number):
     if kind == "smallest":
         return plain_store(bytes.fromhex("3000"))
     if kind == "bags":
-        return with_mac(make.sequence(make.data(make.sequence(*[SMALL_BAG] * number))))
+        return plain_bags([SMALL_BAG] * number)
     if kind == "contents":
         return with_mac(make.sequence(*[make.data(make.sequence(SMALL_BAG))] * number))
     if kind == "count":
@@ -116,6 +143,14 @@ def store_of(kind, number):
         return aes_keys_store(10, number)
     if kind == "hundred-keys-aes":
         return aes_keys_store(100, number)
+    if kind == "contents-aes":
+        return with_mac(make.sequence(*[aes_content(example_certificate(), number)] * 2))
+    if kind == "certificates":
+        return plain_bags([make.certificate_bag(of_length(1000, long_certificate))] * number)
+    if kind == "long-keys":
+        return long_keys(number)
+    if kind == "pairs":
+        return pairs_store(number)
     sys.exit(__doc__)
 
 

@@ -19,7 +19,7 @@ HOME = os.path.join(os.path.dirname(os.path.abspath(__file__)), "..")
 sys.path.insert(0, os.path.join(HOME, "tests"))
 
 import make_store as make
-from read_store import LOCAL_KEY_ID, SHROUDED_KEY_BAG, element, only
+from read_store import element, only
 
 PASSWORD = "p"
 MAC_SALT = bytes([1, 2, 3, 4, 5, 6, 7, 8])
@@ -52,8 +52,7 @@ def certificate(number, subject, issuer):
 
 
 def key_id(number):
-    value = make.octet_string(number.to_bytes(4, "big"))
-    return element(0x31, make.sequence(make.identifier(LOCAL_KEY_ID), element(0x31, value)))
+    return make.local_key_id(number.to_bytes(4, "big"))
 
 
 def certificate_bag(number, subject, issuer):
@@ -62,10 +61,7 @@ def certificate_bag(number, subject, issuer):
 
 def key_bag(number):
     """A private key under Triple DES, with the local key id of the certificate of this number."""
-    salt = number.to_bytes(8, "big")
-    ciphertext = make.octet_string(make.encrypt(PASSWORD, salt, 1, make.padded(KEY)))
-    sealed = make.context(0, make.sequence(make.scheme(salt, 1), ciphertext))
-    return make.sequence(make.identifier(SHROUDED_KEY_BAG), sealed, key_id(number))
+    return make.sealed_key(KEY, PASSWORD, number.to_bytes(8, "big"), 1, key_id(number))
 
 
 def bags_of(kind, count):

@@ -369,6 +369,25 @@ many_files() {
         nothing_at "$work/none" && ends 0 export "$work/many.p12" --out "$work/many" --password-file "$work/p" --most-files 3000
 }
 holds the_number_of_files_is_bounded many_files
+# The memory, Python's own included before the program begins, for each octet of the store.
+memory() {
+    for store in large large-many; do
+        "${PYTHON:-python3}" - "$work/$store.p12" "$program" export "$work/$store.p12" --out "$work/$store" --one-file \
+            --password-file "$work/p" >"$work/told" 2>/dev/null <<'END' || return 1
+import os
+import resource
+import subprocess
+import sys
+
+subprocess.run(sys.argv[2:], check=True)
+taken = 1024 * resource.getrusage(resource.RUSAGE_CHILDREN).ru_maxrss / os.path.getsize(sys.argv[1])
+print(f"{sys.argv[1]}: {taken:.2f} octets for one")
+sys.exit(0 if taken <= 4 else 1)
+END
+        cat "$work/told"
+    done
+}
+holds export_takes_four_octets_of_memory_for_one memory
 progress() {
     [ -f "$work/many-keys.p12" ] || return 0
     "$home/tests/shared/at_terminal.py" -- "$home/pkcs12" export "$work/many-keys.p12" --out "$work/progress" --password-file "$work/p" \

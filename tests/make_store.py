@@ -10,6 +10,7 @@ from read_store import (
     CIPHERS,
     DATA,
     ENCRYPTED_DATA,
+    LOCAL_KEY_ID,
     PBES2,
     PBKDF2,
     SHA1,
@@ -61,14 +62,20 @@ def certificate_bag(certificate, attributes=b""):
     )
 
 
-def key_bag(algorithm, ciphertext):
+def local_key_id(value):
+    """The attributes of a bag that has this local key id alone (RFC 7292 section 4.2)."""
+    return element(0x31, sequence(identifier(LOCAL_KEY_ID), element(0x31, octet_string(value))))
+
+
+def key_bag(algorithm, ciphertext, attributes=b""):
     """A private key that is encrypted."""
-    return sequence(identifier(SHROUDED_KEY_BAG), context(0, sequence(algorithm, octet_string(ciphertext))))
+    value = context(0, sequence(algorithm, octet_string(ciphertext)))
+    return sequence(identifier(SHROUDED_KEY_BAG), value, attributes)
 
 
-def sealed_key(key, password, salt, count):
+def sealed_key(key, password, salt, count, attributes=b""):
     """A private key under Triple DES."""
-    return key_bag(scheme(salt, count), encrypt(password, salt, count, padded(key)))
+    return key_bag(scheme(salt, count), encrypt(password, salt, count, padded(key)), attributes)
 
 
 def data(octets):

@@ -1,6 +1,6 @@
 #!/usr/bin/env python3
-"""Writes stores for the tests of the command into a folder, under the password `p`: bags that are not exported, 3,000 certificates, BER
-and PEM, and what careless and hostile people hand in.
+"""Writes stores for the tests of the command into a folder, under the password `p`: bags that are not exported, 3,000 certificates,
+8,000,000 octets of one certificate and of many, BER and PEM, and what careless and hostile people hand in.
 
 usage: make_command_stores.py FOLDER
 """
@@ -32,6 +32,8 @@ def plain_store(bags):
 any_value = sequence(number(0))
 write("passed.p12", plain_store([bag("1", any_value), bag("4", any_value), bag("4", any_value), bag("5", any_value), bag("6", any_value)]))
 write("many.p12", plain_store([certificate_bag(octet_string(bytes([n % 256]) * 700)) for n in range(3000)]))
+write("large.p12", plain_store([certificate_bag(octet_string(bytes(8_000_000)))]))
+write("large-many.p12", plain_store([certificate_bag(octet_string(bytes(1000)))] * 8000))
 whole = plain_store([certificate_bag(b"certificate")])
 header = 2 if whole[1] < 128 else 2 + whole[1] % 128
 write("ber.p12", whole[:1] + b"\x80" + whole[header:] + b"\0\0")
