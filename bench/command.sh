@@ -61,8 +61,13 @@ memory long-keys 10000
 memory long-keys 10000 --one-file
 echo
 
+# What is installed is the program of this tree.
+[ "$PROGRAM" = "$home/crates/pkcs12/out/pkcs12" ] || exit 0
 row 'what the wrapper of an installed command adds' seconds MiB
-CC=/nowhere/cc "$home/pkcs12" install "$work/prefix" >"$work/told" 2>&1
+CC=/nowhere/cc "$home/pkcs12" install "$work/prefix" >"$work/told" 2>&1 || {
+    cat "$work/told" >&2
+    exit 1
+}
 make_store smallest 1 smallest
 program=$work/prefix/lib/pkcs12/pkcs12
 measured '  the program' takes check smallest

@@ -67,8 +67,17 @@ def with_mac(contents, count=1):
     return make.store_with_mac(contents, PASSWORD, MAC_SALT, count)
 
 
+def plain_bags(bags):
+    return with_mac(make.sequence(make.data(make.sequence(*bags))))
+
+
 def plain_store(certificate):
-    return with_mac(make.sequence(make.data(make.sequence(make.certificate_bag(certificate)))))
+    return plain_bags([make.certificate_bag(certificate)])
+
+
+def key_of(octets):
+    """A private key of an algorithm without parameters (RFC 5958 section 2)."""
+    return make.sequence(make.number(0), make.sequence(make.identifier("2.999.1")), make.octet_string(octets))
 
 
 def sealed_store(certificate, count):
@@ -87,22 +96,15 @@ def aes_store(certificate):
     return with_mac(make.sequence(aes_content(certificate, 1)))
 
 
-def plain_bags(bags):
-    return with_mac(make.sequence(make.data(make.sequence(*bags))))
-
-
 def long_keys(number):
-    """Keys of an algorithm without parameters (RFC 5958 section 2)."""
-    algorithm = make.sequence(make.identifier("2.999.1"))
-    key = of_length(1200, lambda filling: make.sequence(make.number(0), algorithm, make.octet_string(bytes(filling))))
+    key = of_length(1200, lambda filling: key_of(bytes(filling)))
     return plain_bags([make.sealed_key(key, PASSWORD, at.to_bytes(8, "big"), 1) for at in range(number)])
 
 
 def pairs_store(number):
-    key = make.sequence(make.number(0), make.sequence(make.identifier("2.999.1")), make.octet_string(b"key"))
     ids = [make.local_key_id(at.to_bytes(4, "big")) for at in range(number)]
     certificates = [make.certificate_bag(bytes.fromhex("3000"), key_id) for key_id in ids]
-    keys = [make.sealed_key(key, PASSWORD, at.to_bytes(8, "big"), 1, key_id) for at, key_id in enumerate(ids)]
+    keys = [make.sealed_key(key_of(b"key"), PASSWORD, at.to_bytes(8, "big"), 1, key_id) for at, key_id in enumerate(ids)]
     return plain_bags(certificates + keys[::-1])
 
 

@@ -369,7 +369,7 @@ many_files() {
         nothing_at "$work/none" && ends 0 export "$work/many.p12" --out "$work/many" --password-file "$work/p" --most-files 3000
 }
 holds the_number_of_files_is_bounded many_files
-# The memory, Python's own included before the program begins, for each octet of the store.
+# The largest resident set for each octet of the store. Where that of the Python here is larger, it counts.
 memory() {
     for store in large large-many; do
         "${PYTHON:-python3}" - "$work/$store.p12" "$program" export "$work/$store.p12" --out "$work/$store" --one-file \
@@ -388,6 +388,20 @@ END
     done
 }
 holds export_takes_four_octets_of_memory_for_one memory
+# A disk that is full when some of the texts are in the one file.
+full_disk() {
+    mkdir "$work/disk"
+    mount -t tmpfs -o size=1m tmpfs "$work/disk" 2>/dev/null || {
+        echo "skipped full_disk: no tmpfs can be mounted"
+        return 0
+    }
+    outcome=0
+    fails 4 WriteFault "No space left" export "$work/many.p12" --out "$work/disk/out" --one-file --password-file "$work/p" &&
+        [ -z "$(ls -A "$work/disk")" ] || outcome=1
+    umount "$work/disk"
+    return "$outcome"
+}
+holds a_full_disk_leaves_nothing_of_one_file full_disk
 progress() {
     [ -f "$work/many-keys.p12" ] || return 0
     "$home/tests/shared/at_terminal.py" -- "$home/pkcs12" export "$work/many-keys.p12" --out "$work/progress" --password-file "$work/p" \
