@@ -59,6 +59,8 @@ memory certificates 10000
 memory certificates 10000 --one-file
 memory long-keys 10000
 memory long-keys 10000 --one-file
+memory keys 60000 --one-file
+memory pairs 60000 --one-file
 echo
 
 # What is installed is the program of this tree.

@@ -1,6 +1,6 @@
 #!/usr/bin/env python3
 """Writes stores for the tests of the command into a folder, under the password `p`: bags that are not exported, 3,000 certificates,
-8,000,000 octets of one certificate and of many, BER and PEM, and what careless and hostile people hand in.
+8,000,000 octets of one certificate and of many, 60,000 private keys, BER and PEM, and what careless and hostile people hand in.
 
 usage: make_command_stores.py FOLDER
 """
@@ -125,6 +125,7 @@ def keys():
 
     sealed = sealed_key(KEY, PASSWORD, b"saltsalt", 1)
     write("many-keys.p12", plain_store([sealed] * 200))
+    write("large-keys.p12", plain_store([sealed] * 60000))
     small = sealed_key(sequence(number(0), sequence(identifier("1.3.101.112")), octet_string(octet_string(b"k" * 32))), PASSWORD, b"saltsalt", 1)
     header = 2 if small[1] < 128 else 2 + small[1] % 128
     ids = [each.to_bytes(3, "big") for each in range(30000)]

@@ -37,6 +37,13 @@ impl<T> Items<T> {
         Ok(())
     }
 
+    /// Gives back the memory that no item is in.
+    pub fn shrink_to_fit(&mut self)
+        ensures { self.new ≡ self.old }
+    {
+        self.items.shrink_to_fit();
+    }
+
     /// How many items there are.
     pub fn len(&self) -> usize
         ensures { result ≡ length self.now }

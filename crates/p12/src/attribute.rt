@@ -310,6 +310,8 @@ pub(crate) fn attribute_list(
         let item = attribute_in_front(alloc, &mut body)?;
         items.push(item)?;
     }
+    // A store may have tens of thousands of bags, with a list of one or two attributes each.
+    items.shrink_to_fit();
     Ok(items)
 }
 

@@ -99,7 +99,7 @@ fn exported<R: Runtime + AllocGlobal>(
         None => None,
     };
     tell_long_work(rt, around, given.store.as_slice(), rounds);
-    open_and_seal(rt, around, asked, &given, &new_password)
+    open_and_seal(rt, around, asked, given, &new_password)
 }
 
 /// Writes what a store has into the folder that is asked for, which is looked at before any work is done.

@@ -177,17 +177,17 @@ fn sealed_anew<R: Files + Eprint + AllocGlobal + Drop>(
     rt: &R,
     around: Surroundings,
     asked: &Export<'_>,
-    opened: &Opened,
+    opened: Opened,
     new_password: &Option<NewPassword>,
 ) -> Result<Transferred, Failure>
     ensures sealed { IfOk result (λ t. IfSome new_password.now (λ q.
-        SealsOpened asked.now.rounds q None None opened.now.contents opened.now.keys
+        SealsOpened asked.now.rounds q None None opened.contents opened.keys
         t.certificates t.documents)) }
     ensures keyless { IfOk result (λ t. IfNone new_password.now
-        ((opened.now.keys ≡ []) × (t.documents ≡ [])
-        × (t.certificates ≡ all_certificates opened.now.contents))) }
+        ((opened.keys ≡ []) × (t.documents ≡ [])
+        × (t.certificates ≡ all_certificates opened.contents))) }
     ensures err { IfErr result (λ f. (f.ending ≡ Ending.Memory)
-        ⊎ FailsToSeal new_password.now opened.now.keys f.ending) }
+        ⊎ FailsToSeal new_password.now opened.keys f.ending) }
 {
     match new_password {
         Some(new_password) => {
@@ -205,7 +205,8 @@ pub struct Exported {
     pub found: Listing,
 }
 
-/// Opens a store and seals its private keys, over the system's random octets; both as far as they are asked for.
+/// Opens a store and seals its private keys, over the system's random octets; both as far as they are asked for. The octets of the store
+/// are freed when it is opened.
 ///
 /// `Refused` where the store is refused within `asked.limit`, or there are no random octets. `NotExported`, `TooManyFiles` or `SealLimit`
 /// where it is not within the bounds, in this order, and then `NewPasswordMissing` where it has private keys to seal and there is no new
@@ -214,19 +215,20 @@ pub fn open_and_seal<R: Files + Eprint + AllocGlobal + Drop>(
     rt: &R,
     around: Surroundings,
     asked: &Export<'_>,
-    given: &Given,
+    given: Given,
     new_password: &Option<NewPassword>,
 ) -> Result<Exported, Failure>
     requires { ForSome new_password.now (λ q. length q ≡ 0 → IsTrue asked.now.allow_empty) }
-    ensures ok { IfOk result (λ e. Exports asked.now new_password.now given.now.store.items
-        given.now.password e.transferred.certificates e.transferred.documents) }
+    ensures ok { IfOk result (λ e. Exports asked.now new_password.now given.store.items
+        given.password e.transferred.certificates e.transferred.documents) }
     ensures err { IfErr result (λ f. FailsToExport asked.now new_password.now
-        given.now.store.items given.now.password f.ending) }
+        given.store.items given.password f.ending) }
 {
-    let opened = opened(rt.alloc(), given, asked.limit)?;
+    let opened = opened(rt.alloc(), &given, asked.limit)?;
+    drop(given);
     let found = Listing::of(rt.alloc(), opened.contents.as_slice())?;
     let opened = part_of(rt.alloc(), opened, asked.target.part);
     within_bounds(rt.alloc(), asked, &opened, &found)?;
-    let transferred = sealed_anew(rt, around, asked, &opened, new_password)?;
+    let transferred = sealed_anew(rt, around, asked, opened, new_password)?;
     Ok(Exported { transferred, found })
 }

@@ -10,7 +10,7 @@ use std::alloc::Global;
 use std::fs;
 use std::rt::Files;
 use store_opening::{Ending, Failure, NewPassword, RANDOM, refused, tell_sealing};
-use transfer::{Opened, TransferError, Transferred, seal_opened};
+use transfer::{Opened, TransferError, Transferred};
 
 /// What to do where a new password is needed.
 const NEW_PASSWORD: &str = "\
@@ -19,18 +19,18 @@ Run pkcs12 at a terminal, where it asks for it, or give it by one of these:
 To keep the store's: --same-password. To write the certificates alone: --certificates-only.";
 
 /// Seals the keys of an opened store under the new password, in so many rounds, over the system's
-/// random octets. Where `is_shown` is set, the standard error says how many there are and about how
+/// random octets, and frees its bags. Where `is_shown` is set, the standard error says how many there are and about how
 /// long they take, and shows how much is done.
 pub fn sealed_store<R: Files + Eprint + AllocGlobal + Drop>(
     rt: &R,
-    opened: &Opened,
+    opened: Opened,
     new_password: &NewPassword,
     rounds: u32,
     is_shown: bool,
 ) -> Result<Transferred, Failure>
     requires { (1 ≤ rounds) × (rounds ≤ 100000000) }
     ensures ok { IfOk result (λ t. SealsOpened rounds new_password.now None None
-        opened.now.contents opened.now.keys t.certificates t.documents) }
+        opened.contents opened.keys t.certificates t.documents) }
     ensures err { IfErr result (λ f. (f.ending ≡ Ending.Memory)
         ⊎ (f.ending ≡ Ending.Refused TransferError.Rng)) }
 {
@@ -52,7 +52,7 @@ pub fn sealed_store<R: Files + Eprint + AllocGlobal + Drop>(
     let keys = opened.keys.len();
     let mut draw = Progress::new(rt, ReadDraw::new(random), keys, is_shown);
     let new_password = new_password.as_str().as_bytes();
-    let sealed = seal_opened(rt.alloc(), opened, new_password, rounds, &mut draw);
+    let sealed = opened.seal(rt.alloc(), new_password, rounds, &mut draw);
     if is_shown {
         end_progress(rt, keys, sealed.is_ok());
     }
@@ -63,13 +63,13 @@ pub fn sealed_store<R: Files + Eprint + AllocGlobal + Drop>(
 }
 
 /// What an opened store gives where there is no new password: it may have no private keys.
-pub fn certificates_alone(alloc: Global, opened: &Opened) -> Result<Transferred, Failure>
-    ensures keyless { IfOk result (λ t. opened.now.keys ≡ []) }
+pub fn certificates_alone(alloc: Global, opened: Opened) -> Result<Transferred, Failure>
+    ensures keyless { IfOk result (λ t. opened.keys ≡ []) }
     ensures certificates { IfOk result
-        (λ t. t.certificates ≡ all_certificates opened.now.contents) }
+        (λ t. t.certificates ≡ all_certificates opened.contents) }
     ensures documents { IfOk result (λ t. t.documents ≡ []) }
     ensures err { IfErr result (λ f. (f.ending ≡ Ending.Memory)
-        ⊎ ((f.ending ≡ Ending.NewPasswordMissing) × (opened.now.keys ≢ []))) }
+        ⊎ ((f.ending ≡ Ending.NewPasswordMissing) × (opened.keys ≢ []))) }
 {
     if !opened.keys.is_empty() {
         return Err(Failure::new(
@@ -80,7 +80,7 @@ pub fn certificates_alone(alloc: Global, opened: &Opened) -> Result<Transferred,
     }
     // Without a key nothing is sealed, and nothing drawn.
     let mut draw = DrawnBytes::new(Octets::new(alloc));
-    match seal_opened(alloc, opened, b"", 1, &mut draw) {
+    match opened.seal(alloc, b"", 1, &mut draw) {
         Ok(transferred) => Ok(transferred),
         Err(refusal) => Err(refused(refusal)),
     }

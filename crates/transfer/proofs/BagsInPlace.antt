@@ -235,12 +235,3 @@ gathered text rest locks bags none b = by_left b.left refl
     by_left : (left : List (List SafeBag)) → b.left ≡ left → locked_keys text locks ≡ all_shrouded bags
     by_left [] e = sym (append-nil (locked_keys text locks)) ∙ ap (λ t. locked_keys text locks ++ all_shrouded t) (sym e) ∙ b.keys
     by_left (g ∷ left) e = absurd (subst (λ t. Each (BagsAt text) [] t) e (subst (λ t. Each (BagsAt text) t b.left) none b.each))
-
--- Bags at places are the same, however they were read.
-pub bags_alike : (text : List ℕ) (places : List Place) (gss hss : List (List SafeBag)) → Each (BagsAt text) places gss → Each (BagsAt text) places hss → gss ≡ hss
-bags_alike text [] [] [] d e = refl
-bags_alike text [] [] (h ∷ hss) d e = absurd e
-bags_alike text [] (g ∷ gss) hss d e = absurd d
-bags_alike text (p ∷ ps) [] hss d e = absurd d
-bags_alike text (p ∷ ps) (g ∷ gss) [] d e = absurd e
-bags_alike text (p ∷ ps) (g ∷ gss) (h ∷ hss) d e = ap (λ t. t ∷ gss) (bags_sole (at_place p text) g h d.0 e.0) ∙ ap (λ t. h ∷ t) (bags_alike text ps gss hss d.1 e.1)

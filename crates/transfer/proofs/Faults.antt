@@ -112,25 +112,11 @@ pub part_refused : {A B : Type 0} (K : PartKind A B TransferError) (limit sum no
 part_refused K limit sum now xs i x ys old mid new e lt at opened sums is h =
     refused_later (K.Fault now x) (IsFirstFault K limit sum xs) old mid new (sum_by K.share (take i xs)) is (λ e n f. fault_at K limit sum now xs i x ys e n _ lt at opened sums f refl) e h
 
-open_one : {A B : Type 0} (K : PartKind A B TransferError) (limit sum : ℕ) (x : A) (y : B) → K.OpensTo x y → sum + K.share x ≤ limit → AreOpen K limit sum (x ∷ []) (y ∷ [])
-open_one K limit sum x y h le = record { each = (h, tt); within = omega (arith, le, sum_by-append K.share (x ∷ []) []) }
-
 -- What lies after parts that are open.
 pub open_append : {A B : Type 0} (K : PartKind A B TransferError) (limit sum now : ℕ) (xs : List A) (ys : List B) (zs : List A) (ws : List B)
     → AreOpen K limit sum xs ys → now ≡ sum + sum_by K.share xs → AreOpen K limit now zs ws → AreOpen K limit sum (xs ++ zs) (ys ++ ws)
 open_append K limit sum now xs ys zs ws a sums b =
     record { each = each_append K.OpensTo xs ys zs ws a.each b.each; within = omega (arith, sums, b.within, sum_by-append K.share xs zs) }
-
--- One part more is open.
-pub open_more : {A B : Type 0} (K : PartKind A B TransferError) (limit sum now next : ℕ) (xs : List A) (i : ℕ) (x : A) (ys : List B) (y : B)
-    → i < length xs → x ≡ get_or xs i x → AreOpen K limit sum (take i xs) ys → now ≡ sum + sum_by K.share (take i xs) → K.OpensTo x y → next ≡ now + K.share x → next ≤ limit
-    → AreOpen K limit sum (take (i + 1) xs) (ys ++ y ∷ [])
-open_more K limit sum now next xs i x ys y lt at opened sums more is le =
-    subst (λ t. AreOpen K limit sum t (ys ++ y ∷ [])) (sym (take_one xs i x lt at))
-    (open_append K limit sum now (take i xs) ys (x ∷ []) (y ∷ []) opened sums (open_one K limit now x y more (omega (arith, is, le))))
-
-pub share_more : {A : Type 0} (f : A → ℕ) (xs : List A) (i : ℕ) (x : A) → i < length xs → x ≡ get_or xs i x → sum_by f (take (i + 1) xs) ≡ sum_by f (take i xs) + f x
-share_more f xs i x lt at = omega (arith, ap (sum_by f) (take_one xs i x lt at), sum_by-append f (take i xs) (x ∷ []))
 
 -- ---- Where each turn has parts of its own
 

@@ -3,9 +3,11 @@ mod Lengths
 mod Faults
 mod Rows
 mod Overwriting
+mod ContentBags
 mod ContentsInPlace
 mod BagsInPlace
 mod KeysInPlace
+mod BagLengths
 pub mod Sole
 pub mod Valid
 mod Documents

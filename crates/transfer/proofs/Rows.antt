@@ -15,15 +15,19 @@ use Rattle.p12.specs.ContentInfo.{IsContents, NoContents}
 use Rattle.p12.specs.MacData.{is_mac_digest, mac_agrees, mac_steps}
 use Rattle.pkcs12_kdf.specs.Password.{bmp_password}
 use Rattle.p12.specs.Pfx.{IsStore, NoStore}
+use Rattle.p12.specs.Walk.{Walk}
 use Rattle.transfer.specs.Limits.{store_limit}
+use Rattle.transfer.specs.InCopies.{AreListed}
 use Rattle.transfer.specs.declared.store.error.TransferError.{TransferError}
 use Rattle.transfer.specs.declared.store.error.TransferError.TheVariants.{TooLong, Malformed, Unsupported, MacMissing, MacUnsupported, ZeroIterations, WorkLimit, MacMismatch, ContentMalformed}
-use Rattle.transfer.specs.declared.store.open.OpenedContents.{OpenedContents}
+use Rattle.transfer.specs.declared.store.budget.Budget.{Budget}
+use Rattle.transfer.specs.declared.store.open.Listed.{Listed}
 use Rattle.transfer.specs.InPlace.{AreOpened, StandAt}
 use Rattle.transfer.specs.Parts.{AreOpen, IsFirstFault}
 use Rattle.transfer.specs.Opening.{HasVerdict, ContentsTable, KeysTable, MacTable, RefusedAfter, StoreTable, Verdict, all_shrouded, content_share, key_share, of_contents, of_keys, opened, refused}
 use Rattle.transfer.specs.Verdicts.{IsMacOk}
 use Rattle.transfer.proofs.Faults.{refused_later, refused_after_as, true_false}
+use Rattle.transfer.proofs.Lengths.{contents_within}
 
 mac_none : {P : Type 0} (r : Option MacData) (m : MacData) → r ≡ Some m → r ≡ None → P
 mac_none r m h k = grind (arith, h, k)
@@ -85,23 +89,39 @@ has_contents p limit v m cs w n ok l k t =
 
 -- ---- The contents of a store whose MAC agrees
 
-module _ (p : List ℕ) (limit allowed : ℕ) (v : List ℕ) (m : MacData) (cs : List ContentInfo) (sum : ℕ) (ok : IsMacOk p v m) (within : m.iterations ≤ limit) (is : IsContents v cs) (same : allowed ≡ limit) (spent : sum ≡ m.iterations) where
-  pub contents_so : (text : List ℕ) (places : List Place) (now : ℕ) (gss : List (List SafeBag)) → AreOpen (of_contents p allowed) allowed sum cs gss → StandAt text places gss → length text ≤ store_limit
-      → now ≡ sum + sum_by content_share cs → AreOpened (MacTable p limit v m) p limit text places now
-  contents_so text places now gss a stand short n = record {
-    bags = gss;
-    stand = stand;
-    short = short;
-    decides = λ w k t. has_contents p limit v m cs w k ok within is
-        (contents_then p limit m.iterations now cs gss w k (subst (λ s. AreOpen (of_contents p limit) limit s cs gss) spent (subst (λ l. AreOpen (of_contents p l) l sum cs gss) same a)) (omega (arith, n, spent)) t);
-  }
+pub listed_so : (p : List ℕ) (limit : ℕ) (text : Bor (List ℕ)) (m : MacData) (contents : Walk ContentInfo) (budget : Budget) → IsMacOk p text.now m → m.iterations ≤ limit → length text.now ≤ store_limit
+    → IsContents text.now contents.left → contents.bytes ≡ text.now → budget.spent ≡ m.iterations → AreListed (MacTable p limit text.now m) p limit (record { text = text; contents = contents; budget = budget })
+listed_so p limit text m contents budget ok within short is bytes spent = record {
+  bytes = bytes;
+  short = short;
+  fit = contents_within text.now contents.left short is;
+  decides = λ w n t. has_contents p limit text.now m contents.left w n ok within is (subst (λ s. ContentsTable p limit s contents.left w n) spent t);
+}
 
-  pub contents_refused_so : (old mid new : ℕ) (e : TransferError) → mid ≡ old + m.iterations → RefusedAfter (IsFirstFault (of_contents p allowed) allowed sum cs) mid new e
-      → RefusedAfter (λ e n. MacTable p limit v m (refused e) n) old new e
+-- What is decided by T is decided by U.
+pub listed_within : (T U : Verdict → ℕ → Type 0) (p : List ℕ) (limit old new : ℕ) (r : Result Listed TransferError) → ((w : Verdict) (n : ℕ) → T w n → U w n)
+    → IfOk r (λ l. AreListed T p limit l × (l.budget.limit ≡ limit) × (new ≡ old + l.budget.spent))
+    → IfOk r (λ l. AreListed U p limit l × (l.budget.limit ≡ limit) × (new ≡ old + l.budget.spent))
+listed_within T U p limit old new (Ok l) f h = (record { bytes = h.0.bytes; short = h.0.short; fit = h.0.fit; decides = λ w n t. f w n (h.0.decides w n t) }, h.1, h.2)
+listed_within T U p limit old new (Err e) f h = tt
+
+module _ (T : Verdict → ℕ → Type 0) (p : List ℕ) (limit : ℕ) (l : Listed) (listed : AreListed T p limit l) (same : l.budget.limit ≡ limit) where
+  -- What the keys of opened contents come to decides T.
+  pub contents_decide : (now : ℕ) (gss : List (List SafeBag)) → AreOpen (of_contents p l.budget.limit) l.budget.limit l.budget.spent l.contents.left gss → now ≡ l.budget.spent + sum_by content_share l.contents.left
+      → (w : Verdict) (n : ℕ) → KeysTable p limit now gss w n → T w n
+  contents_decide now gss a is w n t =
+      listed.decides w n (contents_then p limit l.budget.spent now l.contents.left gss w n (subst (λ k. AreOpen (of_contents p k) k l.budget.spent l.contents.left gss) same a) is t)
+
+  pub contents_so : (text : List ℕ) (places : List Place) (now : ℕ) (gss : List (List SafeBag)) → AreOpen (of_contents p l.budget.limit) l.budget.limit l.budget.spent l.contents.left gss → StandAt text places gss
+      → length text ≤ store_limit → now ≡ l.budget.spent + sum_by content_share l.contents.left → AreOpened T p limit text places now
+  contents_so text places now gss a stand short n = record { bags = gss; stand = stand; short = short; decides = contents_decide now gss a n }
+
+  pub contents_refused_so : (old mid new : ℕ) (e : TransferError) → mid ≡ old + l.budget.spent → RefusedAfter (IsFirstFault (of_contents p l.budget.limit) l.budget.limit l.budget.spent l.contents.left) mid new e
+      → RefusedAfter (λ e n. T (refused e) n) old new e
   contents_refused_so old mid new e steps h =
-      refused_later (IsFirstFault (of_contents p limit) limit m.iterations cs) (λ e n. MacTable p limit v m (refused e) n) old mid new m.iterations steps
-      (λ e n f. has_contents p limit v m cs (refused e) (m.iterations + n) ok within is (content_fault p limit m.iterations cs e n f)) e
-      (subst (λ s. RefusedAfter (IsFirstFault (of_contents p limit) limit s cs) mid new e) spent (subst (λ l. RefusedAfter (IsFirstFault (of_contents p l) l sum cs) mid new e) same h))
+      refused_later (IsFirstFault (of_contents p limit) limit l.budget.spent l.contents.left) (λ e n. T (refused e) n) old mid new l.budget.spent steps
+      (λ e n f. listed.decides (refused e) (l.budget.spent + n) (content_fault p limit l.budget.spent l.contents.left e n f)) e
+      (subst (λ k. RefusedAfter (IsFirstFault (of_contents p k) k l.budget.spent l.contents.left) mid new e) same h)
 
 -- ---- The store
 
@@ -134,23 +154,7 @@ has_mac p limit s v m w n h k t = inr (λ none. none v h, (v, h, inr (λ z. mac_
 
 -- ---- A part of the opening is what the whole comes to
 
--- F of what follows after k steps is G of the whole.
-pub opened_as : {T : Type 0} (r : Result T TransferError) (F G : T → ℕ → Type 0) (old mid new k : ℕ) → mid ≡ old + k → ((v : T) (n : ℕ) → F v n → G v (k + n))
-    → IfOk r (λ v. (n : ℕ) × F v n × (new ≡ mid + n)) → IfOk r (λ v. (n : ℕ) × G v n × (new ≡ old + n))
-opened_as (Ok v) F G old mid new k is f h = (k + h.0, f v h.0 h.1, omega (arith, is, h.2))
-opened_as (Err e) F G old mid new k is f h = tt
-
-pub refused_by : {T : Type 0} (r : Result T TransferError) (F G : TransferError → ℕ → Type 0) (old mid new k : ℕ) → mid ≡ old + k → ((e : TransferError) (n : ℕ) → F e n → G e (k + n))
-    → IfErr r (RefusedAfter F mid new) → IfErr r (RefusedAfter G old new)
-refused_by (Ok v) F G old mid new k is f h = tt
-refused_by (Err e) F G old mid new k is f h = refused_later F G old mid new k is f e h
-
--- The same where no step was taken before.
-pub opened_still : {T : Type 0} (r : Result T TransferError) (F G : T → ℕ → Type 0) (old new : ℕ) → ((v : T) (n : ℕ) → F v n → G v n) → IfOk r (λ v. (n : ℕ) × F v n × (new ≡ old + n))
-    → IfOk r (λ v. (n : ℕ) × G v n × (new ≡ old + n))
-opened_still (Ok v) F G old new f h = (h.0, f v h.0 h.1, h.2)
-opened_still (Err e) F G old new f h = tt
-
+-- A refusal by F is one by G, where no step was taken before.
 pub refused_still : {T : Type 0} (r : Result T TransferError) (F G : TransferError → ℕ → Type 0) (old new : ℕ) → ((e : TransferError) (n : ℕ) → F e n → G e n) → IfErr r (RefusedAfter F old new)
     → IfErr r (RefusedAfter G old new)
 refused_still (Ok v) F G old new f h = tt
@@ -158,19 +162,20 @@ refused_still (Err e) F G old new f h = refused_after_as F G old new f e h
 
 -- ---- The keys of a store whose contents are open
 
+module _ (T : Verdict → ℕ → Type 0) (p : List ℕ) (limit allowed spent : ℕ) (gss : List (List SafeBag)) (decides : (w : Verdict) (n : ℕ) → KeysTable p limit spent gss w n → T w n) (same : allowed ≡ limit) where
+  pub keys_decide : (ks : List (List ℕ)) → AreOpen (of_keys p allowed) allowed spent (all_shrouded gss) ks → T (opened gss ks) (spent + sum_by key_share (all_shrouded gss))
+  keys_decide ks a = decides _ _ (all_open p limit spent gss ks (subst (λ n. AreOpen (of_keys p n) n spent (all_shrouded gss) ks) same a))
+
+  pub keys_refused_so : (old mid new : ℕ) (e : TransferError) → mid ≡ old + spent → RefusedAfter (IsFirstFault (of_keys p allowed) allowed spent (all_shrouded gss)) mid new e
+      → RefusedAfter (λ e n. T (refused e) n) old new e
+  keys_refused_so old mid new e is h =
+      refused_later (IsFirstFault (of_keys p limit) limit spent (all_shrouded gss)) (λ e n. T (refused e) n) old mid new spent is (λ e n f. decides _ _ (key_fault p limit spent gss e n f)) e
+      (subst (λ n. RefusedAfter (IsFirstFault (of_keys p n) n spent (all_shrouded gss)) mid new e) same h)
+
 module _ (T : Verdict → ℕ → Type 0) (p : List ℕ) (limit allowed : ℕ) (text : List ℕ) (places : List Place) (spent : ℕ) (o : AreOpened T p limit text places spent) (same : allowed ≡ limit) where
   pub opened_so : (ks : List (List ℕ)) → AreOpen (of_keys p allowed) allowed spent (all_shrouded o.bags) ks → T (opened o.bags ks) (spent + sum_by key_share (all_shrouded o.bags))
-  opened_so ks a = o.decides _ _ (all_open p limit spent o.bags ks (subst (λ n. AreOpen (of_keys p n) n spent (all_shrouded o.bags) ks) same a))
+  opened_so = keys_decide T p limit allowed spent o.bags o.decides same
 
   pub refused_so : (old mid new : ℕ) (e : TransferError) → mid ≡ old + spent → RefusedAfter (IsFirstFault (of_keys p allowed) allowed spent (all_shrouded o.bags)) mid new e
       → RefusedAfter (λ e n. T (refused e) n) old new e
-  refused_so old mid new e is h =
-      refused_later (IsFirstFault (of_keys p limit) limit spent (all_shrouded o.bags)) (λ e n. T (refused e) n) old mid new spent is (λ e n f. o.decides _ _ (key_fault p limit spent o.bags e n f)) e
-      (subst (λ n. RefusedAfter (IsFirstFault (of_keys p n) n spent (all_shrouded o.bags)) mid new e) same h)
-
--- What is decided by T is decided by U.
-pub opened_within : (T U : Verdict → ℕ → Type 0) (p : List ℕ) (limit old new : ℕ) (r : Result OpenedContents TransferError) → ((w : Verdict) (n : ℕ) → T w n → U w n)
-    → IfOk r (λ o. AreOpened T p limit o.text o.places o.budget.spent × (o.budget.limit ≡ limit) × (new ≡ old + o.budget.spent))
-    → IfOk r (λ o. AreOpened U p limit o.text o.places o.budget.spent × (o.budget.limit ≡ limit) × (new ≡ old + o.budget.spent))
-opened_within T U p limit old new (Ok o) f h = (record { bags = h.0.bags; stand = h.0.stand; short = h.0.short; decides = λ w n t. f w n (h.0.decides w n t) }, h.1, h.2)
-opened_within T U p limit old new (Err e) f h = tt
+  refused_so = keys_refused_so T p limit allowed spent o.bags o.decides same

@@ -1,7 +1,7 @@
 -- Texts of private keys that were part of a store.
 use Rattle.std.proofs.Common.{◌≡◌, ◌∙◌, ℕ, zero, suc, ◌+◌, ◌<◌, List, [], ◌∷◌, ◌++◌, length, take, get_or, sym, ap, ap₂, subst, arith}
 use Rattle.std.specs.Prelude.{All}
-use Rattle.std.proofs.lemmas.List.Elements.{All-append, All-map}
+use Rattle.std.proofs.lemmas.List.Elements.{All-append}
 use Rattle.der_core.specs.BitString.{seen_bits}
 use Rattle.pkcs8.specs.Seen.{seen_private_key}
 use Rattle.spki.specs.Seen.{borrowed_any}
@@ -18,12 +18,8 @@ stored_at texts i text all lt is = subst IsStoredKey (sym is) (all i text lt)
 pub none_unread : {P : Type 0} (texts : List (List ℕ)) (i : ℕ) (text seen : List ℕ) → All IsStoredKey texts → i < length texts → text ≡ get_or texts i text → seen ≡ text → NoKeyText seen → P
 none_unread texts i text seen all lt is same none = absurd ((stored_at texts i text all lt is).0 (subst NoKeyText same none))
 
-opened_stored : (k : OpenedKey) → IsOpenedKey k → IsStoredKey k.text.now
+pub opened_stored : (k : OpenedKey) → IsOpenedKey k → IsStoredKey k.text.now
 opened_stored k is = (λ none. none (seen_private_key borrowed_any (λ s. s.octets.now) (λ s. seen_bits s.unused_bits s.octets.now) k.key) is.0, is.1)
-
-pub all_stored : (keys : List OpenedKey) (texts : List (List ℕ)) → texts ≡ texts_of keys → All IsOpenedKey keys → All IsStoredKey texts
-all_stored keys texts same all =
-    subst (All IsStoredKey) (sym same) (All-map IsStoredKey (λ (k : OpenedKey). k.text.now) keys (λ i d lt. opened_stored (get_or keys i d) (all i d lt)))
 
 all_one : {X : Type 0} (P : X → Type 0) (x : X) → P x → All P (x ∷ [])
 all_one P x h zero d lt = h

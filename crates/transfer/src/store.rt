@@ -1,7 +1,9 @@
 //! A store of keys and certificates (RFC 7292): its opening, in the order of the causes to refuse it, and its transfer.
+pub(crate) mod bag_keys;
 pub(crate) mod bags;
 pub(crate) mod budget;
 pub(crate) mod certificates;
+pub(crate) mod content_bags;
 pub(crate) mod contents;
 pub(crate) mod copies;
 pub(crate) mod error;

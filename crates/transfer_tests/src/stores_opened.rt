@@ -199,6 +199,13 @@ fn opened_and_sealed(alloc: Global, store: &[u8]) -> Result<Transferred, Transfe
     seal_opened(alloc, &opened, b"q", 1, &mut draw)
 }
 
+/// Opens a store, and seals its key as `opened_and_sealed` does, which takes the opened store over.
+fn opened_and_taken_over(alloc: Global, store: &[u8]) -> Result<Transferred, TransferError> {
+    let opened = opened(alloc, store, 6144)?;
+    let mut draw = DrawnBytes::new(Octets::from_slice(alloc, &[0; 32])?);
+    opened.seal(alloc, b"q", 1, &mut draw)
+}
+
 /// Whether a transfer gives the same.
 fn is_transferred(alloc: Global, answer: Result<Transferred, TransferError>) -> bool {
     match answer {
@@ -211,6 +218,7 @@ fn is_transferred(alloc: Global, answer: Result<Transferred, TransferError>) -> 
 fn opening_and_sealing_is_a_transfer(rt: HostRuntime) {
     let alloc = rt.alloc();
     assert!(rt; is_transferred(alloc, opened_and_sealed(alloc, TODAY)));
+    assert!(rt; is_transferred(alloc, opened_and_taken_over(alloc, TODAY)));
 }
 
 /// Whether a store was transferred, and has no certificate.

@@ -22,7 +22,7 @@ use std::sync::ledger::Ledger;
 use steps::Steps;
 
 /// Opens an encrypted key where it lies, and lends the private key that it is.
-fn open_key<'a, L: Ledger>(
+pub(crate) fn open_key<'a, L: Ledger>(
     alloc: Global,
     algorithm: &AlgorithmIdentifier,
     octets: &'a mut [u8],

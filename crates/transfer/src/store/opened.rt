@@ -1,20 +1,18 @@
 //! Opening a store for its bags and its keys.
 ghost use Rattle.std.specs.Prelude.{◌≡◌, ◌+◌, ◌≤◌, ◌<◌, ◌^◌, All, ℕ, length, IfOk, IfErr};
 ghost use Rattle.transfer.specs.declared.store.error.TransferError.TheVariants as refusal;
-ghost use Rattle.transfer.specs.InPlace.{texts_of};
 ghost use Rattle.transfer.specs.Opening.{HasVerdict, IsStoredKey, RefusedAfter, refused};
 ghost use Rattle.transfer.specs.Transferred.{IsDecided};
 ghost use Rattle.transfer.specs.Verdicts.{StoreOpens};
 
-use crate::store::bags::bags_of;
+use crate::store::bag_keys::open_keys_of;
+use crate::store::content_bags::bags_of_contents;
 use crate::store::copies::{copied, copied_contents};
 use crate::store::error::TransferError;
-use crate::store::key_text::OpenedKey;
-use crate::store::keys::open_keys;
-use crate::store::open::{OpenedContents, open_parts};
+use crate::store::open::list_contents;
 use asn1_core::{Items, Octets};
 use p12::SafeBag;
-use std::alloc::{AllocError, Global};
+use std::alloc::Global;
 use std::sync::ledger::Ledger;
 use steps::Steps;
 
@@ -41,17 +39,6 @@ impl Opened {
     }
 }
 
-/// Copies of the texts of keys. The only error is out of memory.
-fn copies_of(alloc: Global, keys: &[OpenedKey<'_>]) -> Result<Items<Octets>, AllocError>
-    ensures { IfOk result (λ texts. texts ≡ texts_of keys.now) }
-{
-    let mut texts = Items::new(alloc);
-    for key in keys {
-        texts.push(Octets::from_slice(alloc, key.text)?)?;
-    }
-    Ok(texts)
-}
-
 /// Opens the store under the password: the bags of each content, and the octets of each encrypted private key.
 ///
 /// `limit` is the most steps. A step is one digest of an iteration of RFC 7292 appendix B, or one output of the pseudorandom
@@ -76,15 +63,9 @@ pub fn open_store<L: Ledger>(
     ensures exact { IsDecided store.now password.now limit result }
     ensures at_most { (steps.old ≤ steps.new) × (steps.new ≤ steps.old + limit) }
 {
-    let opened = open_parts(alloc, store, password, limit, steps)?;
-    let OpenedContents {
-        mut text,
-        places,
-        mut budget,
-    } = opened;
-    let places = places.as_slice();
-    let contents = bags_of(alloc, text.as_slice(), places)?;
-    let opened_keys = open_keys(alloc, &mut text, places, password, &mut budget, steps)?;
-    let keys = copies_of(alloc, opened_keys.as_slice())?;
+    let listed = list_contents(alloc, store, password, limit, steps)?;
+    let mut budget = listed.budget;
+    let contents = bags_of_contents(alloc, listed.contents, password, &mut budget, steps)?;
+    let keys = open_keys_of(alloc, contents.as_slice(), password, &mut budget, steps)?;
     Ok(Opened { contents, keys })
 }

@@ -1,6 +1,6 @@
-use Rattle.std.proofs.Common.{[], ◌∷◌, ◌++◌, ap, sym, ◌∙◌, append-nil}
+use Rattle.std.proofs.Common.{[], ◌∷◌, ◌++◌, ap, sym, ◌∙◌}
 use Rattle.p12.specs.SafeBag.{x509_of}
-use Rattle.p12.specs.Collected.{certificates_among, at_most_one}
+use Rattle.p12.specs.Collected.{at_most_one}
 use Rattle.p12.specs.BagView.{seen_bag}
 use Rattle.transfer.proofs.BagsInPlace.{certificates_on}
 use Rattle.transfer.proofs.store.certificates.add_certificates.Goals as goal

@@ -1,8 +1,9 @@
-use Rattle.std.proofs.Common.{arith, subst, ◌∙◌, sym}
+use Rattle.std.proofs.Common.{arith, subst, ◌∙◌}
 use Rattle.transfer.specs.Opening.{ContentCause, RefusedAfter}
 use Rattle.std.proofs.lemmas.Result.{err_from_is_err_and}
 use Rattle.p12.specs.ContentView.{seen_content}
-use Rattle.transfer.proofs.ContentsInPlace.{all_before, all_opened, all_stand, fault_now, fit_now, opens_first, opens_on, room_now, stands_now}
+use Rattle.transfer.proofs.ContentBags.{fault_now}
+use Rattle.transfer.proofs.ContentsInPlace.{opens_first, opens_on, stands_now}
 use Rattle.transfer.proofs.store.contents.open_contents.Goals as goal
 
 pub loop-content-init : goal.loop-content-init
@@ -30,5 +31,5 @@ pub returns-in_err-place-clause-refused : goal.returns-in_err-place-clause-refus
 returns-in_err-place-clause-refused g c =
     let p = err_from_is_err_and c.from_residual.result c.from_residual.ensures.1 in
     let i = c.loop-content.invariant in
-    rw (p.1, p.2) (fault_now _ _ _ _ _ _ _ _ i.done _ _ c.in-Some.ensures.some c.in_err-place.field-0.0 c.args.steps.now c.loop-content.steps c.open_content.new.steps (omega (arith, i.steps, i.done.is))
+    rw (p.1, p.2) (fault_now _ _ _ _ _ _ _ i.done.held _ _ c.in-Some.ensures.some c.in_err-place.field-0.0 c.args.steps.now c.loop-content.steps c.open_content.new.steps (omega (arith, i.steps, i.done.held.is))
     (subst (λ limit. RefusedAfter (ContentCause c.args.password.now limit c.loop-content.budget.spent (seen_content c.in-Some.content)) c.loop-content.steps c.open_content.new.steps c.in_err-place.field-0.0) i.same c.in_err-place.ensures.refused))

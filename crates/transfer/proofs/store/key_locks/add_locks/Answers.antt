@@ -1,7 +1,6 @@
-use Rattle.std.proofs.Common.{ap, refl, ◌+◌, ◌∙◌, inl, inr}
+use Rattle.std.proofs.Common.{ap, refl, ◌+◌, inl, inr}
 use Rattle.p12.specs.BagView.{seen_bag}
 use Rattle.p12.specs.declared.place.Place.{Place}
-use Rattle.transfer.specs.declared.store.key_locks.KeyLock.{KeyLock}
 use Rattle.transfer.specs.Opening.{shrouded_in}
 use Rattle.transfer.proofs.BagsInPlace.{adds, collects_first, on_key, on_other}
 use Rattle.transfer.proofs.store.key_locks.add_locks.Goals as goal

@@ -1,5 +1,5 @@
-use Rattle.std.proofs.Common.{arith, rules, ◌∙◌}
-use Rattle.std.proofs.lemmas.Slice.{overwrites, take-put_mid_below, drop-put_mid}
+use Rattle.std.proofs.Common.{rules}
+use Rattle.std.proofs.lemmas.Slice.{overwrites}
 use Rattle.transfer.proofs.store.lock.open_lock.Goals as goal
 
 pub returns-clause-kept : goal.returns-clause-kept

@@ -1,53 +1,28 @@
-use Rattle.std.proofs.Common.{ap, arith}
-use Rattle.asn1_core.specs.Texts.{seen_option}
-use Rattle.p12.specs.ContentView.{seen_content}
-use Rattle.p12.specs.MacView.{seen_mac}
-use Rattle.p12.specs.StoreView.{seen_store}
-use Rattle.transfer.specs.Opening.{HasVerdict, MacTable, refused}
-use Rattle.transfer.proofs.Lengths.{salt_fits}
-use Rattle.transfer.proofs.Rows.{has_mac, has_store, no_data, no_mac, no_store, not_plain, opened_within, refused_still, too_long}
+use Rattle.std.proofs.Common.{◌∙◌, arith, ap, length, sym, subst, List, ℕ, ◌≡◌}
+use Rattle.std.proofs.lemmas.Result.{err_from_is_err_and}
+use Rattle.transfer.specs.InPlace.{AreOpened}
+use Rattle.transfer.specs.Opening.{HasVerdict}
+use Rattle.transfer.proofs.Overwriting.{lent_whole}
+use Rattle.transfer.proofs.Rows.{contents_refused_so, contents_so}
 use Rattle.transfer.proofs.store.open.open_parts.Goals as goal
 
-pub returns-then-store-gt-STORE_LIMIT-clause-refused : goal.returns-then-store-gt-STORE_LIMIT-clause-refused
-returns-then-store-gt-STORE_LIMIT-clause-refused g c = (0, too_long c.args.store.now c.args.password.now c.args.limit (grind arith), omega arith)
-
-pub returns-in-Err-clause-refused : goal.returns-in-Err-clause-refused
-returns-in-Err-clause-refused g c = (0, no_store c.args.store.now c.args.password.now c.args.limit (grind arith) c.in-Err.ensures.err.1, omega arith)
-
-pub returns-in_default : goal.returns-in_default
-returns-in_default g c = record {
-  opened = tt;
-  refused = (
-    0,
-    has_store c.args.store.now c.args.password.now c.args.limit (seen_store c.in-Ok.store) _ _ (grind arith) c.in-Ok.ensures.ok
-        (no_data c.args.password.now c.args.limit (seen_store c.in-Ok.store) (λ v h. not_plain c.in-Ok.store.auth_safe (λ x at e. c.in_default.not-Plain x at e) v h)),
-    omega arith,
-  );
-  at_most = (omega arith, omega arith);
-}
-
-pub returns-in_default-mac_data-clause-refused : goal.returns-in_default-mac_data-clause-refused
-returns-in_default-mac_data-clause-refused g c = (
-  0,
-  has_store c.args.store.now c.args.password.now c.args.limit (seen_store c.in-Ok.store) _ _ (grind arith) c.in-Ok.ensures.ok
-      (no_mac c.args.password.now c.args.limit (seen_store c.in-Ok.store) c.in-Plain.content.now (ap seen_content c.in-Plain.is) (ap (seen_option seen_mac) c.in_default-mac_data.is)),
-  omega arith,
-)
-
-pub open_text-requires-clause-salt : goal.open_text-requires-clause-salt
-open_text-requires-clause-salt g c = (salt_fits c.args.store.now (seen_store c.in-Ok.store) (seen_mac c.in-Some.mac) (grind arith) c.in-Ok.ensures.ok (ap (seen_option seen_mac) c.in-Some.is))
+pub returns-in_err-places-clause-refused : goal.returns-in_err-places-clause-refused
+returns-in_err-places-clause-refused g c =
+    let l = c.in_ok-listed.ensures.listed in
+    let q = err_from_is_err_and c.from_residual-in_err-places.result c.from_residual-in_err-places.ensures.1 in
+    rw (q.1, q.2) (contents_refused_so (HasVerdict c.args.store.now c.args.password.now c.args.limit) c.args.password.now c.args.limit c.in_ok-listed.listed l.0 l.1
+    c.args.steps.now c.list_contents.new.steps c.open_contents.new.steps c.in_err-places.field-0.0 l.2 c.in_err-places.ensures.refused)
 
 pub returns-clause-opened : goal.returns-clause-opened
 returns-clause-opened g c =
-    opened_within (MacTable c.args.password.now c.args.limit c.in-Plain.content.now (seen_mac c.in-Some.mac)) (HasVerdict c.args.store.now c.args.password.now c.args.limit) c.args.password.now c.args.limit _ _ c.open_text.result
-    (λ w n t. has_store c.args.store.now c.args.password.now c.args.limit (seen_store c.in-Ok.store) w n (grind arith) c.in-Ok.ensures.ok
-    (has_mac c.args.password.now c.args.limit (seen_store c.in-Ok.store) c.in-Plain.content.now (seen_mac c.in-Some.mac) w n (ap seen_content c.in-Plain.is) (ap (seen_option seen_mac) c.in-Some.is) t))
-    c.open_text.ensures.opened
-
-pub returns-clause-refused : goal.returns-clause-refused
-returns-clause-refused g c =
-    refused_still c.open_text.result (λ e n. MacTable c.args.password.now c.args.limit c.in-Plain.content.now (seen_mac c.in-Some.mac) (refused e) n)
-    (λ e n. HasVerdict c.args.store.now c.args.password.now c.args.limit (refused e) n) _ _
-    (λ e n t. has_store c.args.store.now c.args.password.now c.args.limit (seen_store c.in-Ok.store) _ _ (grind arith) c.in-Ok.ensures.ok
-    (has_mac c.args.password.now c.args.limit (seen_store c.in-Ok.store) c.in-Plain.content.now (seen_mac c.in-Some.mac) _ _ (ap seen_content c.in-Plain.is) (ap (seen_option seen_mac) c.in-Some.is) t))
-    c.open_text.ensures.refused
+    let l = c.in_ok-listed.ensures.listed in
+    let o = c.in_ok-places.ensures.opened in
+    let size : length c.open_contents.new.text ≡ length c.in_ok-text.text = omega (arith, c.open_contents.auto.text, ap length c.as_mut_slice-whole.ensures.value) in
+    let all = lent_whole c.open_contents.new.text c.in_ok-text.text size in
+    let T = HasVerdict c.args.store.now c.args.password.now c.args.limit in (
+      subst (λ (t : List ℕ). AreOpened T c.args.password.now c.args.limit t c.in_ok-places.places c.open_contents.new.budget.spent) (sym all)
+          (contents_so T c.args.password.now c.args.limit c.in_ok-listed.listed l.0 l.1
+          c.open_contents.new.text c.in_ok-places.places c.open_contents.new.budget.spent o.0 o.1 o.2 (omega (arith, size, ap length c.in_ok-text.ensures, l.0.short)) o.3.1),
+      o.3.0 ∙ l.1,
+      omega (arith, o.3.1, o.4, l.2),
+    )

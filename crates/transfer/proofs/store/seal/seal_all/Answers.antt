@@ -1,5 +1,4 @@
-use Rattle.std.proofs.Common.{[], ◌++◌, ◌≡◌, ◌+◌, ◌*◌, ◌≤◌, ◌∙◌, List, ap, append_assoc, arith, length, refl, rules, sym}
-use Rattle.std.proofs.lemmas.List.{length-append, length-map}
+use Rattle.std.proofs.Common.{[], ◌++◌, ◌∙◌, List, ap, append_assoc, length, refl, rules, sym}
 use Rattle.std.proofs.lemmas.Result.{err_from_is_err_and}
 use Rattle.std.specs.Slice.Iter.{chunks_rest}
 use Rattle.transfer.specs.declared.store.key_text.OpenedKey.{OpenedKey}
