@@ -372,7 +372,10 @@ holds the_number_of_files_is_bounded many_files
 # The largest resident set for each octet of the store. Where that of the Python here is larger, it counts.
 memory() {
     for store in large large-many large-keys; do
-        [ -f "$work/$store.p12" ] || continue
+        [ -f "$work/$store.p12" ] || {
+            echo "skipped $store: python3 has no cryptography"
+            continue
+        }
         "${PYTHON:-python3}" - "$work/$store.p12" "$program" export "$work/$store.p12" --out "$work/$store" --one-file \
             --password-file "$work/p" --same-password --rounds 1 --most-files 60000 >"$work/told" 2>/dev/null <<'END' || return 1
 import os

@@ -55,9 +55,9 @@ int main(int argc, char **argv)
 {
     read_inputs(argc, argv);
     for (int which = 0; which < 4; which++) {
-        size_t needed;
+        size_t needed, due;
         refused = requests = live = 0;
-        if (call(which, &needed) != PKCS12_DONE || live)
+        if (call(which, &due) != PKCS12_DONE || live)
             return wrong("the store is refused, or memory is kept");
         long all = requests, moved = 0;
         memcpy(whole, output, sizeof output);
@@ -70,7 +70,7 @@ int main(int argc, char **argv)
             uint32_t returned = call(which, &needed);
             if (live)
                 return wrong("memory is kept");
-            if (returned == PKCS12_DONE && ++moved <= lists && !memcmp(output, whole, needed))
+            if (returned == PKCS12_DONE && needed == due && !memcmp(output, whole, due) && ++moved <= lists)
                 continue;
             if (returned != PKCS12_MEMORY || needed)
                 return wrong("not out of memory");
