@@ -60,6 +60,8 @@ memory certificates 10000 --one-file
 memory long-keys 10000
 memory long-keys 10000 --one-file
 memory keys 60000 --one-file
+memory short 24000 --one-file
+memory short-aes 24000 --one-file
 # None of its certificates is one, and each has a warning.
 memory pairs 60000 --one-file 2>/dev/null
 echo

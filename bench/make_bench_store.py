@@ -20,6 +20,9 @@ writes the store to STORE and its hexadecimal line to STORE.hex. The kinds:
     long-keys NUMBER      NUMBER private keys of 1,200 octets under Triple DES, counts 1
     pairs NUMBER          NUMBER certificates of two octets, and as many private keys under Triple DES, counts 1, in the other
                           order, with the local key ids of the certificates
+    short NUMBER          NUMBER certificates of the example, and as many private keys of Ed25519 under Triple DES, counts 1, each with a local
+                          key id of 20 octets
+    short-aes NUMBER      the same, all in one content under AES-256 (PBES2, HMAC-SHA256)
 """
 
 import os
@@ -85,15 +88,14 @@ def sealed_store(certificate, count):
     return with_mac(make.sequence(make.sealed(bags, PASSWORD, CONTENT_SALT, count)), count)
 
 
-def aes_content(certificate, rounds):
+def aes_content(bags, rounds):
     parameters = CONTENT_SALT, rounds, None, HMAC_SHA256, AES_256_CBC, bytes(16)
-    bags = make.padded(make.sequence(make.certificate_bag(certificate)), 16)
-    ciphertext = make.encrypt_pbes2(PASSWORD, parameters, bags)
+    ciphertext = make.encrypt_pbes2(PASSWORD, parameters, make.padded(make.sequence(*bags), 16))
     return make.encrypted_data(make.pbes2(parameters), ciphertext)
 
 
-def aes_store(certificate):
-    return with_mac(make.sequence(aes_content(certificate, 1)))
+def aes_store(bags):
+    return with_mac(make.sequence(aes_content(bags, 1)))
 
 
 def long_keys(number):
@@ -106,6 +108,14 @@ def pairs_store(number):
     certificates = [make.certificate_bag(bytes.fromhex("3000"), key_id) for key_id in ids]
     keys = [make.sealed_key(key_of(b"key"), PASSWORD, at.to_bytes(8, "big"), 1, key_id) for at, key_id in enumerate(ids)]
     return plain_bags(certificates + keys[::-1])
+
+
+def short_bags(number):
+    certificate = example_certificate()
+    key = make.sequence(make.number(0), make.sequence(make.identifier("1.3.101.112")), make.octet_string(make.octet_string(bytes(32))))
+    ids = [make.local_key_id(at.to_bytes(20, "big")) for at in range(number)]
+    return [make.certificate_bag(certificate, key_id) for key_id in ids] + [
+        make.sealed_key(key, PASSWORD, at.to_bytes(8, "big"), 1, key_id) for at, key_id in enumerate(ids)]
 
 
 def keys_store(number):
@@ -138,7 +148,7 @@ def store_of(kind, number):
     if kind == "sealed":
         return sealed_store(of_length(number, long_certificate), 1)
     if kind == "sealed-aes":
-        return aes_store(of_length(number, long_certificate))
+        return aes_store([make.certificate_bag(of_length(number, long_certificate))])
     if kind == "keys":
         return keys_store(number)
     if kind == "keys-aes":
@@ -146,13 +156,17 @@ def store_of(kind, number):
     if kind == "hundred-keys-aes":
         return aes_keys_store(100, number)
     if kind == "contents-aes":
-        return with_mac(make.sequence(*[aes_content(example_certificate(), number)] * 2))
+        return with_mac(make.sequence(*[aes_content([make.certificate_bag(example_certificate())], number)] * 2))
     if kind == "certificates":
         return plain_bags([make.certificate_bag(of_length(1000, long_certificate))] * number)
     if kind == "long-keys":
         return long_keys(number)
     if kind == "pairs":
         return pairs_store(number)
+    if kind == "short":
+        return plain_bags(short_bags(number))
+    if kind == "short-aes":
+        return aes_store(short_bags(number))
     sys.exit(__doc__)
 
 
