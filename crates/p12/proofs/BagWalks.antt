@@ -6,7 +6,7 @@ use Rattle.asn1_core.specs.declared.identifier.ObjectIdentifier.{ObjectIdentifie
 use Rattle.p12.specs.EncryptedPrivateKeyInfo.{EncryptedKeyText}
 use Rattle.p12.specs.SafeBag.{BagText}
 use Rattle.p12.specs.Place.{Part}
-use Rattle.p12.specs.BagView.{BagBetween, BagEndsAt, BagLies, BagStands, NextBag, seen_bag, seen_parts}
+use Rattle.p12.specs.BagView.{BagBetween, BagEndsAt, BagLies, BagStands, GoesBy, NextBag, seen_bag, seen_parts}
 use Rattle.p12.specs.Reading.{bag_at, encrypted_key_at, kind_all}
 use Rattle.p12.specs.Walk.{IsWalk, walk_over}
 use Rattle.p12.specs.declared.encrypted_private_key_info.EncryptedPrivateKeyInfo.{EncryptedPrivateKeyInfo}
@@ -86,3 +86,6 @@ next_bag bytes rest after p w e l =
       between = view_between bytes rest after p.bag w.0 l;
       forward = (omega (arith, bag_shrinks rest (seen_parts p) after e), omega arith);
     }
+
+pub goes_by : (bytes rest after : List ℕ) (g : SafeBag) → IsWalk bag_at bytes rest → bag_at rest ≡ Ok (g, after) → GoesBy (walk_over bag_at bytes rest) (walk_over bag_at bytes after) g
+goes_by bytes rest after g w e = (lends bag_at bag_shrinks bytes rest after g w e, refl)

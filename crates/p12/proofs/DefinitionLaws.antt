@@ -1,10 +1,12 @@
 -- Laws of the definitions, for the crates above.
-use Rattle.std.proofs.Common.{◌<◌, ◌≡◌, ℕ, ◌*◌, ◌≤◌, List, length, Bool, true, false, Option, Some, None, refl, arith, IsTrue, nat_lt}
+use Rattle.std.proofs.Common.{◌<◌, ◌≡◌, ◌∙◌, ℕ, ◌*◌, ◌≤◌, List, length, Bool, true, false, Option, Some, None, Ok, refl, sym, ap, arith, IsTrue, nat_lt}
 use Rattle.std.specs.Prelude.{All, if◌then◌else◌, ◌&&◌}
 use Rattle.std.proofs.lemmas.Bool.{ltb-true}
 use Rattle.asn1_core.specs.Texts.{Within, Many}
 use Rattle.asn1_core.specs.OctetLaws.{both}
-use Rattle.asn1_core.specs.StandLaws.{whole_sole}
+use Rattle.asn1_core.specs.ExactLaws.{whole-exact}
+use Rattle.asn1_core.specs.Reading.{whole}
+use Rattle.asn1_core.specs.StandLaws.{whole_found, whole_sole}
 use Rattle.p12.specs.declared.algorithm_identifier.AlgorithmIdentifier.{AlgorithmIdentifier}
 use Rattle.p12.specs.declared.algorithm_identifier.AlgorithmIdentifier.TheVariants.{Sha1, Sha256, PbewithSHAAnd40BitRC2CBC, PbeWithSHAAnd3KeyTripleDESCBC, Pbes2, OtherAlg}
 use Rattle.p12.specs.declared.content_info.ContentInfo.{ContentInfo}
@@ -17,7 +19,10 @@ use Rattle.p12.specs.AlgorithmIdentifier.{IsOpened, cost, is_blocks, taken, take
 use Rattle.p12.specs.ContentInfo.{ContentFits, ContentText, IsContents}
 use Rattle.pkcs12_kdf.specs.Password.{bmp_password}
 use Rattle.p12.specs.Pfx.{IsStore, PfxText, StoreFits}
+use Rattle.p12.specs.BagView.{ListsBags, bags_of}
+use Rattle.p12.specs.Reading.{bags_at}
 use Rattle.p12.specs.SafeBag.{BagFits, BagText, IsBags}
+use Rattle.p12.specs.Walk.{read_or_none}
 use Rattle.p12.proofs.Pbes2.{by_rounds}
 use Rattle.p12.proofs.BagRows.{bags-exact}
 use Rattle.p12.proofs.ContentRows.{contents-exact, pfx-exact}
@@ -36,6 +41,22 @@ contents_sole b s t p q = whole_sole (Within 0x30 (Many ContentText)) _ contents
 pub bags_sole : (b : List ℕ) (s t : List SafeBag) → IsBags b s → IsBags b t → s ≡ t
 unfolding IsBags
 bags_sole b s t p q = whole_sole (Within 0x30 (Many BagText)) _ bags-exact b s t p q
+
+-- ---- bags that stay in the octets that list them
+
+read_so : (b : List ℕ) (gs : List SafeBag) → IsBags b gs → whole bags_at b ≡ Ok gs
+unfolding IsBags
+read_so b gs p = (whole-exact (Within 0x30 (Many BagText)) _ bags-exact).again b gs p.0 p.1
+
+pub bags_are : (b : List ℕ) (gs : List SafeBag) → IsBags b gs → bags_of b ≡ gs
+bags_are b gs p = ap read_or_none (read_so b gs p)
+
+pub lists : (b : List ℕ) (gs : List SafeBag) → IsBags b gs → ListsBags b
+lists b gs p = read_so b gs p ∙ ap Ok (sym (bags_are b gs p))
+
+pub listed : (b : List ℕ) → ListsBags b → IsBags b (bags_of b)
+unfolding IsBags
+listed b e = whole_found (Within 0x30 (Many BagText)) _ bags-exact b (bags_of b) e
 
 -- ---- a part is no longer than the whole
 

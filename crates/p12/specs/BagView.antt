@@ -1,13 +1,13 @@
 -- What is seen of a bag that lends its parts: the same in memory of its own, and where its
 -- encrypted octets are.
 use Rattle.std.specs.Prelude.{◌≡◌, ℕ, ◌-◌, ◌≤◌, List, ◌∷◌, length, Ok, true, ⊤}
-use Rattle.asn1_core.specs.Reading.{many}
+use Rattle.asn1_core.specs.Reading.{many, whole}
 use Rattle.asn1_core.specs.Unicode.{is_ascii_text}
-use Rattle.p12.specs.Reading.{attribute_at}
+use Rattle.p12.specs.Reading.{attribute_at, bags_at}
 use Rattle.p12.specs.AlgorithmView.{seen_algorithm}
 use Rattle.p12.specs.AttributeView.{seen_list}
 use Rattle.p12.specs.Place.{Between, Part, UpTo, at_place}
-use Rattle.p12.specs.Walk.{Walk}
+use Rattle.p12.specs.Walk.{Walk, read_or_none}
 use Rattle.p12.specs.declared.cert_bag.CertBag.{CertBag}
 use Rattle.p12.specs.declared.cert_bag.CertBag.TheVariants as cert
 use Rattle.p12.specs.declared.encrypted_private_key_info.EncryptedPrivateKeyInfo.{EncryptedPrivateKeyInfo}
@@ -99,3 +99,17 @@ pub record NextBag (old new : Walk SafeBag) (v : BagView) : Type 0 where
   pub stands : BagStands old.bytes v
   pub between : BagBetween old.passed new.passed v
   pub forward : (old.passed ≤ new.passed) × (new.passed ≤ length old.bytes)
+
+-- a walk goes on by this bag
+abbrev pub GoesBy : Walk SafeBag → Walk SafeBag → SafeBag → Type 0
+GoesBy old new g = (old.left ≡ g ∷ new.left) × (new.bytes ≡ old.bytes)
+
+-- ---- bags that stay in the octets that list them
+
+-- the bags that octets list; none where they list none
+abbrev pub bags_of : List ℕ → List SafeBag
+bags_of b = read_or_none (whole bags_at b)
+
+-- These octets list bags: a fact with one proof, as a type's invariant has to be.
+abbrev pub ListsBags : List ℕ → Type 0
+ListsBags b = whole bags_at b ≡ Ok (bags_of b)

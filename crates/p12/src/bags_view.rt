@@ -1,15 +1,16 @@
 //! The bags of a content, walked over in the octets that they were read from.
-ghost use Rattle.std.specs.Prelude.{◌≡◌, ◌+◌, ◌-◌, ◌≤◌, ◌<◌, ℕ, [], length, OnOk, IfOk, IfErr, IfSome, IfNone};
+ghost use Rattle.std.specs.Prelude.{◌≡◌, ◌+◌, ◌-◌, ◌≤◌, ◌<◌, ℕ, [], length, OnOk, OnErr, IfOk, IfErr, IfSome, IfNone};
 ghost use Rattle.asn1_core.specs.Gives.{ReadsAs, Gives};
 ghost use Rattle.asn1_core.specs.Reading.{many, whole};
 ghost use Rattle.p12.specs.SafeBag.{IsBags, NoBags};
-ghost use Rattle.p12.specs.BagView.{NextBag};
+ghost use Rattle.p12.specs.BagView.{GoesBy, NextBag};
 ghost use Rattle.p12.specs.Reading.{bag_at, bags_at};
 ghost use Rattle.p12.specs.Walk.{Passes};
 
 use crate::error::Error;
-use crate::safe_bag::{BagView, bag_view};
+use crate::safe_bag::{BagView, SafeBag, bag_in_front, bag_view};
 use asn1_core::{Reader, SliceReader, Tag, read_inner};
+use std::alloc::{AllocError, Global};
 use std::marker::Model;
 
 /// The bags that octets list, which a walk lends one after the other. A contract sees what is still to come.
@@ -84,6 +85,27 @@ impl<'a> BagsView<'a> {
                 Some(parts.bag)
             }
             Err(_) => unreachable!(),
+        }
+    }
+    /// The next bag and its attributes, in memory of its own; None exactly after the last. Where there is no memory the walk is not
+    /// moved.
+    pub fn next_owned(&mut self, alloc: Global) -> Result<Option<SafeBag>, AllocError>
+        ensures some { IfOk result (λ next. IfSome next (GoesBy self.old self.new)) }
+        ensures none { IfOk result
+            (λ next. IfNone next ((self.old.left ≡ []) × (self.new ≡ self.old))) }
+        ensures unchanged { OnErr result (self.new ≡ self.old) }
+    {
+        if self.rest.is_empty() {
+            return Ok(None);
+        }
+        let mut r = SliceReader::new(self.rest);
+        match bag_in_front(alloc, &mut r) {
+            Ok(bag) => {
+                self.rest = r.rest;
+                Ok(Some(bag))
+            }
+            // `parse` has read the bag before, so it is not malformed.
+            Err(_) => Err(AllocError),
         }
     }
 }

@@ -216,7 +216,10 @@ fn kind_in_front(
 }
 
 #[tactic(auto, using(crate::proofs::Refusals::only_memory))]
-fn bag_in_front(alloc: Global, r: &mut SliceReader<'_>) -> Result<SafeBag, asn1_core::Error>
+pub(crate) fn bag_in_front(
+    alloc: Global,
+    r: &mut SliceReader<'_>,
+) -> Result<SafeBag, asn1_core::Error>
     ensures exact { ReadsIn bag_at (λ x. x) r.old.rest.now r.new.rest.now result }
     ensures place { r.new.read + length r.new.rest.now ≡ r.old.read + length r.old.rest.now }
     ensures shorter { OnOk result (length r.new.rest.now < length r.old.rest.now) }
