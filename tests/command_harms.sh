@@ -371,7 +371,7 @@ many_files() {
 holds the_number_of_files_is_bounded many_files
 # The largest resident set for each octet of the store. Where that of the Python here is larger, it counts.
 memory() {
-    for store in large large-many large-keys; do
+    for store in large large-many large-keys pairs; do
         [ -f "$work/$store.p12" ] || {
             echo "skipped $store: python3 has no cryptography"
             continue

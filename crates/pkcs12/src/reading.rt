@@ -6,7 +6,7 @@ use command_base::{Argument, Form, Origin};
 use std::alloc::Global;
 use std::rt::Runtime;
 use store_opening::{Failure, Surroundings, inputs_differ, opened, read_given, tell_long_work};
-use transfer::Opened;
+use transfer::OpenedSafe;
 
 const JSON: Argument = Argument {
     name: "json",
@@ -50,7 +50,7 @@ impl Reading<'_> {
         &self,
         rt: &R,
         around: Surroundings,
-    ) -> Result<Opened, Failure> {
+    ) -> Result<OpenedSafe, Failure> {
         inputs_differ(rt, self.store, self.password, None)?;
         let given = read_given(rt, self.store, self.password, self.limit)?;
         tell_long_work(rt, around, given.store.as_slice(), None);

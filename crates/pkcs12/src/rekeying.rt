@@ -4,6 +4,7 @@ ghost use Rattle.rekey_core.specs.Rekeyed.{Rekeys};
 
 use crate::rekey::Rekey;
 use asn1_core::Octets;
+use command_base::Password;
 use octet_core::{Draw, FileDraw};
 use p12::{CertBag, SafeBag, SafeBagKind};
 use rekey_core::rekey;
@@ -15,8 +16,8 @@ use steps::Steps;
 use store_inspection::{Listing, counts};
 use store_opening::{
     Ending, Failure, Given, NewPassword, RANDOM, Surroundings, are_one, inputs_differ,
-    is_not_given_again, new_password_missing, opened, opened_store, output_differs, path_of_store,
-    read_given, read_password, refused, tell_long_work, with_detail, without_nul,
+    is_not_given_again, listing_of, new_password_missing, opened, opened_store, output_differs,
+    path_of_store, read_given, read_password, refused, tell_long_work, with_detail, without_nul,
 };
 use store_output::StoreFile;
 use transfer::{Opened, TransferError};
@@ -110,6 +111,17 @@ fn have_the_same(one: &Opened, other: &Opened) -> bool {
     true
 }
 
+/// Opens a store, and returns its bags and its private keys.
+fn opened_bags(
+    alloc: Global,
+    store: &[u8],
+    password: &Password,
+    limit: u64,
+) -> Result<Opened, Failure> {
+    let opened = opened_store(alloc, store, password, limit)?;
+    Ok(opened.into_opened(alloc)?)
+}
+
 /// Opens what was read back of the changed store under the new password, and compares it with the store that was changed.
 fn compare(
     alloc: Global,
@@ -117,12 +129,8 @@ fn compare(
     change: &Change<'_>,
     before: &Opened,
 ) -> Result<(), Failure> {
-    match opened_store(
-        alloc,
-        found,
-        change.new_password.as_password(),
-        change.limit,
-    ) {
+    let password = change.new_password.as_password();
+    match opened_bags(alloc, found, password, change.limit) {
         Ok(after) if have_the_same(before, &after) => Ok(()),
         Err(failure) if matches!(failure.ending, Ending::Memory) => Err(failure),
         _ => Err(Failure::new(
@@ -207,8 +215,9 @@ fn write_rekeyed<R: Runtime + AllocGlobal>(
     change: &Change<'_>,
 ) -> Result<Listing, Failure> {
     tell_long_work(rt, around, change.given.store.as_slice(), None);
-    let before = opened(rt.alloc(), change.given, change.limit)?;
-    let found = Listing::of(rt.alloc(), before.contents.as_slice())?;
+    let opened = opened(rt.alloc(), change.given, change.limit)?;
+    let found = listing_of(rt.alloc(), &opened)?;
+    let before = opened.into_opened(rt.alloc())?;
     let replaces_store = are_one(rt, path_of_store(asked.store), asked.out);
     write_changed(rt, file, change, &before, replaces_store)?;
     Ok(found)

@@ -1,5 +1,5 @@
 -- What export makes of a store, and when it makes nothing.
-use Rattle.std.specs.Prelude.{ℕ, ◌≤◌, ◌<◌, ◌≡◌, ◌⊎◌, ◌+◌, ◌*◌, ◌≢◌, List, [], Option, None, true, length, IfSome, IfNone, IsSome, IsTrue, IsFalse}
+use Rattle.std.specs.Prelude.{ℕ, ◌≤◌, ◌<◌, ◌≡◌, ◌⊎◌, ◌+◌, ◌*◌, ◌≢◌, List, [], Option, None, length, IfSome, IfNone, IsSome, IsTrue, IsFalse}
 use Rattle.p12.specs.declared.safe_bag.SafeBag.{SafeBag}
 use Rattle.store_export.specs.declared.export.Export.{Export}
 use Rattle.store_export.specs.declared.target.Part.{Part}
@@ -11,7 +11,7 @@ use Rattle.transfer.specs.Opening.{all_certificates}
 use Rattle.transfer.specs.Sealing.{SealsAll}
 use Rattle.transfer.specs.Verdicts.{StoreOpens}
 use Rattle.transfer.specs.declared.store.error.TransferError.TheVariants.{Rng}
-use Rattle.store_inspection.specs.Others.{has_others}
+use Rattle.store_inspection.specs.Listed.{others_in}
 
 -- how many of so many certificates are in this part of the store
 unfoldable pub certificates_in : Part → ℕ → ℕ
@@ -25,11 +25,12 @@ keys_in Whole all = all
 keys_in Keys all = all
 keys_in Certificates all = []
 
--- ---- The bounds, in the order in which they are looked at. `certificates` is how many the store
--- has, and `keys` how many are in the part of it that is asked for.
+-- ---- The bounds, in the order in which they are looked at. `others` is how many bags the store has
+-- that are not exported, `certificates` how many certificates, and `keys` how many private keys are in
+-- the part of it that is asked for.
 
-abbrev pub AreOthersAllowed : Export → List (List SafeBag) → Type 0
-AreOthersAllowed asked contents = has_others contents ≡ true → IsTrue asked.bounds.skip_others
+abbrev pub AreOthersAllowed : Export → ℕ → Type 0
+AreOthersAllowed asked others = 0 < others → IsTrue asked.bounds.skip_others
 
 abbrev pub AreFilesAllowed : Export → ℕ → ℕ → Type 0
 AreFilesAllowed asked certificates keys =
@@ -38,17 +39,17 @@ AreFilesAllowed asked certificates keys =
 abbrev pub AreRoundsAllowed : Export → ℕ → Type 0
 AreRoundsAllowed asked keys = keys * asked.rounds ≤ asked.bounds.seal_limit
 
-abbrev pub IsWithin : Export → List (List SafeBag) → ℕ → ℕ → Type 0
-IsWithin asked contents certificates keys = AreOthersAllowed asked contents
+abbrev pub IsWithin : Export → ℕ → ℕ → ℕ → Type 0
+IsWithin asked others certificates keys = AreOthersAllowed asked others
     × AreFilesAllowed asked certificates keys × AreRoundsAllowed asked keys
 
 -- The failure of what is outside the bounds: the first of them that it is outside of.
-abbrev pub IsOutside : Export → List (List SafeBag) → ℕ → ℕ → Ending → Type 0
-IsOutside asked contents certificates keys ending =
-    ((ending ≡ NotExported) × (has_others contents ≡ true) × IsFalse asked.bounds.skip_others)
-    ⊎ ((ending ≡ TooManyFiles) × AreOthersAllowed asked contents
+abbrev pub IsOutside : Export → ℕ → ℕ → ℕ → Ending → Type 0
+IsOutside asked others certificates keys ending =
+    ((ending ≡ NotExported) × (0 < others) × IsFalse asked.bounds.skip_others)
+    ⊎ ((ending ≡ TooManyFiles) × AreOthersAllowed asked others
     × (asked.bounds.most_files < certificates_in asked.target.part certificates + keys))
-    ⊎ ((ending ≡ SealLimit) × AreOthersAllowed asked contents
+    ⊎ ((ending ≡ SealLimit) × AreOthersAllowed asked others
     × AreFilesAllowed asked certificates keys
     × (asked.bounds.seal_limit < keys * asked.rounds))
 
@@ -67,7 +68,7 @@ pub record Exports (asked : Export) (new_password : Option (List ℕ)) (store pa
   pub in_order : certificates ≡ all_certificates contents
   pub keys : List (List ℕ)
   pub part : keys ≡ keys_in asked.target.part all_keys
-  pub bounded : IsWithin asked contents (length certificates) (length keys)
+  pub bounded : IsWithin asked (length (others_in contents)) (length certificates) (length keys)
   pub not_empty : IfSome new_password (λ q. length q ≡ 0 → IsTrue asked.allow_empty)
   pub sealed : IfSome new_password (λ q. SealsAll asked.rounds q None None keys documents)
   pub keyless : IfNone new_password ((keys ≡ []) × (documents ≡ []))
@@ -92,9 +93,10 @@ pub record FailsOpened (asked : Export) (new_password : Option (List ℕ)) (stor
   pub within : work ≤ asked.limit
   pub keys : List (List ℕ)
   pub part : keys ≡ keys_in asked.target.part all_keys
-  pub fails : IsOutside asked contents (length (all_certificates contents)) (length keys) ending
-      ⊎ (IsWithin asked contents (length (all_certificates contents)) (length keys)
-      × FailsToSeal new_password keys ending)
+  pub fails : IsOutside asked (length (others_in contents)) (length (all_certificates contents))
+      (length keys) ending
+      ⊎ (IsWithin asked (length (others_in contents)) (length (all_certificates contents))
+      (length keys) × FailsToSeal new_password keys ending)
 
 -- Each failure of an export before anything is written; out of memory is one of FailsToOpen.
 abbrev pub FailsToExport : Export → Option (List ℕ) → List ℕ → List ℕ → Ending → Type 0

@@ -12,12 +12,12 @@ use asn1_core::Items;
 use command_base::Password;
 use std::alloc::Global;
 use std::rt::{Env, Files};
-use store_inspection::{Listing, has_others, not_exported};
+use store_inspection::{Listing, not_exported};
 use store_opening::{
     Counted, Ending, Failure, Given, NewPassword, Surroundings, is_long_sealing,
-    is_not_given_again, opened, read_password, sealing_time, without_nul,
+    is_not_given_again, listing_of, opened, read_password, sealing_time, without_nul,
 };
-use transfer::{Opened, Transferred};
+use transfer::{OpenedSafe, Transferred};
 
 /// The store's password as a new one.
 fn same_password(
@@ -118,25 +118,24 @@ fn certificates_in(part: Part, all: usize) -> usize
 }
 
 /// That a store is exported within these bounds: it has no other bags, unless these are skipped; the
-/// certificates and private keys that are asked for are not too many files; and these keys do not
-/// take too many rounds. The failure is that of the first bound that it is outside of.
+/// certificates and so many private keys, as far as they are asked for, are not too many files; and
+/// these keys do not take too many rounds. The failure is that of the first bound that it is outside of.
 fn within_bounds(
     alloc: Global,
     asked: &Export<'_>,
-    opened: &Opened,
     found: &Listing,
+    keys: usize,
 ) -> Result<(), Failure>
-    ensures ok { OnOk result (IsWithin asked.now opened.now.contents
-        (length found.now.certificates) (length opened.now.keys)) }
+    ensures ok { OnOk result (IsWithin asked.now (length found.now.others)
+        (length found.now.certificates) keys) }
     ensures err { IfErr result (λ f. (f.ending ≡ Ending.Memory)
-        ⊎ IsOutside asked.now opened.now.contents (length found.now.certificates)
-        (length opened.now.keys) f.ending) }
+        ⊎ IsOutside asked.now (length found.now.others) (length found.now.certificates) keys
+        f.ending) }
 {
     let bounds = asked.bounds;
-    if has_others(opened.contents.as_slice()) && !bounds.skip_others {
+    if !found.others.is_empty() && !bounds.skip_others {
         return Err(has_more(alloc, found));
     }
-    let keys = opened.keys.len();
     let certificates = certificates_in(asked.target.part, found.certificates.len());
     if certificates as u128 + keys as u128 > u128::from(bounds.most_files) {
         return Err(too_many_files(alloc, certificates, keys, bounds.most_files));
@@ -147,26 +146,14 @@ fn within_bounds(
     Ok(())
 }
 
-/// The opened store without its private keys.
-fn without_keys(alloc: Global, opened: Opened) -> Opened
-    ensures contents { result.contents ≡ opened.contents }
-    ensures keys { result.keys ≡ [] }
-{
-    let Opened { contents, keys: _ } = opened;
-    Opened {
-        contents,
-        keys: Items::new(alloc),
-    }
-}
-
 /// The opened store as far as it is written: where the certificates alone are, without its keys.
 #[tactic(auto, unfolding(crate::specs::Exports::keys_in))]
-fn part_of(alloc: Global, opened: Opened, part: Part) -> Opened
+fn part_of(alloc: Global, opened: OpenedSafe, part: Part) -> OpenedSafe
     ensures contents { result.contents ≡ opened.contents }
     ensures keys { result.keys ≡ keys_in part opened.keys }
 {
     match part {
-        Part::Certificates => without_keys(alloc, opened),
+        Part::Certificates => opened.without_keys(alloc),
         Part::Whole | Part::Keys => opened,
     }
 }
@@ -177,7 +164,7 @@ fn sealed_anew<R: Files + Eprint + AllocGlobal + Drop>(
     rt: &R,
     around: Surroundings,
     asked: &Export<'_>,
-    opened: Opened,
+    opened: OpenedSafe,
     new_password: &Option<NewPassword>,
 ) -> Result<Transferred, Failure>
     ensures sealed { IfOk result (λ t. IfSome new_password.now (λ q.
@@ -191,7 +178,8 @@ fn sealed_anew<R: Files + Eprint + AllocGlobal + Drop>(
 {
     match new_password {
         Some(new_password) => {
-            let is_shown = around.at_terminal && is_long_sealing(opened.keys.len(), asked.rounds);
+            let is_shown = around.at_terminal
+                && is_long_sealing(opened.number_of_keys(), asked.rounds);
             sealed_store(rt, opened, new_password, asked.rounds, is_shown)
         }
         None => certificates_alone(rt.alloc(), opened),
@@ -226,9 +214,9 @@ pub fn open_and_seal<R: Files + Eprint + AllocGlobal + Drop>(
 {
     let opened = opened(rt.alloc(), &given, asked.limit)?;
     drop(given);
-    let found = Listing::of(rt.alloc(), opened.contents.as_slice())?;
+    let found = listing_of(rt.alloc(), &opened)?;
     let opened = part_of(rt.alloc(), opened, asked.target.part);
-    within_bounds(rt.alloc(), asked, &opened, &found)?;
+    within_bounds(rt.alloc(), asked, &found, opened.number_of_keys())?;
     let transferred = sealed_anew(rt, around, asked, opened, new_password)?;
     Ok(Exported { transferred, found })
 }

@@ -10,7 +10,7 @@ use std::alloc::Global;
 use std::fs;
 use std::rt::Files;
 use store_opening::{Ending, Failure, NewPassword, RANDOM, refused, tell_sealing};
-use transfer::{Opened, TransferError, Transferred};
+use transfer::{OpenedSafe, TransferError, Transferred};
 
 /// What to do where a new password is needed.
 const NEW_PASSWORD: &str = "\
@@ -19,11 +19,11 @@ Run pkcs12 at a terminal, where it asks for it, or give it by one of these:
 To keep the store's: --same-password. To write the certificates alone: --certificates-only.";
 
 /// Seals the keys of an opened store under the new password, in so many rounds, over the system's
-/// random octets, and frees its bags. Where `is_shown` is set, the standard error says how many there are and about how
+/// random octets. Where `is_shown` is set, the standard error says how many there are and about how
 /// long they take, and shows how much is done.
 pub fn sealed_store<R: Files + Eprint + AllocGlobal + Drop>(
     rt: &R,
-    opened: Opened,
+    opened: OpenedSafe,
     new_password: &NewPassword,
     rounds: u32,
     is_shown: bool,
@@ -46,10 +46,10 @@ pub fn sealed_store<R: Files + Eprint + AllocGlobal + Drop>(
             ));
         }
     };
+    let keys = opened.number_of_keys();
     if is_shown {
-        tell_sealing(rt, opened.keys.len(), rounds);
+        tell_sealing(rt, keys, rounds);
     }
-    let keys = opened.keys.len();
     let mut draw = Progress::new(rt, ReadDraw::new(random), keys, is_shown);
     let new_password = new_password.as_str().as_bytes();
     let sealed = opened.seal(rt.alloc(), new_password, rounds, &mut draw);
@@ -63,7 +63,7 @@ pub fn sealed_store<R: Files + Eprint + AllocGlobal + Drop>(
 }
 
 /// What an opened store gives where there is no new password: it may have no private keys.
-pub fn certificates_alone(alloc: Global, opened: Opened) -> Result<Transferred, Failure>
+pub fn certificates_alone(alloc: Global, opened: OpenedSafe) -> Result<Transferred, Failure>
     ensures keyless { IfOk result (λ t. opened.keys ≡ []) }
     ensures certificates { IfOk result
         (λ t. t.certificates ≡ all_certificates opened.contents) }
@@ -71,7 +71,7 @@ pub fn certificates_alone(alloc: Global, opened: Opened) -> Result<Transferred, 
     ensures err { IfErr result (λ f. (f.ending ≡ Ending.Memory)
         ⊎ ((f.ending ≡ Ending.NewPasswordMissing) × (opened.keys ≢ []))) }
 {
-    if !opened.keys.is_empty() {
+    if opened.number_of_keys() > 0 {
         return Err(Failure::new(
             Ending::NewPasswordMissing,
             "the store has private keys, and there is no new password to seal them under",

@@ -1,2 +1,2 @@
-pub mod Others
+pub mod Listed
 pub mod Pairs

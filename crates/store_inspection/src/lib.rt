@@ -13,7 +13,6 @@ mod no_password;
 mod no_store;
 mod not_der;
 mod other_bag;
-mod others;
 mod out_of_memory;
 mod summary_text;
 
@@ -25,5 +24,4 @@ pub use listing::{Label, Listing};
 pub use no_password::is_without_password;
 pub use no_store::malformed;
 pub use other_bag::OtherBag;
-pub use others::has_others;
 pub use summary_text::{add_others_text, counts, not_exported, summary, warnings};

@@ -1,19 +1,17 @@
 //! The certificates and private keys of a store by what their attributes say of them, and the bags
 //! that are not exported.
-ghost use Rattle.std.specs.Prelude.{◌≡◌, ◌+◌, ℕ, List, IfOk, OnOk, length, map, option_map, option_and_then, position};
+ghost use Rattle.std.specs.Prelude.{◌≡◌, ℕ, List, [], ◌∷◌, IfOk, OnOk, map, option_map, option_and_then, position};
 ghost use Rattle.std.specs.BTreeMap as tree;
-ghost use Rattle.std.specs.List.{flat_map};
 ghost use Rattle.std.specs.Cmp.Lexicographic.{slice_cmp};
 ghost use Rattle.std.specs.Ordering.{nat_cmp};
-ghost use Rattle.p12.specs.Collected.{at_most_one, certificates_among};
-ghost use Rattle.p12.specs.SafeBag.{x509_of};
+ghost use Rattle.store_inspection.specs.Listed.{Adds};
 ghost use Rattle.store_inspection.specs.Pairs.{first_of, has_key_id, pair_of};
 
 use crate::certificate_shape::has_certificate_shape;
 use crate::other_bag::OtherBag;
 use crate::out_of_memory::out_of_memory;
 use asn1_core::{Items, Octets, Text};
-use p12::{CertBag, SafeBag, SafeBagKind};
+use p12::{BagsView, CertBag, SafeBag, SafeBagKind};
 use std::alloc::{AllocError, Global};
 use std::collections::BTreeMap;
 use std::fmt;
@@ -115,38 +113,32 @@ pub struct Listing {
 }
 
 impl Listing {
-    /// What is in the bags of an opened store: a label for each of its X.509 certificates and
-    /// encrypted private keys.
-    pub fn of(alloc: Global, contents: &[Items<SafeBag>]) -> Result<Listing, AllocError>
-        ensures { IfOk result
-            (λ l. length l.certificates ≡ length (flat_map certificates_among contents.now)) }
+    /// The listing of a store without bags.
+    pub fn new(alloc: Global) -> Listing
+        ensures certificates { result.certificates ≡ [] }
+        ensures others { result.others ≡ [] }
     {
-        let mut found = Listing {
+        Listing {
             certificates: Items::new(alloc),
             keys: Items::new(alloc),
             others: Items::new(alloc),
-        };
-        for bags in contents {
-            found.add_all(alloc, bags.as_slice())?;
         }
-        Ok(found)
     }
 
-    /// Adds these bags.
-    fn add_all(&mut self, alloc: Global, bags: &[SafeBag]) -> Result<(), AllocError>
-        ensures { OnOk result (length self.new.certificates
-            ≡ length self.old.certificates + length (certificates_among bags.now)) }
+    /// Adds the bags of a content that are still to come: a label for each X.509 certificate and each encrypted private key among
+    /// them. Each bag takes memory only while it is added.
+    pub fn add_bags(&mut self, alloc: Global, mut bags: BagsView<'_>) -> Result<(), AllocError>
+        ensures { OnOk result (Adds self.old self.new bags.entry.left) }
     {
-        for bag in bags {
-            self.add(alloc, bag)?;
+        while let Some(bag) = bags.next_owned(alloc)? {
+            self.add(alloc, &bag)?;
         }
         Ok(())
     }
 
     /// Adds a bag.
     fn add(&mut self, alloc: Global, bag: &SafeBag) -> Result<(), AllocError>
-        ensures { OnOk result (length self.new.certificates
-            ≡ length self.old.certificates + length (at_most_one (x509_of bag.now.bag))) }
+        ensures { OnOk result (Adds self.old self.new (bag.now ∷ [])) }
     {
         match &bag.bag {
             SafeBagKind::CertBag(CertBag::X509(_)) => {

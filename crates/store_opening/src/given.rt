@@ -13,7 +13,7 @@ use std::alloc::Global;
 use std::env;
 use std::rt::{Env, Files};
 use store_inspection::mac_rounds;
-use transfer::{Opened, TransferError};
+use transfer::{OpenedSafe, TransferError};
 
 /// Where this variable is set, the script that started the program asks for a password that is
 /// missing and runs it again, so the program itself keeps silent. Its value may be the path by
@@ -111,7 +111,7 @@ pub fn read_given<R: Files + Env + Input + AllocGlobal>(
 }
 
 /// Opens a store within the limit, in steps, as `opened_store` does. A refusal has what more there is to say of it.
-pub fn opened(alloc: Global, given: &Given, limit: u64) -> Result<Opened, Failure>
+pub fn opened(alloc: Global, given: &Given, limit: u64) -> Result<OpenedSafe, Failure>
     ensures ok { IfOk result (λ o. (n : ℕ)
         × StoreOpens given.now.store.items given.now.password o.contents o.keys n × (n ≤ limit)) }
     ensures err { IfErr result

@@ -14,7 +14,7 @@ use std::rt::Files;
 use std::sync::ledger::{Blank, Ledger};
 use std::{fs, io};
 use steps::Steps;
-use transfer::{Opened, TransferError, open_store};
+use transfer::{OpenedSafe, TransferError, open_safe};
 
 /// Where the system's random octets are read.
 pub const RANDOM: &str = "/dev/urandom";
@@ -65,7 +65,7 @@ fn open_from<L: Ledger>(
     password: &Password,
     limit: u64,
     blank: Blank,
-) -> Result<Opened, TransferError>
+) -> Result<OpenedSafe, TransferError>
     requires name { blank.name ≡ L.name }
     requires parts { blank.parts ≡ L.parts }
     requires some { 0 < blank.parts }
@@ -75,17 +75,17 @@ fn open_from<L: Ledger>(
         (λ e. FailsToOpen store.now password.now limit (ending_of_refusal e)) }
 {
     let mut steps = Steps::<L>::open(blank);
-    open_store(alloc, store, password.as_str(), limit, &mut steps)
+    open_safe(alloc, store, password.as_str(), limit, &mut steps)
 }
 
 /// Opens a store under its password within the limit, in steps, by a step counter of its own. Where the store is refused, by the first
-/// cause that `open_store` names, the failure is that refusal; out of memory may come in its place.
+/// cause that `open_safe` names, the failure is that refusal; out of memory may come in its place.
 pub fn opened_store(
     alloc: Global,
     store: &[u8],
     password: &Password,
     limit: u64,
-) -> Result<Opened, Failure>
+) -> Result<OpenedSafe, Failure>
     ensures ok { IfOk result (λ o. (n : ℕ)
         × StoreOpens store.now password.now o.contents o.keys n × (n ≤ limit)) }
     ensures err { IfErr result (λ f. FailsToOpen store.now password.now limit f.ending) }

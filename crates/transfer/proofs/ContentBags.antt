@@ -1,42 +1,21 @@
 -- Contents that are opened in their order, and their bags.
-use Rattle.std.proofs.Common.{ℕ, ◌≡◌, ◌+◌, ◌≤◌, List, [], ◌∷◌, ◌++◌, refl, sym, ap, ◌∙◌, arith, subst, append_assoc, append-nil, Bor}
-use Rattle.std.specs.Prelude.{All, Some}
+use Rattle.std.proofs.Common.{ℕ, ◌≡◌, ◌+◌, ◌≤◌, List, [], ◌∷◌, ◌++◌, refl, sym, ap, ◌∙◌, arith, subst, append_assoc, append-nil}
+use Rattle.std.specs.Prelude.{All}
 use Rattle.std.specs.List.{sum_by}
 use Rattle.std.proofs.lemmas.List.Sums.{sum_by-append}
 use Rattle.std.proofs.lemmas.List.Elements.{All-head, All-tail}
-use Rattle.p12.specs.AlgorithmIdentifier.{cost, unlock}
-use Rattle.p12.specs.AlgorithmView.{seen_algorithm}
 use Rattle.p12.specs.Collected.{HoldsBags}
 use Rattle.p12.specs.ContentInfo.{ContentFits}
 use Rattle.p12.specs.ContentView.{NextContent, seen_content}
-use Rattle.p12.specs.SafeBag.{NoBags}
 use Rattle.p12.specs.Walk.{Walk}
-use Rattle.p12.specs.declared.algorithm_identifier.AlgorithmView.{AlgorithmView}
 use Rattle.p12.specs.declared.content_info.ContentInfo.{ContentInfo}
 use Rattle.p12.specs.declared.content_info.ContentView.{ContentView}
-use Rattle.p12.specs.declared.content_info.ContentView.TheVariants as view
-use Rattle.p12.specs.declared.encrypted_data.EncryptedData.{EncryptedData}
-use Rattle.p12.specs.declared.place.Place.{Place}
 use Rattle.p12.specs.declared.safe_bag.SafeBag.{SafeBag}
 use Rattle.transfer.specs.declared.store.error.TransferError.{TransferError}
-use Rattle.transfer.specs.declared.store.error.TransferError.TheVariants.{ContentMalformed}
 use Rattle.transfer.specs.Limits.{store_limit}
 use Rattle.transfer.specs.Opening.{ContentCause, RefusedAfter, content_share, of_contents}
 use Rattle.transfer.specs.Parts.{AreOpen, IsFirstFault}
-use Rattle.transfer.specs.TransferError.{RefusedBy}
-use Rattle.transfer.proofs.Faults.{content_bad, open_append, refused_as, refused_later}
-
--- What is wrong with the bags of a content that was opened.
-pub encrypted_refused : (p : List ℕ) (limit sum : ℕ) (c : ContentView) (a : AlgorithmView) (v : Bor (List ℕ)) (at : Place) (m : List ℕ) (before after : ℕ) (e : TransferError) → c ≡ view.Encrypted a v at
-    → unlock (seen_algorithm a) p v.now ≡ Some m → sum + cost (seen_algorithm a) ≤ limit → after ≡ before + cost (seen_algorithm a)
-    → RefusedBy (λ e. (e ≡ ContentMalformed) × NoBags m) ⊥ e → RefusedAfter (ContentCause p limit sum (seen_content c)) before after e
-encrypted_refused p limit sum c a v at m before after e is opens le steps h =
-    let d : EncryptedData = record { encrypted_content_info = record { content_encryption_algorithm = seen_algorithm a; encrypted_content = v.now } } in
-    refused_as (λ e. (e ≡ ContentMalformed) × NoBags m) (λ e. (n : ℕ) × ContentCause p limit sum (seen_content c) e n × (after ≡ before + n)) ⊥ ⊥
-    (λ e b. (cost (seen_algorithm a), subst (λ (e : TransferError). ContentCause p limit sum (seen_content c) e (cost (seen_algorithm a))) (sym b.0) (content_bad p limit sum (seen_content c) d m (ap seen_content is) opens le b.1), steps))
-    (λ h. h) e h
-
--- ---- Contents
+use Rattle.transfer.proofs.Faults.{open_append, refused_later}
 
 -- What a loop over contents has done, whose walk stood at `start` and is at `now`.
 pub record Holding (p : List ℕ) (limit spent : ℕ) (start now : Walk ContentInfo) (bags : List (List SafeBag)) (sum : ℕ) : Type 0 where

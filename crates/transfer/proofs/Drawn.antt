@@ -2,7 +2,7 @@
 use Rattle.std.proofs.Common.{ℕ, ◌≡◌, ◌+◌, ◌*◌, ◌≤◌, ◌<◌, suc, List, [], ◌∷◌, ◌++◌, length, refl, sym, ap, ◌∙◌, arith, subst, take, get_or}
 use Rattle.std.specs.Prelude.{All, Option, Some, None, IfSome, Result, Ok, Err, IfOk}
 use Rattle.std.specs.Io.KnownBytes.{Consumes}
-use Rattle.std.proofs.lemmas.List.{append_assoc, append-nil, get_or-map, length-append, length-map, map-append}
+use Rattle.std.proofs.lemmas.List.{append_assoc, append-nil, get_or-map, length-append, length-map}
 use Rattle.pkcs5.specs.declared.pbes2.parameters.Parameters.{Parameters}
 use Rattle.pkcs8.specs.Sealing.{IsSealed}
 use Rattle.transfer.specs.declared.store.error.TransferError.{TransferError}
@@ -18,7 +18,7 @@ use Rattle.std.proofs.lemmas.Grind.{flat_map-append}
 use Rattle.std.proofs.lemmas.List.Elements.{All-drop, All-head, All-tail, All-take}
 use Rattle.std.proofs.Math.Seq.{drop-append_seam, take-append_seam}
 use Rattle.transfer.specs.Sealing.{AreDrawn, AreOf16, IsDrawn, SealsAll, document_keys, octets_of}
-use Rattle.transfer.specs.InPlace.{IsOpenedKey, texts_of}
+use Rattle.transfer.specs.InPlace.{texts_of}
 use Rattle.transfer.proofs.Faults.{take_one}
 use Rattle.octet_core.specs.Draw.{Lacks}
 use Rattle.octet_core.specs.Faults.{Rose}
@@ -61,18 +61,15 @@ pub seals_none : (rounds : ℕ) (q : List ℕ) (o : Option (List ℕ)) → Seals
 seals_none rounds q o = record { drawn = []; by = refl; took = consumes_none o; each_one = refl; each_32 = refl }
 
 -- A group of keys after those that are sealed.
-pub seals_both : (rounds : ℕ) (q : List ℕ) (old mid new : Option (List ℕ)) (keys group more : List OpenedKey) (bs cs ds : List (List ℕ))
-    → SealsAll rounds q old mid (texts_of keys) bs → SealsAll rounds q mid new (texts_of group) cs → more ≡ keys ++ group → ds ≡ bs ++ cs
-    → SealsAll rounds q old new (texts_of more) ds
-seals_both rounds q old mid new keys group more bs cs ds a b is are =
-    let texts : texts_of more ≡ texts_of keys ++ texts_of group = ap texts_of is ∙ map-append (λ (k : OpenedKey). k.text.now) keys group in
-    record {
-      drawn = a.drawn ++ b.drawn;
-      by = rw (texts, are) (drawn_both rounds q (texts_of keys) bs a.drawn (texts_of group) cs b.drawn a.by b.by);
-      took = consumes_more old mid new a.drawn b.drawn a.took b.took;
-      each_one = omega (arith, ap length texts, ap length are, length-append (texts_of keys) (texts_of group), length-append bs cs, a.each_one, b.each_one);
-      each_32 = omega (arith, ap length texts, length-append (texts_of keys) (texts_of group), length-append a.drawn b.drawn, a.each_32, b.each_32);
-    }
+pub seals_both : (rounds : ℕ) (q : List ℕ) (old mid new : Option (List ℕ)) (keys group more bs cs ds : List (List ℕ))
+    → SealsAll rounds q old mid keys bs → SealsAll rounds q mid new group cs → more ≡ keys ++ group → ds ≡ bs ++ cs → SealsAll rounds q old new more ds
+seals_both rounds q old mid new keys group more bs cs ds a b is are = record {
+  drawn = a.drawn ++ b.drawn;
+  by = rw (is, are) (drawn_both rounds q keys bs a.drawn group cs b.drawn a.by b.by);
+  took = consumes_more old mid new a.drawn b.drawn a.took b.took;
+  each_one = omega (arith, ap length is, ap length are, length-append keys group, length-append bs cs, a.each_one, b.each_one);
+  each_32 = omega (arith, ap length is, length-append keys group, length-append a.drawn b.drawn, a.each_32, b.each_32);
+}
 
 -- What all of two lists in a row have, all of each have.
 all_left : {A : Type 0} (P : A → Type 0) (xs ys : List A) → All P (xs ++ ys) → All P xs
@@ -81,15 +78,12 @@ all_left P xs ys h = subst (All P) (take-append_seam xs ys) (All-take P (length 
 all_right : {A : Type 0} (P : A → Type 0) (xs ys : List A) → All P (xs ++ ys) → All P ys
 all_right P xs ys h = subst (All P) (drop-append_seam xs ys) (All-drop P (length xs) (xs ++ ys) h)
 
--- The next keys of a list: what each key has each of these has, and 32 octets each are within those of all.
-pub all_group : (keys done rest group after : List OpenedKey) → keys ≡ done ++ rest → rest ≡ group ++ after → All IsOpenedKey keys → All IsOpenedKey group
-all_group keys done rest group after split is all =
-    all_left IsOpenedKey group after (subst (All IsOpenedKey) is (all_right IsOpenedKey done rest (subst (All IsOpenedKey) split all)))
+-- The next of a list: what each of the list has each of these has, and 32 octets each are within those of all.
+pub all_group : {A : Type 0} (P : A → Type 0) (xs done rest group after : List A) → xs ≡ done ++ rest → rest ≡ group ++ after → All P xs → All P group
+all_group P xs done rest group after split is all = all_left P group after (subst (All P) is (all_right P done rest (subst (All P) split all)))
 
-pub group_fits : (keys done rest group after : List OpenedKey) → keys ≡ done ++ rest → rest ≡ group ++ after
-    → (n : ℕ) → n ≡ 32 * length (texts_of done) → n + 32 * length group ≤ 32 * length keys
-group_fits keys done rest group after split is n e =
-    omega (arith, e, length-map done (λ (k : OpenedKey). k.text.now), ap length split, length-append done rest, ap length is, length-append group after)
+pub group_fits : {A : Type 0} (xs done rest group after : List A) → xs ≡ done ++ rest → rest ≡ group ++ after → (n : ℕ) → n ≡ 32 * length done → n + 32 * length group ≤ 32 * length xs
+group_fits xs done rest group after split is n e = omega (arith, e, ap length split, length-append done rest, ap length is, length-append group after)
 
 -- What a draw lacks for a group it lacks for all keys.
 pub lacks_all : (before mid now : ℕ) (old left : Option (List ℕ)) (drawn : List ℕ) (n all : ℕ) → mid ≡ before → Consumes old left drawn

@@ -10,19 +10,14 @@ use Rattle.p12.specs.declared.content_info.ContentInfo.{ContentInfo}
 use Rattle.p12.specs.declared.content_info.ContentInfo.TheVariants as content
 use Rattle.p12.specs.declared.encrypted_data.EncryptedData.{EncryptedData}
 use Rattle.p12.specs.declared.encrypted_private_key_info.EncryptedPrivateKeyInfo.{EncryptedPrivateKeyInfo}
-use Rattle.p12.specs.declared.safe_bag.SafeBagKind.{SafeBagKind}
-use Rattle.p12.specs.declared.safe_bag.SafeBagKind.TheVariants as bag
-use Rattle.p12.specs.declared.error.Error.{Error}
-use Rattle.p12.specs.declared.error.Error.TheVariants as errors
 use Rattle.p12.specs.AlgorithmIdentifier.{cost, unlock}
-use Rattle.p12.specs.Error.{MalformedOnly}
 use Rattle.p12.specs.SafeBag.{NoBags}
 use Rattle.p12.proofs.DefinitionLaws.{unlock_opened}
 use Rattle.transfer.specs.declared.store.error.TransferError.{TransferError}
 use Rattle.transfer.specs.declared.store.error.TransferError.TheVariants.{TooLong, Malformed, Unsupported, MacMissing, MacUnsupported, ZeroIterations, WorkLimit, MacMismatch, ContentMalformed, DecryptFailed, KeyMalformed, Rng, Memory}
 use Rattle.transfer.specs.TransferError.{RefusedBy}
-use Rattle.transfer.specs.Parts.{AreOpen, IsFirstFault, PartKind, OpensMore}
-use Rattle.transfer.specs.Opening.{ContentCause, KeyFault, LockFault, NoKeyText, RefusedAfter, of_keys, shrouded_in}
+use Rattle.transfer.specs.Parts.{AreOpen, IsFirstFault, PartKind}
+use Rattle.transfer.specs.Opening.{ContentCause, KeyFault, LockFault, NoKeyText, RefusedAfter}
 use Rattle.transfer.proofs.Lists.{each_append}
 
 -- ---- Causes
@@ -51,9 +46,6 @@ refused_later F G old mid new k is f e h =
 pub refused_after_as : (F G : TransferError → ℕ → Type 0) (old new : ℕ) → ((e : TransferError) (n : ℕ) → F e n → G e n) → (e : TransferError) → RefusedAfter F old new e → RefusedAfter G old new e
 refused_after_as F G old new f e h =
     refused_as (λ e. (n : ℕ) × F e n × (new ≡ old + n)) (λ e. (n : ℕ) × G e n × (new ≡ old + n)) ⊥ ⊥ (λ e h. (h.0, f e h.0 h.1, h.2)) (λ h. h) e h
-
-pub malformed_only : (e : Error) (P : Type 0) → e ≡ errors.Malformed → MalformedOnly e P → P
-malformed_only e P is h = subst (λ e. MalformedOnly e P) is h
 
 -- ---- Locked texts
 
@@ -159,18 +151,3 @@ pub flat_refused : {X A B : Type 0} (K : PartKind A B TransferError) (f : X → 
 flat_refused K f limit sum now xs i x ys old mid new e lt at opened sums is h =
     refused_later (IsFirstFault K limit now (f x)) (IsFirstFault K limit sum (flat_map f xs)) old mid new (sum_by K.share (flat_map f (take i xs))) is
     (λ e n g. flat_fault K f limit sum now xs i x ys e n _ lt at opened sums g refl) e h
-
-pub flat_opens : {X A B : Type 0} (K : PartKind A B TransferError) (f : X → List A) (limit sum now : ℕ) (xs : List X) (i : ℕ) (x : X) (first old new : List B)
-    → i < length xs → x ≡ get_or xs i x → OpensMore K limit sum (flat_map f (take i xs)) first old → now ≡ sum + sum_by K.share (flat_map f (take i xs)) → OpensMore K limit now (f x) old new
-    → OpensMore K limit sum (flat_map f (take (i + 1) xs)) first new
-flat_opens K f limit sum now xs i x first old new lt at a sums b = record {
-  made = a.made ++ b.made;
-  grows = b.grows ∙ ap (λ t. t ++ b.made) a.grows ∙ append_assoc first a.made b.made;
-  opened = flat_more K f limit sum now xs i x a.made b.made lt at a.opened sums b.opened;
-}
-
-pub bag_refused : (p : List ℕ) (limit sum : ℕ) (b : SafeBagKind) (k : EncryptedPrivateKeyInfo) (old new : ℕ) (e : TransferError) → b ≡ bag.Pkcs8ShroudedKeyBag k
-    → sum ≤ limit → RefusedAfter (KeyFault p limit sum k) old new e → RefusedAfter (IsFirstFault (of_keys p limit) limit sum (shrouded_in b)) old new e
-bag_refused p limit sum b k old new e is le h =
-    subst (λ b. RefusedAfter (IsFirstFault (of_keys p limit) limit sum (shrouded_in b)) old new e) (sym is)
-    (part_refused (of_keys p limit) limit sum sum (k ∷ []) 0 k [] old old new e (omega arith) refl (record { each = tt; within = omega (arith, le) }) (omega arith) (omega arith) h)

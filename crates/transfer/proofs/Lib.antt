@@ -6,8 +6,7 @@ mod Overwriting
 mod ContentBags
 mod ContentsInPlace
 mod BagsInPlace
-mod KeysInPlace
-mod BagLengths
+mod KeyWalks
 pub mod Sole
 pub mod Valid
 mod Documents

@@ -36,27 +36,11 @@ kept_wider from s e to old new h i k = (sym (take-take from s new h) ∙ ap (tak
 pub between_place : (p : Place) (b : List ℕ) → slice_range b p.start (p.start + p.len) ≡ at_place p b
 between_place p b = let n : p.start + p.len - p.start ≡ p.len = omega arith in ap (λ (k : ℕ). take k (drop p.start b)) n
 
--- A place in a place.
-pub place_in_place : (place at : Place) (text : List ℕ) → at.start + at.len ≤ place.len → take at.len (drop (place.start + at.start) text) ≡ at_place at (at_place place text)
-place_in_place place at text h =
-    let n : place.len ≡ at.start + (place.len - at.start) = omega (arith, h) in
-    sym (ap (take at.len) (ap (λ (k : ℕ). drop at.start (take k (drop place.start text))) n ∙ drop-take at.start (place.len - at.start) (drop place.start text) ∙ ap (take (place.len - at.start)) (drop-drop at.start place.start text))
-    ∙ take-take at.len (place.len - at.start) (drop (place.start + at.start) text) (omega (arith, h)))
-
 -- ---- Places in order
 
 pub order_more : (from mid to : ℕ) (ps : List Place) (p : Place) → from ≤ mid → InOrder from ps mid → mid ≤ p.start → p.start + p.len ≤ to → InOrder from (ps ++ p ∷ []) to
 order_more from mid to [] p f o h i = (omega (arith, f, h), i, tt)
 order_more from mid to (q ∷ ps) p f o h i = (o.0, omega (arith, o.1, h, i), order_more (q.start + q.len) mid to ps p o.1 o.2 h i)
-
-pub order_wider : (from a b : ℕ) (ps : List Place) → a ≤ b → InOrder from ps a → InOrder from ps b
-order_wider from a b [] h o = tt
-order_wider from a b (p ∷ ps) h o = (o.0, omega (arith, o.1, h), order_wider (p.start + p.len) a b ps h o.2)
-
-pub order_append : (from mid to : ℕ) (ps qs : List Place) → from ≤ mid → mid ≤ to → InOrder from ps mid → InOrder mid qs to → InOrder from (ps ++ qs) to
-order_append from mid to [] [] f h o i = tt
-order_append from mid to [] (q ∷ qs) f h o i = (omega (arith, f, i.0), i.1, i.2)
-order_append from mid to (p ∷ ps) qs f h o i = (o.0, omega (arith, o.1, h), order_append (p.start + p.len) mid to ps qs o.1 h o.2 i)
 
 pub map_more : {A B : Type 0} (f : A → B) (xs : List A) (x : A) → map f (xs ++ x ∷ []) ≡ map f xs ++ f x ∷ []
 map_more f [] x = refl

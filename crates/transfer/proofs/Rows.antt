@@ -17,16 +17,17 @@ use Rattle.pkcs12_kdf.specs.Password.{bmp_password}
 use Rattle.p12.specs.Pfx.{IsStore, NoStore}
 use Rattle.p12.specs.Walk.{Walk}
 use Rattle.transfer.specs.Limits.{store_limit}
-use Rattle.transfer.specs.InCopies.{AreListed}
 use Rattle.transfer.specs.declared.store.error.TransferError.{TransferError}
 use Rattle.transfer.specs.declared.store.error.TransferError.TheVariants.{TooLong, Malformed, Unsupported, MacMissing, MacUnsupported, ZeroIterations, WorkLimit, MacMismatch, ContentMalformed}
 use Rattle.transfer.specs.declared.store.budget.Budget.{Budget}
 use Rattle.transfer.specs.declared.store.open.Listed.{Listed}
-use Rattle.transfer.specs.InPlace.{AreOpened, StandAt}
+use Rattle.transfer.specs.InPlace.{AreListed, AreOpened, StandAt}
+use Rattle.transfer.specs.OpenedSafe.{contents_at}
 use Rattle.transfer.specs.Parts.{AreOpen, IsFirstFault}
 use Rattle.transfer.specs.Opening.{HasVerdict, ContentsTable, KeysTable, MacTable, RefusedAfter, StoreTable, Verdict, all_shrouded, content_share, key_share, of_contents, of_keys, opened, refused}
 use Rattle.transfer.specs.Verdicts.{IsMacOk}
 use Rattle.transfer.proofs.Faults.{refused_later, refused_after_as, true_false}
+use Rattle.transfer.proofs.BagsInPlace.{stand_are, stand_lists}
 use Rattle.transfer.proofs.Lengths.{contents_within}
 
 mac_none : {P : Type 0} (r : Option MacData) (m : MacData) → r ≡ Some m → r ≡ None → P
@@ -114,7 +115,11 @@ module _ (T : Verdict → ℕ → Type 0) (p : List ℕ) (limit : ℕ) (l : List
 
   pub contents_so : (text : List ℕ) (places : List Place) (now : ℕ) (gss : List (List SafeBag)) → AreOpen (of_contents p l.budget.limit) l.budget.limit l.budget.spent l.contents.left gss → StandAt text places gss
       → length text ≤ store_limit → now ≡ l.budget.spent + sum_by content_share l.contents.left → AreOpened T p limit text places now
-  contents_so text places now gss a stand short n = record { bags = gss; stand = stand; short = short; decides = contents_decide now gss a n }
+  contents_so text places now gss a stand short n = record {
+    short = short;
+    lists = stand_lists text 0 places gss stand.each stand.order;
+    decides = λ w m t. contents_decide now gss a n w m (subst (λ g. KeysTable p limit now g w m) (stand_are text places gss stand.each) t);
+  }
 
   pub contents_refused_so : (old mid new : ℕ) (e : TransferError) → mid ≡ old + l.budget.spent → RefusedAfter (IsFirstFault (of_contents p l.budget.limit) l.budget.limit l.budget.spent l.contents.left) mid new e
       → RefusedAfter (λ e n. T (refused e) n) old new e
@@ -162,20 +167,14 @@ refused_still (Err e) F G old new f h = refused_after_as F G old new f e h
 
 -- ---- The keys of a store whose contents are open
 
-module _ (T : Verdict → ℕ → Type 0) (p : List ℕ) (limit allowed spent : ℕ) (gss : List (List SafeBag)) (decides : (w : Verdict) (n : ℕ) → KeysTable p limit spent gss w n → T w n) (same : allowed ≡ limit) where
-  pub keys_decide : (ks : List (List ℕ)) → AreOpen (of_keys p allowed) allowed spent (all_shrouded gss) ks → T (opened gss ks) (spent + sum_by key_share (all_shrouded gss))
-  keys_decide ks a = decides _ _ (all_open p limit spent gss ks (subst (λ n. AreOpen (of_keys p n) n spent (all_shrouded gss) ks) same a))
-
-  pub keys_refused_so : (old mid new : ℕ) (e : TransferError) → mid ≡ old + spent → RefusedAfter (IsFirstFault (of_keys p allowed) allowed spent (all_shrouded gss)) mid new e
-      → RefusedAfter (λ e n. T (refused e) n) old new e
-  keys_refused_so old mid new e is h =
-      refused_later (IsFirstFault (of_keys p limit) limit spent (all_shrouded gss)) (λ e n. T (refused e) n) old mid new spent is (λ e n f. decides _ _ (key_fault p limit spent gss e n f)) e
-      (subst (λ n. RefusedAfter (IsFirstFault (of_keys p n) n spent (all_shrouded gss)) mid new e) same h)
-
 module _ (T : Verdict → ℕ → Type 0) (p : List ℕ) (limit allowed : ℕ) (text : List ℕ) (places : List Place) (spent : ℕ) (o : AreOpened T p limit text places spent) (same : allowed ≡ limit) where
-  pub opened_so : (ks : List (List ℕ)) → AreOpen (of_keys p allowed) allowed spent (all_shrouded o.bags) ks → T (opened o.bags ks) (spent + sum_by key_share (all_shrouded o.bags))
-  opened_so = keys_decide T p limit allowed spent o.bags o.decides same
+  pub opened_so : (ks : List (List ℕ)) → AreOpen (of_keys p allowed) allowed spent (all_shrouded (contents_at text places)) ks
+      → T (opened (contents_at text places) ks) (spent + sum_by key_share (all_shrouded (contents_at text places)))
+  opened_so ks a = let gss = contents_at text places in o.decides _ _ (all_open p limit spent gss ks (subst (λ n. AreOpen (of_keys p n) n spent (all_shrouded gss) ks) same a))
 
-  pub refused_so : (old mid new : ℕ) (e : TransferError) → mid ≡ old + spent → RefusedAfter (IsFirstFault (of_keys p allowed) allowed spent (all_shrouded o.bags)) mid new e
+  pub refused_so : (old mid new : ℕ) (e : TransferError) → mid ≡ old + spent → RefusedAfter (IsFirstFault (of_keys p allowed) allowed spent (all_shrouded (contents_at text places))) mid new e
       → RefusedAfter (λ e n. T (refused e) n) old new e
-  refused_so = keys_refused_so T p limit allowed spent o.bags o.decides same
+  refused_so old mid new e is h =
+      let gss = contents_at text places in
+      refused_later (IsFirstFault (of_keys p limit) limit spent (all_shrouded gss)) (λ e n. T (refused e) n) old mid new spent is (λ e n f. o.decides _ _ (key_fault p limit spent gss e n f)) e
+      (subst (λ n. RefusedAfter (IsFirstFault (of_keys p n) n spent (all_shrouded gss)) mid new e) same h)

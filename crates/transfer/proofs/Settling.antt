@@ -1,12 +1,12 @@
 -- Each result comes where its cause holds.
-use Rattle.std.proofs.Common.{ℕ, ◌≡◌, ◌+◌, ◌*◌, ◌≤◌, ◌<◌, ◌⊎◌, inl, inr, List, length, refl, sym, ap, subst, arith}
-use Rattle.std.specs.Prelude.{Option, Some, None, Result, Ok, Err, IfSome, ⊤}
+use Rattle.std.proofs.Common.{ℕ, ◌≡◌, ◌+◌, ◌*◌, ◌≤◌, ◌⊎◌, inl, inr, List, length, refl, ap, subst, arith}
+use Rattle.std.specs.Prelude.{Option, Some, None, Result, Ok, Err, IfErr, IfSome, IsOk, ⊤}
 use Rattle.p12.specs.declared.safe_bag.SafeBag.{SafeBag}
 use Rattle.transfer.specs.declared.store.error.TransferError.{TransferError}
 use Rattle.transfer.specs.declared.store.error.TransferError.TheVariants.{TooLong, Malformed, Unsupported, MacMissing, MacUnsupported, ZeroIterations, WorkLimit, MacMismatch, ContentMalformed, DecryptFailed, KeyMalformed, Rng, Memory}
 use Rattle.transfer.specs.TransferError.{RefusedBy}
 use Rattle.transfer.specs.Opening.{HasVerdict, FirstCause, RefusedAfter, opened, refused}
-use Rattle.transfer.specs.Transferred.{DrawsFor, IsDecided, IsSettled, Settles}
+use Rattle.transfer.specs.Transferred.{DrawsFor, IsDecided, IsRefusal, IsSettled, Settles}
 use Rattle.transfer.proofs.Faults.{refused_as}
 use Rattle.transfer.proofs.Sole.{verdict_sole}
 use Rattle.transfer.proofs.Valid.{not_refused, second_same}
@@ -53,67 +53,8 @@ pub any : (o : Option (List ℕ)) → IfSome o (λ d. ⊤)
 any None = tt
 any (Some d) = tt
 
--- ---- Each kind of answer
-
-settled_ok : {T : Type 0} (b p : List ℕ) (limit : ℕ) (left : Option (List ℕ)) (t : T) (gss : List (List SafeBag)) (ks : List (List ℕ)) (m : ℕ) → HasVerdict b p limit (opened gss ks) m
-    → IfSome left (λ d. 32 * length ks ≤ length d) → IsSettled {T = T} b p limit left (Ok t)
-settled_ok b p limit left t gss ks m c enough = record {
-  refuses = λ e h. open_refused b p limit gss ks e m h.0 c h.1;
-  completes = λ h. inl refl;
-  draws = λ hss js n d. if_some_map left (λ d. 32 * length ks ≤ length d) _
-      (λ x le. (λ lt. absurd (omega (arith, le, lt, ap length (both_open b p limit gss hss ks js m n c d))), λ more. inr refl)) enough;
-}
-
-settled_memory : {T : Type 0} (b p : List ℕ) (limit : ℕ) (left : Option (List ℕ)) (e : TransferError) → e ≡ Memory → IsSettled {T = T} b p limit left (Err e)
-settled_memory b p limit left e is = record {
-  refuses = λ g h. inl (ap Err is);
-  completes = λ h. inr (inl (ap Err is));
-  draws = λ hss js n d. if_some_map left (λ d. ⊤) _ (λ x h. (λ lt. inl (ap Err is), λ le. inl (ap Err is))) (any left);
-}
-
-settled_rng : {T : Type 0} (b p : List ℕ) (limit : ℕ) (left : Option (List ℕ)) (e : TransferError) → e ≡ Rng → (gss : List (List SafeBag)) (ks : List (List ℕ)) (m : ℕ)
-    → HasVerdict b p limit (opened gss ks) m → IfSome left (λ d. length d < 32 * length ks) → IsSettled {T = T} b p limit left (Err e)
-settled_rng b p limit left e is gss ks m c few = record {
-  refuses = λ g h. open_refused b p limit gss ks g m h.0 c h.1;
-  completes = λ h. inr (inr (ap Err is));
-  draws = λ hss js n d. if_some_map left (λ d. length d < 32 * length ks) _
-      (λ x lt. (λ less. inr (ap Err is), λ le. absurd (omega (arith, le, lt, ap length (both_open b p limit gss hss ks js m n c d))))) few;
-}
-
-settled_refused : {T : Type 0} (b p : List ℕ) (limit : ℕ) (left : Option (List ℕ)) (e : TransferError) (m : ℕ) → HasVerdict b p limit (refused e) m → IsSettled {T = T} b p limit left (Err e)
-settled_refused b p limit left e m c = record {
-  refuses = λ g h. inr (ap Err (refused_same e g (verdict_sole b p limit (refused e) (refused g) m h.0 c h.1).0));
-  completes = λ h. open_refused b p limit h.0 h.1 e h.2 m h.3 c;
-  draws = λ hss js n d. open_refused b p limit hss js e n m d c;
-}
-
-settled_err : (T : Type 0) (b p : List ℕ) (limit : ℕ) (left : Option (List ℕ)) (e : TransferError)
-    → (e ≡ Memory) ⊎ (((e ≡ Rng) × ((gss : List (List SafeBag)) × (ks : List (List ℕ)) × (n : ℕ) × HasVerdict b p limit (opened gss ks) n × IfSome left (λ d. length d < 32 * length ks)))
-    ⊎ ((n : ℕ) × HasVerdict b p limit (refused e) n)) → IsSettled {T = T} b p limit left (Err e)
-settled_err T b p limit left e (inl h) = settled_memory b p limit left e h
-settled_err T b p limit left e (inr (inl (is, (gss, ks, n, c, few)))) = settled_rng b p limit left e is gss ks n c few
-settled_err T b p limit left e (inr (inr (n, c))) = settled_refused b p limit left e n c
-
-pub settles_ok : {T : Type 0} (b p : List ℕ) (limit : ℕ) (left : Option (List ℕ)) (t : T) (gss : List (List SafeBag)) (ks : List (List ℕ)) (m : ℕ) → HasVerdict b p limit (opened gss ks) m
-    → IfSome left (λ d. 32 * length ks ≤ length d) → Settles {T = T} b p limit left (Ok t)
-unfolding Settles
-settles_ok b p limit left t gss ks m c enough = settled_ok b p limit left t gss ks m c enough
-
-pub settles_err : (T : Type 0) (b p : List ℕ) (limit : ℕ) (left : Option (List ℕ)) (e : TransferError)
-    → RefusedBy (λ e. (n : ℕ) × HasVerdict b p limit (refused e) n)
-    ((gss : List (List SafeBag)) × (ks : List (List ℕ)) × (n : ℕ) × HasVerdict b p limit (opened gss ks) n × IfSome left (λ d. length d < 32 * length ks)) e
-    → Settles {T = T} b p limit left (Err e)
-unfolding Settles
-settles_err T b p limit left e h =
-    settled_err T b p limit left e (refusal (λ e. (n : ℕ) × HasVerdict b p limit (refused e) n)
-    ((gss : List (List SafeBag)) × (ks : List (List ℕ)) × (n : ℕ) × HasVerdict b p limit (opened gss ks) n × IfSome left (λ d. length d < 32 * length ks)) e h)
-
 pub draws_ok : {T : Type 0} (left : Option (List ℕ)) (n : ℕ) (t : T) → IfSome left (λ d. 32 * n ≤ length d) → DrawsFor {T = T} left n (Ok t)
 draws_ok left n t enough = if_some_map left (λ d. 32 * n ≤ length d) _ (λ d le. (λ lt. absurd (omega (arith, le, lt)), λ more. inr refl)) enough
-
-pub settles_memory : {T : Type 0} (b p : List ℕ) (limit : ℕ) (left : Option (List ℕ)) (r : Result T TransferError) → r ≡ Err Memory → Settles {T = T} b p limit left r
-unfolding Settles
-settles_memory {T} b p limit left r is = subst (λ r. IsSettled {T = T} b p limit left r) (sym is) (settled_memory b p limit left Memory refl)
 
 -- What a refusal before the draw says, without its steps.
 pub refused_undrawn : (F : TransferError → ℕ → Type 0) (R : Type 0) (old new : ℕ) (e : TransferError) → RefusedAfter F old new e → RefusedBy (λ e. (n : ℕ) × F e n) R e
@@ -143,3 +84,58 @@ decided_by T b p limit e (inr (inr (n, c))) = record {
 
 pub decided_err : (T : Type 0) (b p : List ℕ) (limit : ℕ) (e : TransferError) → RefusedBy (λ e. (n : ℕ) × HasVerdict b p limit (refused e) n) ⊥ e → IsDecided {T = T} b p limit (Err e)
 decided_err T b p limit e h = decided_by T b p limit e (refusal (λ e. (n : ℕ) × HasVerdict b p limit (refused e) n) ⊥ e h)
+
+-- ---- Opening and then sealing
+
+one_refusal : {S : Type 0} (e g : TransferError) → (let r : Result S TransferError = Err e in r) ≡ Err g → e ≡ g
+one_refusal e g h = cc
+
+refusal_as : {S T : Type 0} (e g : TransferError) → IsRefusal {T = S} (Err e) g → IsRefusal {T = T} (Err e) g
+refusal_as {S} e g (inl h) = inl (ap Err (one_refusal {S = S} e Memory h))
+refusal_as {S} e g (inr h) = inr (ap Err (one_refusal {S = S} e g h))
+
+-- Where an opening that no cause refuses has failed there was no memory.
+no_memory : {S : Type 0} (e : TransferError) → IsOk (let r : Result S TransferError = Err e in r) ⊎ ((let r : Result S TransferError = Err e in r) ≡ Err Memory) → e ≡ Memory
+no_memory e (inl h) = absurd (let t = h in cc)
+no_memory {S} e (inr h) = one_refusal {S = S} e Memory h
+
+pub decided_as : (S T : Type 0) (b p : List ℕ) (limit : ℕ) (e : TransferError) → IsDecided {T = S} b p limit (Err e) → IsDecided {T = T} b p limit (Err e)
+decided_as S T b p limit e d = record {
+  refuses = λ g h. refusal_as {S = S} e g (d.refuses g h);
+  completes = λ h. inr (ap Err (no_memory {S = S} e (d.completes h)));
+}
+
+settled_unopened : (S T : Type 0) (b p : List ℕ) (limit : ℕ) (left : Option (List ℕ)) (e : TransferError) → IsDecided {T = S} b p limit (Err e) → IsSettled {T = T} b p limit left (Err e)
+settled_unopened S T b p limit left e d = record {
+  refuses = λ g h. refusal_as {S = S} e g (d.refuses g h);
+  completes = λ h. inr (inl (ap Err (no_memory {S = S} e (d.completes h))));
+  draws = λ gss ks n h. let is = no_memory {S = S} e (d.completes (gss, ks, n, h)) in
+      if_some_map left (λ d. ⊤) _ (λ x h. (λ lt. inl (ap Err is), λ le. inl (ap Err is))) (any left);
+}
+
+pub settles_unopened : (S T : Type 0) (b p : List ℕ) (limit : ℕ) (left : Option (List ℕ)) (e : TransferError) → IsDecided {T = S} b p limit (Err e) → Settles {T = T} b p limit left (Err e)
+unfolding Settles
+settles_unopened S T b p limit left e d = settled_unopened S T b p limit left e d
+
+-- What sealing comes to is Rng or Memory, where it fails.
+sealing_fails : {T : Type 0} (R : Type 0) (e : TransferError) → (e ≡ Memory) ⊎ (((e ≡ Rng) × R) ⊎ ⊥) → IsRefusal {T = T} (Err e) Rng
+sealing_fails R e (inl is) = inl (ap Err is)
+sealing_fails R e (inr (inl (is, h))) = inr (ap Err is)
+sealing_fails R e (inr (inr h)) = absurd h
+
+sealing_ends : {T : Type 0} (r : Result T TransferError) (R : Type 0) → IfErr r (RefusedBy (λ e. ⊥) R) → IsOk r ⊎ IsRefusal r Rng
+sealing_ends (Ok t) R h = inl refl
+sealing_ends (Err e) R h = inr (sealing_fails R e (refusal (λ e. ⊥) R e h))
+
+settled_sealed : {T : Type 0} (b p : List ℕ) (limit : ℕ) (left : Option (List ℕ)) (r : Result T TransferError) (gss : List (List SafeBag)) (ks : List (List ℕ)) (n : ℕ) (R : Type 0)
+    → HasVerdict b p limit (opened gss ks) n → DrawsFor left (length ks) r → IfErr r (RefusedBy (λ e. ⊥) R) → IsSettled {T = T} b p limit left r
+settled_sealed b p limit left r gss ks n R v d h = record {
+  refuses = λ e c. open_refused b p limit gss ks e n c.0 v c.1;
+  completes = λ c. sealing_ends r R h;
+  draws = λ hss js m w. subst (λ (js : List (List ℕ)). DrawsFor left (length js) r) (both_open b p limit gss hss ks js n m v w) d;
+}
+
+pub settles_sealed : {T : Type 0} (b p : List ℕ) (limit : ℕ) (left : Option (List ℕ)) (r : Result T TransferError) (gss : List (List SafeBag)) (ks : List (List ℕ)) (n : ℕ) (R : Type 0)
+    → HasVerdict b p limit (opened gss ks) n → DrawsFor left (length ks) r → IfErr r (RefusedBy (λ e. ⊥) R) → Settles {T = T} b p limit left r
+unfolding Settles
+settles_sealed b p limit left r gss ks n R v d h = settled_sealed b p limit left r gss ks n R v d h

@@ -1,12 +1,13 @@
 -- Texts of private keys that were part of a store.
-use Rattle.std.proofs.Common.{◌≡◌, ◌∙◌, ℕ, zero, suc, ◌+◌, ◌<◌, List, [], ◌∷◌, ◌++◌, length, take, get_or, sym, ap, ap₂, subst, arith}
+use Rattle.std.proofs.Common.{◌≡◌, ◌∙◌, ℕ, zero, suc, ◌+◌, ◌<◌, ◌≤◌, List, [], ◌∷◌, ◌++◌, length, take, get_or, sym, ap, ap₂, subst, arith}
 use Rattle.std.specs.Prelude.{All}
 use Rattle.std.proofs.lemmas.List.Elements.{All-append}
 use Rattle.der_core.specs.BitString.{seen_bits}
 use Rattle.pkcs8.specs.Seen.{seen_private_key}
 use Rattle.spki.specs.Seen.{borrowed_any}
 use Rattle.transfer.specs.InPlace.{IsOpenedKey, texts_of}
-use Rattle.transfer.specs.Opening.{IsStoredKey, NoKeyText}
+use Rattle.transfer.specs.Limits.{store_limit}
+use Rattle.transfer.specs.Opening.{IsKeyText, IsStoredKey, NoKeyText}
 use Rattle.transfer.specs.declared.store.key_text.OpenedKey.{OpenedKey}
 use Rattle.transfer.proofs.Faults.{take_one}
 use Rattle.transfer.proofs.Overwriting.{map_more}
@@ -18,8 +19,11 @@ stored_at texts i text all lt is = subst IsStoredKey (sym is) (all i text lt)
 pub none_unread : {P : Type 0} (texts : List (List ℕ)) (i : ℕ) (text seen : List ℕ) → All IsStoredKey texts → i < length texts → text ≡ get_or texts i text → seen ≡ text → NoKeyText seen → P
 none_unread texts i text seen all lt is same none = absurd ((stored_at texts i text all lt is).0 (subst NoKeyText same none))
 
-pub opened_stored : (k : OpenedKey) → IsOpenedKey k → IsStoredKey k.text.now
-opened_stored k is = (λ none. none (seen_private_key borrowed_any (λ s. s.octets.now) (λ s. seen_bits s.unused_bits s.octets.now) k.key) is.0, is.1)
+pub opened_text : (k : OpenedKey) (text : List ℕ) → IsOpenedKey k → k.text.now ≡ text → IsKeyText text
+opened_text k text is same = subst IsKeyText same (seen_private_key borrowed_any (λ s. s.octets.now) (λ s. seen_bits s.unused_bits s.octets.now) k.key, is.0)
+
+pub text_stored : (text : List ℕ) → IsKeyText text → length text ≤ store_limit → IsStoredKey text
+text_stored text is short = (λ none. none is.0 is.1, short)
 
 all_one : {X : Type 0} (P : X → Type 0) (x : X) → P x → All P (x ∷ [])
 all_one P x h zero d lt = h

@@ -9,7 +9,7 @@ pub mod Sealing
 pub mod Status
 pub mod Parts
 pub mod Opening
-pub mod InCopies
+pub mod OpenedSafe
 pub mod InPlace
 pub mod Verdicts
 pub mod Transferred

@@ -83,6 +83,10 @@ all_shrouded gss = flat_map shrouded_among gss
 
 -- ---- Keys
 
+-- the encrypted key of an algorithm and its octets
+abbrev pub key_with : AlgorithmIdentifier → List ℕ → EncryptedPrivateKeyInfo
+key_with a c = record { encryption_algorithm = a; encrypted_data = c }
+
 -- the share of the work that an encrypted key has
 abbrev pub key_share : EncryptedPrivateKeyInfo → ℕ
 key_share k = cost k.encryption_algorithm

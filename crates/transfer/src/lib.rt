@@ -20,5 +20,6 @@ pub use program::top_call::run;
 pub use store::error::TransferError;
 pub use store::opened::{Opened, open_store};
 pub use store::opening::Opening;
+pub use store::safe::{OpenedSafe, open_safe};
 pub use store::sealed::seal_opened;
 pub use store::transfer::{Transferred, transfer};

@@ -8,7 +8,9 @@ use std::alloc::Global;
 use std::marker::Brand;
 use std::sync::ledger::{Blank, Ledger};
 use steps::Steps;
-use transfer::{Opened, TransferError, Transferred, open_store, seal_opened, transfer};
+use transfer::{
+    Opened, OpenedSafe, TransferError, Transferred, open_safe, open_store, seal_opened, transfer,
+};
 
 /// A store in today's format of `tests/vectors/transferred_keys.txt`: its three counts are 2,048.
 const TODAY: &[u8] = &[
@@ -199,11 +201,47 @@ fn opened_and_sealed(alloc: Global, store: &[u8]) -> Result<Transferred, Transfe
     seal_opened(alloc, &opened, b"q", 1, &mut draw)
 }
 
-/// Opens a store, and seals its key as `opened_and_sealed` does, which takes the opened store over.
-fn opened_and_taken_over(alloc: Global, store: &[u8]) -> Result<Transferred, TransferError> {
-    let opened = opened(alloc, store, 6144)?;
+/// Opens a store under the password `changeit`, and keeps it as one text.
+fn kept_counted<L: Ledger>(
+    alloc: Global,
+    store: &[u8],
+    blank: Blank,
+) -> Result<OpenedSafe, TransferError>
+    requires name { blank.name ≡ L.name }
+    requires parts { blank.parts ≡ L.parts }
+    requires some { 0 < blank.parts }
+{
+    let mut steps = Steps::<L>::open(blank);
+    open_safe(alloc, store, "changeit", 6144, &mut steps)
+}
+
+/// The same with a counter of its own.
+fn kept(alloc: Global, store: &[u8]) -> Result<OpenedSafe, TransferError> {
+    kept_counted::<Brand>(alloc, store, Blank::new(1))
+}
+
+/// Opens a store, and seals its key as `transferred` does, from the text that it was kept as.
+fn kept_and_sealed(alloc: Global, store: &[u8]) -> Result<Transferred, TransferError> {
+    let safe = kept(alloc, store)?;
     let mut draw = DrawnBytes::new(Octets::from_slice(alloc, &[0; 32])?);
-    opened.seal(alloc, b"q", 1, &mut draw)
+    safe.seal(alloc, b"q", 1, &mut draw)
+}
+
+/// Whether a store that is kept as one text has two contents and one key, and no key without its keys.
+fn is_kept(alloc: Global, answer: Result<OpenedSafe, TransferError>) -> bool {
+    match answer {
+        Ok(safe) => {
+            safe.number_of_contents() == 2
+                && safe.number_of_keys() == 1
+                && safe.without_keys(alloc).number_of_keys() == 0
+        }
+        Err(_) => false,
+    }
+}
+
+#[test]
+fn a_store_is_kept_as_one_text(rt: HostRuntime) {
+    assert!(rt; is_kept(rt.alloc(), kept(rt.alloc(), TODAY)));
 }
 
 /// Whether a transfer gives the same.
@@ -218,7 +256,7 @@ fn is_transferred(alloc: Global, answer: Result<Transferred, TransferError>) -> 
 fn opening_and_sealing_is_a_transfer(rt: HostRuntime) {
     let alloc = rt.alloc();
     assert!(rt; is_transferred(alloc, opened_and_sealed(alloc, TODAY)));
-    assert!(rt; is_transferred(alloc, opened_and_taken_over(alloc, TODAY)));
+    assert!(rt; is_transferred(alloc, kept_and_sealed(alloc, TODAY)));
 }
 
 /// Whether a store was transferred, and has no certificate.

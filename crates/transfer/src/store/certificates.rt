@@ -1,8 +1,6 @@
 //! The certificates of an opened store.
-ghost use Rattle.std.specs.Prelude.{◌≡◌, ◌++◌, List, IfOk, IfErr, OnOk};
-ghost use Rattle.p12.specs.declared.safe_bag.SafeBag.{SafeBag};
-ghost use Rattle.asn1_core.specs.Sets.{Each};
-ghost use Rattle.transfer.specs.InPlace.{BagsAt, StandAt};
+ghost use Rattle.std.specs.Prelude.{◌≡◌, ◌++◌, All, IfOk, OnOk};
+ghost use Rattle.transfer.specs.OpenedSafe.{ListsAt, contents_at};
 ghost use Rattle.transfer.specs.Opening.{all_certificates};
 ghost use Rattle.p12.specs.Collected.{certificates_among};
 
@@ -37,9 +35,9 @@ pub(crate) fn certificates_of(
     text: &[u8],
     places: &[Place],
 ) -> Result<Items<Octets>, AllocError>
-    requires { (bags : List (List SafeBag)) × StandAt text.now places.now bags }
-    ensures { IfOk result (λ certificates. (bags : List (List SafeBag))
-        → Each (BagsAt text.now) places.now bags → certificates ≡ all_certificates bags) }
+    requires { All (ListsAt text.now) places.now }
+    ensures { IfOk result
+        (λ certificates. certificates ≡ all_certificates (contents_at text.now places.now)) }
 {
     let mut certificates = Items::new(alloc);
     for place in places {

@@ -1,9 +1,8 @@
 //! The contents of a store: each cause to refuse it in its order, and the exact steps.
 ghost use Rattle.std.specs.Prelude.{◌≡◌, ◌+◌, ◌≤◌, ◌<◌, ◌^◌, ℕ, length, IfOk, IfErr};
 ghost use Rattle.p12.specs.MacView.{seen_mac};
-ghost use Rattle.transfer.specs.InPlace.{AreOpened};
+ghost use Rattle.transfer.specs.InPlace.{AreListed, AreOpened};
 ghost use Rattle.transfer.specs.Limits.{store_limit};
-ghost use Rattle.transfer.specs.InCopies.{AreListed};
 ghost use Rattle.transfer.specs.Opening.{HasVerdict, MacTable, RefusedAfter, refused};
 
 use crate::store::budget::Budget;

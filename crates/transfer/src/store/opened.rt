@@ -5,11 +5,9 @@ ghost use Rattle.transfer.specs.Opening.{HasVerdict, IsStoredKey, RefusedAfter, 
 ghost use Rattle.transfer.specs.Transferred.{IsDecided};
 ghost use Rattle.transfer.specs.Verdicts.{StoreOpens};
 
-use crate::store::bag_keys::open_keys_of;
-use crate::store::content_bags::bags_of_contents;
 use crate::store::copies::{copied, copied_contents};
 use crate::store::error::TransferError;
-use crate::store::open::list_contents;
+use crate::store::safe::open_safe;
 use asn1_core::{Items, Octets};
 use p12::SafeBag;
 use std::alloc::Global;
@@ -63,9 +61,6 @@ pub fn open_store<L: Ledger>(
     ensures exact { IsDecided store.now password.now limit result }
     ensures at_most { (steps.old ≤ steps.new) × (steps.new ≤ steps.old + limit) }
 {
-    let listed = list_contents(alloc, store, password, limit, steps)?;
-    let mut budget = listed.budget;
-    let contents = bags_of_contents(alloc, listed.contents, password, &mut budget, steps)?;
-    let keys = open_keys_of(alloc, contents.as_slice(), password, &mut budget, steps)?;
-    Ok(Opened { contents, keys })
+    let safe = open_safe(alloc, store, password, limit, steps)?;
+    Ok(safe.into_opened(alloc)?)
 }

@@ -7,17 +7,18 @@ ghost use Rattle.pkcs8.specs.declared.error.Error.TheVariants as errors;
 ghost use Rattle.transfer.specs.Limits.{rounds_limit};
 ghost use Rattle.transfer.specs.Document.{IsDocument, document_key};
 ghost use Rattle.transfer.specs.InPlace.{IsOpenedKey, texts_of};
+ghost use Rattle.transfer.specs.Opening.{IsStoredKey};
 ghost use Rattle.transfer.specs.Sealing.{AreDrawn, AreOf16, SealsAll, document_keys, octets_of};
 ghost use Rattle.transfer.specs.TransferError.{RefusedBy};
 
 use crate::store::error::TransferError;
-use crate::store::key_text::OpenedKey;
+use crate::store::key_text::{OpenedKey, opened_key};
 use asn1_core::{Items, Octets};
 use mac_modes::Draw;
 use octet_core::laws::are_octets;
 use pkcs5::pbes2::{EncryptionKey, Parameters, Salt};
 use pkcs8::{Error, private_keys_are_written, short_keys_are_encrypted, written_keys_are_shortest};
-use std::alloc::Global;
+use std::alloc::{AllocError, Global};
 
 /// The refusal to seal a key of a short text, which is running out of memory.
 fn refusal_of(error: Error) -> TransferError
@@ -221,29 +222,46 @@ fn add_documents(documents: &mut Items<Octets>, more: Items<Octets>) -> Result<(
 /// How many keys are sealed at once: as many as are derived at once.
 const GROUP: usize = 4;
 
-/// Seals the keys, in order, under the octets of a draw, 32 for each. The octets of each group of keys are drawn just before it is
-/// sealed, so a draw can tell how far the work is.
+/// The private keys of these texts, each beside its text.
+fn read_keys(alloc: Global, texts: &[Octets]) -> Result<Items<OpenedKey<'_>>, AllocError>
+    requires { All IsStoredKey texts.now }
+    ensures keys { IfOk result (λ keys. All IsOpenedKey keys) }
+    ensures texts { IfOk result (λ keys. texts_of keys ≡ texts.now) }
+{
+    let mut keys = Items::new(alloc);
+    for text in texts {
+        match opened_key(text.as_slice()) {
+            Some(key) => keys.push(key)?,
+            None => unreachable!(),
+        }
+    }
+    Ok(keys)
+}
+
+/// Seals the private keys of these texts, in order, under the octets of a draw, 32 for each. The octets of each group of keys are drawn
+/// just before it is sealed, so a draw can tell how far the work is.
 pub(crate) fn seal_all<D: Draw>(
     alloc: Global,
-    keys: &[OpenedKey<'_>],
+    texts: &[Octets],
     new_password: &[u8],
     rounds: u32,
     draw: &mut D,
 ) -> Result<Items<Octets>, TransferError>
-    requires keys { All IsOpenedKey keys.now }
+    requires texts { All IsStoredKey texts.now }
     requires rounds { (1 ≤ rounds) × (rounds ≤ rounds_limit) }
     ensures count { D.faults draw.old ≤ D.faults draw.new }
     ensures no_fault { OnOk result (D.faults draw.new ≡ D.faults draw.old) }
     ensures last { D.faults draw.old < D.faults draw.new → IsErrOf result TransferError.Rng }
     ensures sealed { IfOk result (λ documents. SealsAll rounds new_password.now (D.left draw.old)
-        (D.left draw.new) (texts_of keys.now) documents) }
+        (D.left draw.new) texts.now documents) }
     ensures cause { IfErr result
         (RefusedBy (λ e. ⊥) (Lacks (D.faults draw.old) (D.faults draw.new) (D.left draw.old)
-        (32 * length keys.now))) }
+        (32 * length texts.now))) }
 {
     let mut documents = Items::new(alloc);
-    for group in keys.chunks(GROUP) {
-        let sealed = seal_group(alloc, group, new_password, rounds, draw)?;
+    for group in texts.chunks(GROUP) {
+        let keys = read_keys(alloc, group)?;
+        let sealed = seal_group(alloc, keys.as_slice(), new_password, rounds, draw)?;
         add_documents(&mut documents, sealed)?;
     }
     Ok(documents)

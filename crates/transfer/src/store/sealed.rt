@@ -1,17 +1,14 @@
 //! Sealing the keys of an opened store.
-ghost use Rattle.std.specs.Prelude.{◌≡◌, ◌<◌, ◌≤◌, ◌*◌, ◌++◌, All, length, IfOk, IfErr, OnOk};
+ghost use Rattle.std.specs.Prelude.{◌≡◌, ◌<◌, ◌≤◌, ◌*◌, ◌++◌, length, IfOk, IfErr, OnOk};
 ghost use Rattle.std.specs.Result.{IsErrOf};
 ghost use Rattle.octet_core.specs.Draw.{Lacks};
-ghost use Rattle.transfer.specs.InPlace.{IsOpenedKey, texts_of};
 ghost use Rattle.transfer.specs.Limits.{rounds_limit};
-ghost use Rattle.transfer.specs.Opening.{IsStoredKey, all_certificates};
-ghost use Rattle.transfer.specs.Sealing.{SealsAll};
+ghost use Rattle.transfer.specs.Opening.{all_certificates};
 ghost use Rattle.transfer.specs.TransferError.{RefusedBy};
 ghost use Rattle.transfer.specs.Transferred.{DrawsFor, SealsOpened};
 ghost use Rattle.p12.specs.Collected.{certificates_among};
 
 use crate::store::error::TransferError;
-use crate::store::key_text::{OpenedKey, opened_key};
 use crate::store::opened::Opened;
 use crate::store::seal::seal_all;
 use crate::store::transfer::Transferred;
@@ -52,45 +49,6 @@ fn x509_among(alloc: Global, contents: &[Items<SafeBag>]) -> Result<Items<Octets
     Ok(certificates)
 }
 
-/// The private keys of these texts, each beside its text.
-fn read_keys(alloc: Global, texts: &[Octets]) -> Result<Items<OpenedKey<'_>>, AllocError>
-    requires { All IsStoredKey texts.now }
-    ensures keys { IfOk result (λ keys. All IsOpenedKey keys) }
-    ensures texts { IfOk result (λ keys. texts_of keys ≡ texts.now) }
-{
-    let mut keys = Items::new(alloc);
-    for text in texts {
-        match opened_key(text.as_slice()) {
-            Some(key) => keys.push(key)?,
-            None => unreachable!(),
-        }
-    }
-    Ok(keys)
-}
-
-/// The documents that seal the private keys of these texts, in order, under the octets of a draw.
-fn seal_texts<D: Draw>(
-    alloc: Global,
-    texts: &[Octets],
-    new_password: &[u8],
-    rounds: u32,
-    draw: &mut D,
-) -> Result<Items<Octets>, TransferError>
-    requires texts { All IsStoredKey texts.now }
-    requires rounds { (1 ≤ rounds) × (rounds ≤ rounds_limit) }
-    ensures sealed { IfOk result (λ documents. SealsAll rounds new_password.now (D.left draw.old)
-        (D.left draw.new) texts.now documents) }
-    ensures refused { IfErr result (RefusedBy (λ e. ⊥)
-        (Lacks (D.faults draw.old) (D.faults draw.new) (D.left draw.old)
-        (32 * length texts.now))) }
-    ensures count { D.faults draw.old ≤ D.faults draw.new }
-    ensures no_fault { OnOk result (D.faults draw.new ≡ D.faults draw.old) }
-    ensures last { D.faults draw.old < D.faults draw.new → IsErrOf result TransferError.Rng }
-{
-    let keys = read_keys(alloc, texts)?;
-    seal_all(alloc, keys.as_slice(), new_password, rounds, draw)
-}
-
 /// The certificates of an opened store and, for each of its private keys, one document that seals it, as `transfer` seals it:
 /// `open_store` and then this is a transfer, by the law `transfer_is_in_two`. The refusals are `Rng` and `Memory`.
 ///
@@ -114,42 +72,9 @@ pub fn seal_opened<D: Draw>(
     ensures last { D.faults draw.old < D.faults draw.new → IsErrOf result TransferError.Rng }
 {
     let certificates = x509_among(alloc, opened.contents.as_slice())?;
-    let documents = seal_texts(alloc, opened.keys.as_slice(), new_password, rounds, draw)?;
+    let documents = seal_all(alloc, opened.keys.as_slice(), new_password, rounds, draw)?;
     Ok(Transferred {
         certificates,
         documents,
     })
-}
-
-impl Opened {
-    /// What `seal_opened` returns. The opened store is taken over: its bags take no memory any more where its keys are sealed.
-    ///
-    /// Caller: the rounds are 1 to 100,000,000.
-    pub fn seal<D: Draw>(
-        self,
-        alloc: Global,
-        new_password: &[u8],
-        rounds: u32,
-        draw: &mut D,
-    ) -> Result<Transferred, TransferError>
-        requires { (1 ≤ rounds) × (rounds ≤ rounds_limit) }
-        ensures sealed { IfOk result (λ t. SealsOpened rounds new_password.now (D.left draw.old)
-            (D.left draw.new) self.contents self.keys t.certificates t.documents) }
-        ensures refused { IfErr result (RefusedBy (λ e. ⊥)
-            (Lacks (D.faults draw.old) (D.faults draw.new) (D.left draw.old)
-            (32 * length self.keys))) }
-        ensures exact { DrawsFor (D.left draw.old) (length self.keys) result }
-        ensures count { D.faults draw.old ≤ D.faults draw.new }
-        ensures no_fault { OnOk result (D.faults draw.new ≡ D.faults draw.old) }
-        ensures last { D.faults draw.old < D.faults draw.new → IsErrOf result TransferError.Rng }
-    {
-        let Opened { contents, keys } = self;
-        let certificates = x509_among(alloc, contents.as_slice())?;
-        drop(contents);
-        let documents = seal_texts(alloc, keys.as_slice(), new_password, rounds, draw)?;
-        Ok(Transferred {
-            certificates,
-            documents,
-        })
-    }
 }

@@ -9,12 +9,9 @@ ghost use Rattle.frame.specs.Stream.{stream_of};
 ghost use Rattle.transfer.specs.Transferred.{IsRefused, RunsShort, Settles, Transfers};
 ghost use Rattle.transfer.specs.Words.{command};
 
-use crate::store::certificates::certificates_of;
 use crate::store::copies::copied;
 use crate::store::error::TransferError;
-use crate::store::keys::open_keys;
-use crate::store::open::{OpenedContents, open_parts};
-use crate::store::seal::seal_all;
+use crate::store::safe::open_safe;
 use asn1_core::{Items, Octets};
 use mac_modes::Draw;
 use std::alloc::Global;
@@ -80,18 +77,6 @@ pub fn transfer<D: Draw, L: Ledger>(
     ensures last { D.faults draw.old < D.faults draw.new → IsErrOf result TransferError.Rng }
     ensures at_most { (steps.old ≤ steps.new) × (steps.new ≤ steps.old + limit) }
 {
-    let opened = open_parts(alloc, store, password, limit, steps)?;
-    let OpenedContents {
-        mut text,
-        places,
-        mut budget,
-    } = opened;
-    let places = places.as_slice();
-    let certificates = certificates_of(alloc, text.as_slice(), places)?;
-    let keys = open_keys(alloc, &mut text, places, password, &mut budget, steps)?;
-    let documents = seal_all(alloc, keys.as_slice(), new_password, rounds, draw)?;
-    Ok(Transferred {
-        certificates,
-        documents,
-    })
+    let safe = open_safe(alloc, store, password, limit, steps)?;
+    safe.seal(alloc, new_password, rounds, draw)
 }

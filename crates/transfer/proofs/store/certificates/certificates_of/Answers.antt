@@ -1,31 +1,24 @@
-use Rattle.std.proofs.Common.{◌++◌, ◌∙◌, ap, arith, length, sym, take}
+use Rattle.std.proofs.Common.{◌++◌, ◌∙◌, ap, arith, sym, take}
 use Rattle.p12.specs.Collected.{certificates_among}
-use Rattle.p12.specs.Place.{at_place}
-use Rattle.p12.proofs.DefinitionLaws.{bags_sole}
-use Rattle.transfer.specs.InPlace.{BagsAt}
+use Rattle.transfer.specs.OpenedSafe.{bags_there, contents_at}
 use Rattle.transfer.specs.Opening.{all_certificates}
-use Rattle.transfer.proofs.BagsInPlace.{each_length, mate_at, nth, nth_at, place_within}
-use Rattle.std.proofs.lemmas.List.{take_all}
+use Rattle.transfer.proofs.BagsInPlace.{as_many, bags_nth, lists_nth, nth, take_each}
 use Rattle.transfer.proofs.Faults.{flat_one}
 use Rattle.transfer.proofs.store.certificates.certificates_of.Goals as goal
 
-pub bags_at-bags-requires-clause-room : goal.bags_at-bags-requires-clause-room
-bags_at-bags-requires-clause-room c = place_within 0 (length c.args.text.now) c.args.places.now c.loop-place.place-index (nth c.args.places.now c.loop-place.place-index) c.requires.1.order (omega arith) (nth_at c.args.places.now c.loop-place.place-index (omega arith))
-
-pub bags_at-bags-requires-clause-bags : goal.bags_at-bags-requires-clause-bags
-bags_at-bags-requires-clause-bags c =
-    let m = mate_at (BagsAt c.args.text.now) c.args.places.now c.requires.0 c.loop-place.place-index (nth c.args.places.now c.loop-place.place-index) c.requires.1.each (omega arith) (nth_at c.args.places.now c.loop-place.place-index (omega arith)) in
-    (m.mate, m.relates)
+pub bags_at-bags-requires : goal.bags_at-bags-requires
+bags_at-bags-requires c = lists_nth c.args.text.now c.args.places.now c.loop-place.place-index c.requires (omega arith)
 
 pub loop-place-preserved : goal.loop-place-preserved
-loop-place-preserved c = record {
-  taken = λ bags e.
-      let m = mate_at (BagsAt c.args.text.now) c.args.places.now bags c.loop-place.place-index (nth c.args.places.now c.loop-place.place-index) e (omega arith) (nth_at c.args.places.now c.loop-place.place-index (omega arith)) in
-      c.in_ok-add_certificates.ensures ∙ ap (λ t. t ++ certificates_among c.bags_at-bags.result.left) (c.loop-place.invariant.taken bags e)
-      ∙ ap (λ g. all_certificates (take c.loop-place.place-index bags) ++ certificates_among g) (bags_sole (at_place (nth c.args.places.now c.loop-place.place-index) c.args.text.now) c.bags_at-bags.result.left m.mate c.bags_at-bags.ensures.are m.relates)
-      ∙ sym (flat_one certificates_among bags c.loop-place.place-index m.mate m.below m.is);
-}
+loop-place-preserved c =
+    let text = c.args.text.now in
+    let places = c.args.places.now in
+    let i = c.loop-place.place-index in
+    record {
+      taken = c.in_ok-add_certificates.ensures ∙ ap (λ t. t ++ certificates_among c.bags_at-bags.result.left) c.loop-place.invariant.taken
+          ∙ ap (λ g. all_certificates (take i (contents_at text places)) ++ certificates_among g) c.bags_at-bags.ensures.are
+          ∙ sym (flat_one certificates_among (contents_at text places) i (bags_there text (nth places i)) (omega (arith, as_many text places)) (bags_nth text places i (omega arith)));
+    }
 
 pub returns : goal.returns
-returns c = λ bags e.
-    c.loop-place.invariant.taken bags e ∙ ap all_certificates (take_all c.loop-place.place-index bags (omega (arith, each_length (BagsAt c.args.text.now) c.args.places.now bags e)))
+returns c = c.loop-place.invariant.taken ∙ ap all_certificates (take_each c.args.text.now c.args.places.now c.loop-place.place-index (omega arith))

@@ -1,11 +1,9 @@
-use Rattle.std.proofs.Common.{◌≡◌, List, take}
-use Rattle.p12.specs.declared.safe_bag.SafeBag.{SafeBag}
-use Rattle.asn1_core.specs.Sets.{Each}
-use Rattle.transfer.specs.InPlace.{BagsAt}
+use Rattle.std.proofs.Common.{◌≡◌, take}
+use Rattle.transfer.specs.OpenedSafe.{contents_at}
 use Rattle.transfer.specs.Opening.{all_certificates}
 use Rattle.transfer.proofs.store.certificates.certificates_of.Given as goal
 
 abbrev pub invariant-loop-place : goal.invariant-loop-place
 invariant-loop-place l = record {
-  taken : (bags : List (List SafeBag)) → Each (BagsAt l.text) l.places bags → l.certificates ≡ all_certificates (take l.place-index bags);
+  taken : l.certificates ≡ all_certificates (take l.place-index (contents_at l.text l.places));
 }
