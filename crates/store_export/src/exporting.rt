@@ -8,7 +8,6 @@ ghost use Rattle.store_export.specs.Exports.{Exports, FailsToExport, FailsToSeal
 use crate::export::Export;
 use crate::sealing::{certificates_alone, sealed_store};
 use crate::target::Part;
-use asn1_core::Items;
 use command_base::Password;
 use std::alloc::Global;
 use std::rt::{Env, Files};
