@@ -65,22 +65,6 @@ arcs_count o h =
 later : (n : ℕ) (ns : List ℕ) (j : ℕ) → slice_get (arcs_of (n ∷ ns)) (suc (suc j)) ≡ slice_get (n ∷ ns) (suc j)
 later n ns j = refl
 
-pub arc_later : (v : List ℕ) (i : ℕ) → 1 < i → slice_get (arcs_of v) i ≡ slice_get v (i - 1)
-arc_later [] i h = refl
-arc_later (n ∷ ns) i h =
-    let j = i - 2 in
-    let e : i ≡ suc (suc j) = omega arith in
-    let f : i - 1 ≡ suc j = omega arith in
-    ap (λ (k : ℕ). slice_get (arcs_of (n ∷ ns)) k) e ∙ later n ns j ∙ sym (ap (λ (k : ℕ). slice_get (n ∷ ns) k) f)
-
-pub arc_first : (v : List ℕ) (n : ℕ) → slice_get v 0 ≡ Some n → (slice_get (arcs_of v) 0 ≡ Some (first_arc n)) × (slice_get (arcs_of v) 1 ≡ Some (n - 40 * first_arc n))
-arc_first [] n e = absurd cc
-arc_first (m ∷ ns) n e = let f : m ≡ n = cc in rw f (refl, refl)
-
-pub arc_none : (v : List ℕ) (i : ℕ) → slice_get v 0 ≡ None → slice_get (arcs_of v) i ≡ None
-arc_none [] i e = refl
-arc_none (m ∷ ns) i e = absurd cc
-
 -- ---- the steps of the search for a subidentifier
 
 module _ (n b left : ℕ) (bs vs : List ℕ) (r : Option ℕ) (w : Walked n b bs vs) (now : slice_get vs left ≡ r) where

@@ -1,8 +1,7 @@
 -- An identifier's octets from its arcs.
 use Rattle.std.specs.Prelude.{◌↔◌, Result, Ok, Err, IfOk, IfErr, IsOk, IsTrue}
-use Rattle.std.proofs.Common.{◌≡◌, ℕ, zero, suc, ◌+◌, ◌*◌, ◌-◌, ◌/◌, ◌%◌, ◌^◌, ◌<◌, ◌≤◌, List, [], ◌∷◌, ◌++◌, length, drop, set, get_or, refl, sym, ap, ◌∙◌, arith, append_assoc, length-append, pow-suc, drop-cons, add-one, append-nil}
+use Rattle.std.proofs.Common.{◌≡◌, ℕ, zero, suc, ◌+◌, ◌*◌, ◌-◌, ◌/◌, ◌%◌, ◌^◌, ◌<◌, ◌≤◌, List, [], ◌∷◌, ◌++◌, length, drop, set, get_or, refl, sym, ap, ◌∙◌, arith, append_assoc, length-append, pow-suc, drop-cons, add-one}
 use Rattle.std.proofs.lemmas.List.{drop-set}
-use Rattle.std.proofs.Math.ListN.{drop_of_length-le}
 use Rattle.asn1_core.specs.Identifier.{high, sub, subs, AllUnder, is_identifier}
 use Rattle.asn1_core.specs.Arcs.{HasArcs, NoneHas}
 use Rattle.asn1_core.specs.Oid.{oid_octets}
@@ -33,13 +32,6 @@ base_done n m from octets h is = let z : m ≡ 0 = omega (arith, h) in sym (is �
 -- one number more
 subs_cons : (i : ℕ) (rest : List ℕ) → i < length rest → subs (drop i rest) ≡ sub (get_or rest i 0) ++ subs (drop (i + 1) rest)
 subs_cons i rest h = ap subs (drop-cons rest i 0 h) ∙ ap (λ (k : ℕ). sub (get_or rest i 0) ++ subs (drop k rest)) (sym (add-one i))
-
-pub put_step : (all old new rest : List ℕ) (n i : ℕ) → i < length rest → n ≡ get_or rest i 0 → all ≡ old ++ subs (drop i rest) → new ≡ old ++ sub n → all ≡ new ++ subs (drop (i + 1) rest)
-put_step all old new rest n i h e is now =
-    is ∙ ap (λ (x : List ℕ). old ++ x) (subs_cons i rest h) ∙ ap (λ (m : ℕ). old ++ (sub m ++ subs (drop (i + 1) rest))) (sym e) ∙ sym (append_assoc old (sub n) (subs (drop (i + 1) rest))) ∙ ap (λ (x : List ℕ). x ++ subs (drop (i + 1) rest)) (sym now)
-
-pub put_end : (all old rest : List ℕ) (i : ℕ) → length rest ≤ i → all ≡ old ++ subs (drop i rest) → old ≡ all
-put_end all old rest i h is = sym (is ∙ ap (λ (x : List ℕ). old ++ subs x) (drop_of_length-le rest h) ∙ append-nil old)
 
 pub put_long : (all old rest : List ℕ) (n i : ℕ) → i < length rest → n ≡ get_or rest i 0 → all ≡ old ++ subs (drop i rest) → 39 < length old + length (sub n) → 39 < length all
 put_long all old rest n i h e is lt =

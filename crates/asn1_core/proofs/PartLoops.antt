@@ -40,10 +40,6 @@ ends p b rest items e s =
     let nil : rest ≡ [] = nil_from_length rest e in
     sym s.same ∙ ap (λ (r : List ℕ). with_front items (many_in p s.fuel r)) nil ∙ rw (at_end p s.fuel) (ap (λ (y : List _). Ok y) (append-nil items))
 
-one_less : {A : Type 0} (p : Front A) (k : ℕ) (rest : List ℕ) (f : Fault) → 0 < length rest → p rest ≡ Err f → many_in p (suc k) rest ≡ Err f
-one_less p k [] f h e = absurd (omega arith)
-one_less p k (b ∷ bs) f h e = rw e refl
-
 -- ---- the loop that keeps the last of the parts
 
 pub last_begins : {A : Type 0} (p : Front A) (b rest : List ℕ) (v : A) → length rest < length b → p b ≡ Ok (v, rest) → (before : List A) × SoFar p b (before ++ v ∷ []) rest

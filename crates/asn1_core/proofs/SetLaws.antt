@@ -221,9 +221,6 @@ SameSet-refl S s xs = (xs, IsPermutation-refl xs, each-refl S s xs)
 
 -- ---- what a sort gives is the canonical order
 
-least_more : (x y : List ℕ) (l : List (List ℕ)) → Least x l → is_lt (text_cmp y x) ≡ false → Least x (y ∷ l)
-least_more x y l h e = (e, h)
-
 least_chain : (x y : List ℕ) (l : List (List ℕ)) → is_lt (text_cmp y x) ≡ false → Least y l → Least x l
 least_chain x y [] e h = tt
 least_chain x y (z ∷ l) e h = (chained (is_gt_of x y e) (is_gt_of y z h.0), least_chain x y l e h.1)

@@ -1,10 +1,10 @@
 -- lemmas only: nothing to believe here
 -- A reader that is exact for a relation between texts and values, and what is exact when it is put together of exact parts.
-use Rattle.std.proofs.Common.{◌≡◌, ℕ, zero, suc, ◌<◌, ◌≤◌, Bool, true, false, cond, List, [], ◌∷◌, ◌++◌, length, Option, Some, None, Result, Ok, Err, refl, sym, ap, subst, ◌∙◌, arith, length-append, inl, inr, ◌⊎◌, IsTrue}
+use Rattle.std.proofs.Common.{◌≡◌, ℕ, zero, suc, ◌<◌, ◌≤◌, Bool, true, false, List, [], ◌∷◌, ◌++◌, length, Option, Some, None, Result, Ok, Err, refl, sym, ap, subst, ◌∙◌, arith, length-append, IsTrue}
 use Rattle.std.proofs.lemmas.List.{append-nil}
 use Rattle.asn1_core.specs.Der.{el, len, IsShort}
 use Rattle.asn1_core.specs.Reading.{Fault, ◌>>=◌, where_ok, ended, Front, All, whole, on, made, perhaps, many_in, many}
-use Rattle.asn1_core.specs.Texts.{Exact, ExactAll, On, Ended, Chosen, Made, Perhaps, Many}
+use Rattle.asn1_core.specs.Texts.{Exact, ExactAll, On, Ended, Made, Perhaps, Many}
 
 -- ---- tools
 
@@ -80,22 +80,6 @@ made-exact f R p exact = record {
   found = λ b w e. let x = bind_ok (p b) (λ x. Ok (f x)) w e in (x.0, exact.found b x.0 x.1, sym (ok_is (f x.0) w x.2));
   again = λ b w r short. rw (exact.again b r.0 r.1 short, r.2) refl;
 }
-
-pub chosen-exact : {A : Type 0} (t : Bool) (R S : List ℕ → A → Type 0) (p q : All A) → ExactAll R p → ExactAll S q → ExactAll (Chosen t R S) (cond t p q)
-chosen-exact true R S p q r s = r
-chosen-exact false R S p q r s = s
-
-pub chosen_cases : {A : Type 0} (t : Bool) (R S : List ℕ → A → Type 0) (b : List ℕ) (v : A) → Chosen t R S b v → ((t ≡ true) × R b v) ⊎ ((t ≡ false) × S b v)
-chosen_cases true R S b v r = inl (refl, r)
-chosen_cases false R S b v s = inr (refl, s)
-
-pub chosen_true : {A : Type 0} (t : Bool) (R S : List ℕ → A → Type 0) (b : List ℕ) (v : A) → t ≡ true → R b v → Chosen t R S b v
-chosen_true true R S b v e r = r
-chosen_true false R S b v e r = absurd cc
-
-pub chosen_false : {A : Type 0} (t : Bool) (R S : List ℕ → A → Type 0) (b : List ℕ) (v : A) → (t ≡ true → ⊥) → S b v → Chosen t R S b v
-chosen_false true R S b v e s = absurd (e refl)
-chosen_false false R S b v e s = s
 
 -- the same values of the same texts, said in another way
 pub same-exact : {A : Type 0} (R S : List ℕ → A → Type 0) (p : All A) → ((b : List ℕ) (v : A) → R b v → S b v) → ((b : List ℕ) (v : A) → S b v → R b v) → ExactAll R p → ExactAll S p

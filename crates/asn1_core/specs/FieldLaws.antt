@@ -1,18 +1,17 @@
 -- lemmas only: nothing to believe here
 -- What is exact when it is put together of parts and fields.
-use Rattle.std.proofs.Common.{◌≡◌, ℕ, Bool, true, false, cond, List, [], ◌∷◌, ◌++◌, Option, Some, None, Ok, Err, refl, sym, ap, subst, ◌∙◌, inl, inr, ◌⊎◌, IsTrue, nat_eq}
+use Rattle.std.proofs.Common.{◌≡◌, ℕ, Bool, true, false, cond, List, [], ◌∷◌, ◌++◌, Ok, Err, refl, sym, ap, subst, ◌∙◌, inl, inr, IsTrue}
 use Rattle.std.specs.Prelude.{◌≢◌}
 use Rattle.std.specs.Str.{bytes_eq}
 use Rattle.std.proofs.lemmas.Slice.Eq.{bytes_eq-Decides}
-use Rattle.std.proofs.lemmas.Bool.{eqb-true, eq-eqb}
 use Rattle.std.proofs.lemmas.List.{append-nil}
 use Rattle.asn1_core.specs.Der.{el, IsShort, is_tag}
-use Rattle.asn1_core.specs.Reading.{where_ok, oid_at, Fault, ◌>>=◌, ended, Front, All, whole, on, made, perhaps, many, within}
+use Rattle.asn1_core.specs.Reading.{where_ok, oid_at, Fault, ended, Front, All, whole, on, made, perhaps, many, within}
 use Rattle.asn1_core.specs.Texts.{Exact, ExactAll, Raw, Oid, On, Taken, Within, Perhaps, Many, Made}
 use Rattle.asn1_core.specs.declared.identifier.ObjectIdentifier.{ObjectIdentifier}
 use Rattle.asn1_core.specs.ExactLaws.{where_holds, where_true, whole-exact, on-exact, bind_ok, ok_is, ended_ok, perhaps-exact, made-exact, many-exact, IsShort-left, IsShort-right}
 use Rattle.asn1_core.specs.ElementLaws.{within-exact, oid-exact}
-use Rattle.asn1_core.specs.Fields.{Field, End, Latest, ByCase, Never, The, Passing, OrNothing, optional, last_of, latest, never, the, passing, checked, or_nothing}
+use Rattle.asn1_core.specs.Fields.{Field, End, Latest, ByCase, Never, The, Passing, OrNothing, last_of, latest, never, the, passing, checked, or_nothing}
 
 -- What is read after known parts: C says what they make of the value.
 abbrev pub Known : {W : Type 0} → (W → Type 0) → (List ℕ → W → Type 0) → List ℕ → W → Type 0
@@ -62,62 +61,6 @@ last {A = A} {W = W} {C = C} {R = R} {p = p} get f e ok only = record {
       let is : b ≡ r.1.0 = r.1.4 ∙ ap (λ (y : List ℕ). r.1.0 ++ y) r.1.3 ∙ append-nil r.1.0 in
       rw (e.again b (get w) (subst (λ (y : List ℕ). R y (get w)) (sym is) r.1.2) short, sym (only w r.0)) refl;
 }
-
--- a part in the middle that may be left out: R's texts begin with the tag, and what follows an absent part does not
-pub optional_field : {A W : Type 0} {C : W → Type 0} {R : List ℕ → A → Type 0} {S : List ℕ → W → Type 0} {p : Front A} {k : Option A → All W} (tag : ℕ) (get : W → Option A)
-    → ((t : List ℕ) (a : A) → R t a → (rest : List ℕ) × (t ≡ tag ∷ rest)) → ((rest : List ℕ) (w : W) → C w → get w ≡ None → S (tag ∷ rest) w → ⊥)
-    → Exact R p → ((o : Option A) → ExactAll (Known (λ w. C w × (get w ≡ o)) S) (k o)) → ExactAll (Known C (Field (Perhaps R) get S)) (optional tag p k)
-optional_field {A = A} {W = W} {C = C} {R = R} {S = S} {p = p} {k = k} tag get begins other exact others = record {
-  found = λ b w e. found b w e;
-  again = λ b w r short. again b w (get w) refl r.0 r.1.0 r.1.1 r.1.2 r.1.3 r.1.4 short;
-}
-  where
-    which : (t : Bool) → (t ≡ true) ⊎ (t ≡ false)
-    which true = inl refl
-    which false = inr refl
-
-    there : (b : ℕ) (bs : List ℕ) → b ≡ tag → optional tag p k (b ∷ bs) ≡ (p (b ∷ bs) >>= λ x. k (Some x.0) x.1)
-    there b bs e = rw (eq-eqb b tag e) refl
-
-    absent : (b : ℕ) (bs : List ℕ) → nat_eq b tag ≡ false → optional tag p k (b ∷ bs) ≡ k None (b ∷ bs)
-    absent b bs e = rw e refl
-
-    nothing : (b : List ℕ) (w : W) → Known (λ w. C w × (get w ≡ None)) S b w → Known C (Field (Perhaps R) get S) b w
-    nothing b w ((c, is), s) = (c, ([], b, subst (Perhaps R []) (sym is) refl, s, refl))
-
-    found : (b : List ℕ) (w : W) → optional tag p k b ≡ Ok w → Known C (Field (Perhaps R) get S) b w
-    found [] w e = nothing [] w ((others None).found [] w e)
-    found (b ∷ bs) w e = elim (which (nat_eq b tag)) [
-      | inl t ↦
-          let x = bind_ok (p (b ∷ bs)) (λ x. k (Some x.0) x.1) w (sym (there b bs (eqb-true b tag t)) ∙ e) in
-          let f = exact.found (b ∷ bs) x.0.0 x.0.1 x.1 in
-          let g = (others (Some x.0.0)).found x.0.1 w x.2 in
-          (g.0.0, (f.text, x.0.1, subst (Perhaps R f.text) (sym g.0.1) f.holds, g.1, f.is))
-      | inr t ↦ nothing (b ∷ bs) w ((others None).found (b ∷ bs) w (sym (absent b bs t) ∙ e))
-    ]
-
-    none_again : (b : List ℕ) (w : W) → Known (λ w. C w × (get w ≡ None)) S b w → IsShort b → optional tag p k b ≡ Ok w
-    none_again [] w r short = (others None).again [] w r short
-    none_again (b ∷ bs) w r short = elim (which (nat_eq b tag)) [
-      | inl t ↦ absurd (other bs w r.0.0 r.0.1 (subst (λ (c : ℕ). S (c ∷ bs) w) (eqb-true b tag t) r.1))
-      | inr t ↦ absent b bs t ∙ (others None).again (b ∷ bs) w r short
-    ]
-
-    begun : (b : List ℕ) (t q : List ℕ) → t ≡ tag ∷ q → (r : List ℕ) → b ≡ t ++ r → optional tag p k b ≡ (p b >>= λ x. k (Some x.0) x.1)
-    begun [] t q e r is = let no : [] ≡ tag ∷ (q ++ r) = is ∙ ap (λ (x : List ℕ). x ++ r) e in absurd cc
-    begun (b ∷ bs) t q e r is = let yes : b ∷ bs ≡ tag ∷ (q ++ r) = is ∙ ap (λ (x : List ℕ). x ++ r) e in there b bs cc
-
-    again : (b : List ℕ) (w : W) (o : Option A) → get w ≡ o → C w → (x y : List ℕ) → Perhaps R x (get w) → S y w → b ≡ x ++ y → IsShort b → optional tag p k b ≡ Ok w
-    again b w None is c x y r s e short =
-        let empty : x ≡ [] = subst (Perhaps R x) is r in
-        let same : b ≡ y = e ∙ ap (λ (z : List ℕ). z ++ y) empty in
-        none_again b w ((c, is), subst (λ (z : List ℕ). S z w) (sym same) s) short
-    again b w (Some a) is c x y r s e short =
-        let h : R x a = subst (Perhaps R x) is r in
-        let g = begins x a h in
-        let sh : IsShort (x ++ y) = subst IsShort e short in
-        let read : p b ≡ Ok (a, y) = ap p e ∙ exact.again x a y h (IsShort-left x y sh) in
-        begun b x g.0 g.1 y e ∙ rw read ((others (Some a)).again y w ((c, is), s) (IsShort-right x y sh))
 
 -- ---- a choice by the identifier
 

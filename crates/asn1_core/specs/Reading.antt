@@ -145,13 +145,15 @@ oid_of b = known_in Bad (as_oid b)
 abbrev pub oid_at : Front ObjectIdentifier
 oid_at = within 0x06 oid_of
 
--- one whole element, whatever it holds
+-- every tag octet
 abbrev pub any_tag : ℕ → Bool
 any_tag t = true
 
+-- an element that is kept as its text
 abbrev pub raw_of : ℕ → All (List ℕ)
 raw_of t w = Ok (el t w)
 
+-- one whole element, whatever it holds
 unfoldable pub raw_at : Front (List ℕ)
 raw_at = by_tag any_tag raw_of
 

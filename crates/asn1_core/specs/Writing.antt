@@ -16,9 +16,9 @@ pub record Sink (W : Type 0) : Type 1 where
   pub place : W → Place
 
 -- the room is bounded, and too small for this many octets
-abbrev pub Lacks : Option ℕ → ℕ → Type 0
-Lacks None n = ⊥
-Lacks (Some room) n = room < n
+abbrev pub LacksRoom : Option ℕ → ℕ → Type 0
+LacksRoom None n = ⊥
+LacksRoom (Some room) n = room < n
 
 -- the room that is left after this many octets
 abbrev pub Falls : Option ℕ → ℕ → Option ℕ → Type 0
@@ -34,7 +34,7 @@ abbrev pub Cause : Type 0 → Type 0 → Type 0 → Option ℕ → ℕ → ℕ �
 Cause bad over memory room n before now errors.Malformed = bad
 Cause bad over memory room n before now (errors.OidUnknown o) = ⊥
 Cause bad over memory room n before now errors.Overlength = over
-Cause bad over memory room n before now errors.NoRoom = Lacks room n
+Cause bad over memory room n before now errors.NoRoom = LacksRoom room n
 Cause bad over memory room n before now errors.File = Rose before now
 Cause bad over memory room n before now errors.Memory = memory
 

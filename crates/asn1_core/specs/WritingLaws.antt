@@ -5,7 +5,7 @@ use Rattle.std.specs.Prelude.{Option, Some, None, Result, Ok, Err}
 use Rattle.std.proofs.Common.{◌⊎◌, inl, inr}
 use Rattle.asn1_core.specs.declared.error.Error.{Error}
 use Rattle.asn1_core.specs.declared.error.Error.TheVariants.{Malformed, OidUnknown, Overlength, NoRoom, File, Memory}
-use Rattle.asn1_core.specs.Writing.{Sink, Wrote, Stopped, Falls, Lacks, Cause, Writes, Measures}
+use Rattle.asn1_core.specs.Writing.{Sink, Wrote, Stopped, Falls, LacksRoom, Cause, Writes, Measures}
 use Rattle.std.specs.Prelude.{MatchResult, OnOk}
 use Rattle.asn1_core.specs.Der.{len, el, IsHeader, IsShort}
 use Rattle.asn1_core.specs.ElementLaws.{el_length}
@@ -22,13 +22,13 @@ falls_none : (x : Option ℕ) → Falls x 0 x
 falls_none None = refl
 falls_none (Some a) = let e : a ≡ a - 0 = omega arith in (omega arith, ap (λ (k : ℕ). Some k) e)
 
-lacks_then : (x y : Option ℕ) (m n : ℕ) → Falls x m y → Lacks y n → Lacks x (m + n)
-lacks_then None y m n p q = subst (λ (k : Option ℕ). Lacks k n) p q
+lacks_then : (x y : Option ℕ) (m n : ℕ) → Falls x m y → LacksRoom y n → LacksRoom x (m + n)
+lacks_then None y m n p q = subst (λ (k : Option ℕ). LacksRoom k n) p q
 lacks_then (Some a) y m n p q =
-    let r : a - m < n = subst (λ (k : Option ℕ). Lacks k n) p.1 q in
+    let r : a - m < n = subst (λ (k : Option ℕ). LacksRoom k n) p.1 q in
     omega (arith, r, p.0)
 
-lacks_more : (x : Option ℕ) (m n : ℕ) → m ≤ n → Lacks x m → Lacks x n
+lacks_more : (x : Option ℕ) (m n : ℕ) → m ≤ n → LacksRoom x m → LacksRoom x n
 lacks_more None m n h p = p
 lacks_more (Some a) m n h p = omega arith
 

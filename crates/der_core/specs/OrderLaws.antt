@@ -176,9 +176,6 @@ pub nothing_last : (a : List ℕ) → IsElementText a → octet_cmp a [] ≡ Gre
 unfolding el
 nothing_last a (t, v, e) = rw e refl
 
-pub nothing_twice : octet_cmp [] [] ≡ Equal
-nothing_twice = refl
-
 -- the header decides, and else the value
 pub by_value : (t u m n : ℕ) (v w : List ℕ) (h : Ordering) → h ≡ header_order t m u n → m ≡ length v → n ≡ length w → ordering_then h (octet_cmp v w) ≡ octet_cmp (el t v) (el u w)
 by_value t u m n v w h e k l = rw (e, k, l) (sym (element_cmp t u v w))

@@ -1,24 +1,13 @@
 -- Lines in a buffer, and hexadecimal text by its parts.
-use Rattle.std.proofs.Common.{◌≡◌, ℕ, ◌+◌, ◌*◌, ◌<◌, ◌≤◌, List, [], ◌∷◌, ◌++◌, length, set, take, drop, slice_index, refl, sym, ap, arith, ◌∙◌, Bool, true, false, ◌&&◌, Some, Ok, subst, zero, suc, get_or}
+use Rattle.std.proofs.Common.{◌≡◌, ℕ, ◌+◌, ◌*◌, ◌<◌, ◌≤◌, List, [], ◌∷◌, ◌++◌, length, take, drop, slice_index, refl, sym, ap, arith, ◌∙◌, Bool, true, false, ◌&&◌, Some, Ok, subst, zero, suc, get_or}
 use Rattle.std.specs.Prelude.{codes}
-use Rattle.std.proofs.Math.Seq.{take-append_seam}
-use Rattle.std.proofs.lemmas.List.{append_assoc, drop-drop, drop_at, drop_more, get_or-drop, get_or-replicate, get_or-take, length-append, length-set, take_all, take_at, take_more_set}
+use Rattle.std.proofs.lemmas.List.{append_assoc, drop-drop, drop_at, drop_more, get_or-drop, get_or-replicate, get_or-take, length-append, take_at}
 use Rattle.std.specs.Simd.{first_chunks}
 use Rattle.std.proofs.Math.ListN.{replicate}
 use borrow.Rule.Slice.PartMut.{put_mid}
 use Rattle.std.proofs.lemmas.List.Elements.{All-more}
 use Rattle.std.specs.List.{AllPass}
-use Rattle.hex.specs.Hex.{encode_lower, hex_digit_value, is_hex_digit, pair_value}
-use Rattle.frame.specs.DueText.{digits_line}
-
--- A line in a buffer of its size: the label and the digits, and a line feed set after them.
-pub line_made : (label octets copied behind buffer : List ℕ) (last : ℕ) → copied ≡ label
-    → take (length label + 2 * length octets) buffer ≡ take (length label) (copied ++ behind) ++ encode_lower octets
-    → last ≡ length label + 2 * length octets → length buffer ≡ last + 1 → set buffer last 10 ≡ digits_line label octets
-line_made label octets copied behind buffer last same digits at size =
-    let front : take last buffer ≡ label ++ encode_lower octets =
-    ap (λ n. take n buffer) at ∙ digits ∙ ap (λ z. take (length label) (z ++ behind) ++ encode_lower octets) same ∙ ap (λ z. z ++ encode_lower octets) (take-append_seam label behind) in
-    sym (take_all (last + 1) (set buffer last 10) (omega (arith, size, length-set buffer last 10))) ∙ take_more_set buffer last 10 (omega (arith, size)) ∙ ap (λ z. z ++ 10 ∷ []) front
+use Rattle.hex.specs.Hex.{hex_digit_value, is_hex_digit, pair_value}
 
 -- Two digits are an octet.
 pub pair_of : (a b i x y : ℕ) → hex_digit_value a ≡ Some x → hex_digit_value b ≡ Some y → pair_value a b i ≡ Ok (x * 16 + y)

@@ -1,6 +1,7 @@
 //! Making and testing password hashes.
-ghost use Rattle.std.specs.Prelude.{◌≡◌, ◌≤◌, ◌<◌, ◌^◌, ◌↔◌, ℕ, List, length, IfErr, IfSome, IsErr, MatchResult};
+ghost use Rattle.std.specs.Prelude.{◌≡◌, ◌≤◌, ◌<◌, ◌^◌, ◌↔◌, ℕ, List, length, IfErr, IfSome, IsErr, MatchResult, OnOk};
 ghost use Rattle.std.specs.Io.KnownBytes.{Consumes, Keeps};
+ghost use Rattle.std.specs.Result.{IsErrOf};
 ghost use Rattle.octet_core.specs.Faults.{HasCause};
 ghost use Rattle.pbkdf2.specs.Algorithm.{derived};
 ghost use Rattle.pbkdf2.specs.Hashes.{hash_of, Customizes, HasSettings, RefusesSettings, Verifies};
@@ -103,6 +104,8 @@ impl Pbkdf2 {
             (λ e. (e ≡ Error.Rng) × Keeps (D.left draw.old) (D.left draw.new)) }
         ensures short { IfSome (D.left draw.old) (λ left. IsErr result ↔ (length left < 16)) }
         ensures cause { HasCause (D.faults draw.old) (D.faults draw.new) result }
+        ensures no_fault { OnOk result (D.faults draw.new ≡ D.faults draw.old) }
+        ensures last { D.faults draw.old < D.faults draw.new → IsErrOf result Error.Rng }
     {
         let mut octets = [0u8; 16];
         if draw.fill(&mut octets).is_err() {

@@ -7,15 +7,10 @@ use Rattle.std.proofs.lemmas.List.Splits.{join_with_byte-slice_split, length-sli
 use Rattle.phc_core.specs.Ident.{IsIdent}
 use Rattle.phc_core.specs.ParamsString.{ArePairs, IsParams, pieces, name_in, value_in}
 use Rattle.phc_core.specs.Salt.{IsSalt}
-use Rattle.phc_core.specs.Output.{IsOutput}
 use Rattle.phc_core.specs.PasswordHash.{tail, base64, params_rest, version_rest, Phc}
 use Rattle.phc_core.specs.Remainders.{ParamsRest, NoHashRest, NoSaltRest, NoParamsRest, NoVersionRest, Cuts}
 use Rattle.phc_core.specs.declared.password_hash.PasswordHash.{PasswordHash}
 use Rattle.phc_core.proofs.Fields.{cut_same, ident_no_dollar, decimal_no_dollar, salt_split, params_split, whole_pair}
-
-pub no_hash : (rest : Option (List ℕ)) (t : List ℕ) → rest ≡ Some t → ((o : List ℕ) → IsOutput o → t ≡ base64 o → ⊥) → NoHashRest rest
-no_hash rest t is bad None v = let e = v.1 in cc (is, e)
-no_hash rest t is bad (Some o) v = bad o v.0 (let e = v.1 in let k : Some t ≡ Some (base64 o) = sym is ∙ e in cc k)
 
 salt_field_bad : (f : List ℕ) (s : Option (List ℕ)) → IfSome s (λ o. IsSalt o × (f ≡ base64 o)) → s ≢ None → ((o : List ℕ) → IsSalt o → f ≡ base64 o → ⊥) → ⊥
 salt_field_bad f None h some bad = some refl

@@ -2,8 +2,8 @@
 ghost use Rattle.std.specs.Prelude.{◌≡◌, ℕ, ◌+◌, ◌*◌, ◌-◌, ◌<◌, ◌≤◌, ◌^◌, ◌++◌, ◌/◌, ◌%◌, List, length, take, replicate, IfOk, OnOk};
 ghost use Rattle.mac_modes.specs.Hmac.{hmac};
 ghost use Rattle.pkcs12_kdf.specs.Numbers.{number, numbers};
-ghost use Rattle.pkcs12_kdf.specs.Derivation.{answer, hashed, derive12, repeat_to, turns, fill};
-ghost use Rattle.pkcs12_kdf.specs.Mac.{mac_under};
+ghost use Rattle.pkcs12_kdf.specs.Derivation.{answer, hashed, derive12, derive12_in, fill, next_inputs, repeat_to, turns};
+ghost use Rattle.pkcs12_kdf.specs.Mac.{mac_under, mac_under_in};
 
 use crate::carry::add_to_blocks;
 use mac_modes::{HashFn, Hmac, Prf};
@@ -32,6 +32,18 @@ pub struct Derivation<'a> {
     pub rounds: u64,
 }
 
+/// The longest block of a hash function, in octets.
+const MOST_BLOCK: usize = 128;
+
+/// The hash function after a block of octets `id`.
+fn start_with<H: HashFn>(id: u8) -> H
+    ensures { H.holds result (replicate H.BLOCK id) }
+{
+    let mut hasher = H::start();
+    hasher.update(&[id; MOST_BLOCK][..H::BLOCK]);
+    hasher
+}
+
 /// The result at the inputs, which come as blocks of octets. Each application of the hash is a step.
 fn hash_rounds<H: HashFn, L: Ledger>(
     id: u8,
@@ -40,13 +52,13 @@ fn hash_rounds<H: HashFn, L: Ledger>(
     steps: &mut Steps<L>,
 ) -> [u8; 64]
     requires rounds { 1 ≤ rounds }
-    requires whole { length input.now % 64 ≡ 0 }
-    ensures value { take H.OUTPUT result ≡ answer H.digest rounds id (numbers input.now) }
+    requires whole { length input.now % H.BLOCK ≡ 0 }
+    ensures value { take H.OUTPUT result
+        ≡ answer H.BLOCK H.digest rounds id (numbers H.BLOCK input.now) }
     ensures steps { steps.new ≡ steps.old + rounds }
 {
     let mut answer = [0u8; 64];
-    let mut first = H::start();
-    first.update(&[id; 64]);
+    let mut first = start_with::<H>(id);
     first.update(input);
     first.finish(&mut answer);
     steps.tick();
@@ -59,39 +71,57 @@ fn hash_rounds<H: HashFn, L: Ledger>(
     answer
 }
 
-/// Adds the text, repeated to a multiple of 64 octets.
-fn push_filled(out: &mut Vec<u8>, text: &[u8]) -> Result<(), AllocError>
-    requires { length text.now < 2 ^ 59 }
-    ensures { OnOk result (out.new.items ≡ out.old.items ++ fill text.now) }
+/// Adds the text, repeated to a multiple of the octets of a block.
+fn push_filled(out: &mut Vec<u8>, text: &[u8], block: usize) -> Result<(), AllocError>
+    requires text { length text.now < 2 ^ 59 }
+    requires block { (0 < block) × (block ≤ 128) }
+    ensures { OnOk result (out.new.items ≡ out.old.items ++ fill block text.now) }
 {
-    for i in 0..64 * ((text.len() + 63) / 64) {
+    for i in 0..block * ((text.len() + (block - 1)) / block) {
         out.push(text[i % text.len()])?;
     }
     Ok(())
 }
 
-/// The salt and the password after it, each repeated to a multiple of 64 octets.
-fn first_inputs(alloc: Global, salt: &[u8], password: &[u8]) -> Result<Vec<u8>, AllocError>
+/// The salt and the password after it, each repeated to a multiple of the octets of a block.
+fn first_inputs(
+    alloc: Global,
+    salt: &[u8],
+    password: &[u8],
+    block: usize,
+) -> Result<Vec<u8>, AllocError>
     requires salt { length salt.now < 2 ^ 59 }
     requires password { length password.now < 2 ^ 59 }
-    ensures { IfOk result (λ inputs. inputs.items ≡ fill salt.now ++ fill password.now) }
+    requires block { (0 < block) × (block ≤ 128) }
+    ensures { IfOk result (λ inputs. inputs.items ≡ fill block salt.now ++ fill block password.now) }
 {
     let mut inputs = Vec::new(alloc);
-    push_filled(&mut inputs, salt)?;
-    push_filled(&mut inputs, password)?;
+    push_filled(&mut inputs, salt, block)?;
+    push_filled(&mut inputs, password, block)?;
     Ok(inputs)
 }
 
-/// The text repeated to 64 octets.
-fn repeated(text: &[u8]) -> [u8; 64]
-    requires { 0 < length text.now }
-    ensures { result ≡ repeat_to 64 text.now }
+/// The text repeated to the octets of a block.
+fn repeated(text: &[u8], block: usize) -> [u8; MOST_BLOCK]
+    requires text { 0 < length text.now }
+    requires block { block ≤ 128 }
+    ensures { take block result ≡ repeat_to block text.now }
 {
-    let mut block = [0u8; 64];
-    for i in 0..64 {
-        block[i] = text[i % text.len()];
+    let mut octets = [0u8; MOST_BLOCK];
+    for i in 0..block {
+        octets[i] = text[i % text.len()];
     }
-    block
+    octets
+}
+
+/// Adds an answer, repeated to a block, and 1 to each of the inputs.
+fn add_answer<H: HashFn>(inputs: &mut [u8], answer: &[u8])
+    requires { 0 < length answer.now }
+    ensures { numbers H.BLOCK inputs.new
+        ≡ next_inputs H.BLOCK answer.now (numbers H.BLOCK inputs.old) }
+{
+    let block = repeated(answer, H::BLOCK);
+    add_to_blocks(inputs, &block[..H::BLOCK]);
 }
 
 /// HMAC over a hash of one piece.
@@ -109,6 +139,39 @@ fn hmac_of<H: HashFn>(key: &[u8], content: &[u8]) -> [u8; 64]
 }
 
 impl<'a> Derivation<'a> {
+    /// `key_counted` under a hash function of any block length: a block of RFC 7292 appendix B.2 has `H::BLOCK` octets, 64 for SHA-1
+    /// and SHA-256, 128 for SHA-384 and SHA-512.
+    ///
+    /// Caller: `rounds` is at least 1, `size` at most 2^32, password and salt have fewer than 2^59 octets each.
+    pub fn key_by_block_counted<H: HashFn, L: Ledger>(
+        &self,
+        alloc: Global,
+        id: u8,
+        size: usize,
+        steps: &mut Steps<L>,
+    ) -> Result<Octets, AllocError>
+        requires rounds { 1 ≤ self.now.rounds }
+        requires password { length self.now.password.now < 2 ^ 59 }
+        requires salt { length self.now.salt.now < 2 ^ 59 }
+        requires size { size ≤ 2 ^ 32 }
+        ensures value { IfOk result (λ key. key ≡ derive12_in H.BLOCK H.digest H.OUTPUT
+            self.now.password.now self.now.salt.now self.now.rounds id size) }
+        ensures steps { OnOk result
+            (steps.new ≡ steps.old + self.now.rounds * turns size H.OUTPUT) }
+        ensures at_most { (steps.old ≤ steps.new)
+            × (steps.new ≤ steps.old + self.now.rounds * turns size H.OUTPUT) }
+    {
+        let mut inputs = first_inputs(alloc, self.salt, self.password, H::BLOCK)?;
+        let mut key = Vec::new(alloc);
+        for turn in 0..(size + (H::OUTPUT - 1)) / H::OUTPUT {
+            let answer = hash_rounds::<H, L>(id, &inputs, self.rounds, steps);
+            key.extend_from_slice(&answer[..H::OUTPUT])?;
+            add_answer::<H>(&mut inputs, &answer[..H::OUTPUT]);
+        }
+        key.truncate(size);
+        Ok(Octets::from_vec(key))
+    }
+
     /// `size` octets for the purpose `id`: `KEY_ID`, `IV_ID` or `MAC_ID` (RFC 7292 appendix B.2); another number is not refused.
     /// The only refusal is `Memory`. Each output of the hash that `size` octets need takes `rounds` steps; a refusal takes
     /// no more than all of them.
@@ -133,15 +196,7 @@ impl<'a> Derivation<'a> {
         ensures at_most { (steps.old ≤ steps.new)
             × (steps.new ≤ steps.old + self.now.rounds * turns size H.OUTPUT) }
     {
-        let mut inputs = first_inputs(alloc, self.salt, self.password)?;
-        let mut key = Vec::new(alloc);
-        for turn in 0..(size + (H::OUTPUT - 1)) / H::OUTPUT {
-            let answer = hash_rounds::<H, L>(id, &inputs, self.rounds, steps);
-            key.extend_from_slice(&answer[..H::OUTPUT])?;
-            add_to_blocks(&mut inputs, &repeated(&answer[..H::OUTPUT]));
-        }
-        key.truncate(size);
-        Ok(Octets::from_vec(key))
+        self.key_by_block_counted::<H, L>(alloc, id, size, steps)
     }
 
     /// `key_counted` with a counter of its own.
@@ -180,6 +235,29 @@ impl<'a> Derivation<'a> {
         self.key_from::<H, Brand>(alloc, id, size, Blank::new(1))
     }
 
+    /// `mac_counted` under a hash function of any block length, as `key_by_block_counted`.
+    ///
+    /// Caller: `rounds` is at least 1, password and salt have fewer than 2^59 octets each.
+    pub fn mac_by_block_counted<H: HashFn, L: Ledger>(
+        &self,
+        alloc: Global,
+        content: &[u8],
+        steps: &mut Steps<L>,
+    ) -> Result<Octets, AllocError>
+        requires rounds { 1 ≤ self.now.rounds }
+        requires password { length self.now.password.now < 2 ^ 59 }
+        requires salt { length self.now.salt.now < 2 ^ 59 }
+        ensures value { IfOk result (λ mac. mac ≡ mac_under_in H.BLOCK H.digest H.OUTPUT
+            self.now.password.now self.now.salt.now self.now.rounds content.now) }
+        ensures steps { OnOk result (steps.new ≡ steps.old + self.now.rounds) }
+        ensures at_most { (steps.old ≤ steps.new)
+            × (steps.new ≤ steps.old + self.now.rounds) }
+    {
+        let key = self.key_by_block_counted::<H, L>(alloc, MAC_ID, H::OUTPUT, steps)?;
+        let mac = hmac_of::<H>(key.as_slice(), content);
+        Octets::from_slice(alloc, &mac[..H::OUTPUT])
+    }
+
     /// The MAC of a content under the hash `H`, whose key has as many octets as an output of the hash (RFC 7292 appendix B.4). The
     /// only refusal is running out of memory. Each round is a step.
     ///
@@ -200,9 +278,7 @@ impl<'a> Derivation<'a> {
         ensures at_most { (steps.old ≤ steps.new)
             × (steps.new ≤ steps.old + self.now.rounds) }
     {
-        let key = self.key_counted::<H, L>(alloc, MAC_ID, H::OUTPUT, steps)?;
-        let mac = hmac_of::<H>(key.as_slice(), content);
-        Octets::from_slice(alloc, &mac[..H::OUTPUT])
+        self.mac_by_block_counted::<H, L>(alloc, content, steps)
     }
 
     /// `mac_counted` with a counter of its own.

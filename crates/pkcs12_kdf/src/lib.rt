@@ -1,5 +1,4 @@
-//! What PKCS#12 derives from a password (RFC 7292 appendix B): keys, initialization vectors and MACs, over a hash function
-//! whose blocks have 64 octets, as SHA-1 and SHA-256 have.
+//! What PKCS#12 derives from a password (RFC 7292 appendix B): keys, initialization vectors and MACs, over a hash function.
 #![tactic(auto)]
 
 mod carry;

@@ -34,13 +34,6 @@ inside_judges tag P f R shorter j = record {
       (x.0, (r.0, x.1, r.2), x.2);
 }
 
--- the same, where R is said in another way
-pub same_judges : {A B : Type 0} (P : List ℕ → A → Type 0) (f : A → Result B Fault) (R S : List ℕ → B → Type 0) → ((b : List ℕ) (v : B) → R b v → S b v) → ((b : List ℕ) (v : B) → S b v → R b v) → Judges P f R → Judges P f S
-same_judges P f R S to from j = record {
-  found = λ b a v r e. to b v (j.found b a v r e);
-  again = λ b v s short. j.again b v (from b v s) short;
-}
-
 module _ {A B : Type 0} (P : List ℕ → A → Type 0) (f : A → Result B Fault) (R : List ℕ → B → Type 0) (j : Judges P f R) where
   pub judged-exact : (p : All A) → ExactAll P p → ExactAll R (λ b. p b >>= f)
   judged-exact p exact = record {
@@ -124,9 +117,6 @@ if_test {V} R k m x y same other = by_test (bytes_eq k m) refl
     by_test : (t : Bool) → bytes_eq k m ≡ t → R (if t then x else y)
     by_test true e = same ((bytes_eq-Decides k m).0 e)
     by_test false e = other
-
-pub if_same : {V : Type 0} (k m : List ℕ) (x y : V) → k ≡ m → (if bytes_eq k m then x else y) ≡ x
-if_same k m x y e = rw ((bytes_eq-Decides k m).1 e) refl
 
 pub any_is : (p : List ℕ) (x : ℕ × List ℕ) → AnyText p x → p ≡ el x.0 x.1
 any_is p x r = r.5 ∙ ap (λ (z : ℕ × List ℕ). el z.0 z.1) (sym r.4)

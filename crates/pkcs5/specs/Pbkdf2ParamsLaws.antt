@@ -20,7 +20,7 @@ use Rattle.pkcs5.specs.Pbkdf2Params.{pbkdf2_params, Pbkdf2ParamsOf, Pbkdf2Params
 use Rattle.pkcs5.specs.declared.pbes2.pbkdf2_params.Pbkdf2Params.{Pbkdf2Params}
 use Rattle.pkcs5.specs.declared.pbes2.pbkdf2_prf.Pbkdf2Prf.{Pbkdf2Prf}
 use Rattle.pkcs5.specs.declared.pbes2.pbkdf2_prf.Pbkdf2Prf.TheVariants.{HmacWithSha1, HmacWithSha224, HmacWithSha256, HmacWithSha384, HmacWithSha512}
-use Rattle.pkcs5.specs.Reading.{salt_of, prf_of, prf_or_default, pbkdf2_params_of, pbkdf2_params_at}
+use Rattle.pkcs5.specs.Reading.{salt_of, pbkdf2_prf_of, prf_or_default, pbkdf2_params_of, pbkdf2_params_at}
 
 -- ---- salts
 
@@ -71,7 +71,7 @@ parts =
     on-exact (Within 4 SaltOf) _ (within 4 salt_of) _ (within-exact 4 SaltOf salt_of refl salt_of-exact)
     (λ s. on-exact (Uint 4294967295) _ (uint_at 4294967295) _ (uint-exact 4294967295)
     (λ n. on_option-exact (λ t. nat_eq t 2) (Uint 65535) (λ k. OnOption PrfText (Last s n k)) (uint_at 65535) _ (uint-exact 65535) (within-whole 2 (UintOf 65535) refl) (follows s n)
-    (λ k. on_option-exact (λ t. nat_eq t 0x30) PrfText (Last s n k) (within 0x30 prf_of) _ prf-exact (within-whole 0x30 PrfOf refl) (λ t l v h. absurd cc)
+    (λ k. on_option-exact (λ t. nat_eq t 0x30) PrfText (Last s n k) (within 0x30 pbkdf2_prf_of) _ prf-exact (within-whole 0x30 PrfOf refl) (λ t l v h. absurd cc)
     (λ f. ended-exact (pbkdf2_params s n k (prf_or_default f))))))
 
 -- the function at the end

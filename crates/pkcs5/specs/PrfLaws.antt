@@ -23,7 +23,7 @@ use Rattle.pkcs5.specs.Pbkdf2Prf.{PrfOf, PrfText, prf_content, SpellsPrf}
 use Rattle.pkcs5.specs.JudgedLaws.{Judges, judged-exact, if_test, any_is}
 use Rattle.pkcs5.specs.declared.pbes2.pbkdf2_prf.Pbkdf2Prf.{Pbkdf2Prf}
 use Rattle.pkcs5.specs.declared.pbes2.pbkdf2_prf.Pbkdf2Prf.TheVariants.{HmacWithSha1, HmacWithSha224, HmacWithSha256, HmacWithSha384, HmacWithSha512}
-use Rattle.pkcs5.specs.Reading.{prf_named, null_or_none, prf_in, prf_of, prf_at}
+use Rattle.pkcs5.specs.Reading.{prf_named, null_or_none, prf_in, pbkdf2_prf_of, prf_at}
 
 null-exact : Exact (Within 5 (Ended nothing)) (within 5 (ended nothing))
 null-exact = within-exact 5 (Ended nothing) (ended nothing) refl (ended-exact nothing)
@@ -90,11 +90,11 @@ prf-judges = record {
       (algorithm o x.0, (r.0, x.1, r.2 ∙ ap (λ (k : List ℕ). oid k ++ r.0) (sym same)), rw x.2 (ap (known_in (UnknownOid o)) named));
 }
 
-pub prf_of-exact : ExactAll PrfOf prf_of
-prf_of-exact = judged-exact (AlgorithmOf AnyText) prf_in PrfOf prf-judges _ (algorithm_of-exact any_tag AnyText any_at any-exact any-whole)
+pub pbkdf2_prf_of-exact : ExactAll PrfOf pbkdf2_prf_of
+pbkdf2_prf_of-exact = judged-exact (AlgorithmOf AnyText) prf_in PrfOf prf-judges _ (algorithm_of-exact any_tag AnyText any_at any-exact any-whole)
 
 pub prf-exact : Exact PrfText prf_at
-prf-exact = within-exact 0x30 PrfOf prf_of refl prf_of-exact
+prf-exact = within-exact 0x30 PrfOf pbkdf2_prf_of refl pbkdf2_prf_of-exact
 
 -- ---- what is written
 

@@ -59,11 +59,11 @@ null_or_none (Some p) = whole (within 0x05 (ended nothing)) (el p.0 p.1)
 abbrev pub prf_in : AnyAlgorithm → Result Pbkdf2Prf Fault
 prf_in a = null_or_none a.parameters >>= λ u. known prf_named UnknownOid a.oid
 
-abbrev pub prf_of : All Pbkdf2Prf
-prf_of b = algorithm_of any_tag any_at b >>= prf_in
+abbrev pub pbkdf2_prf_of : All Pbkdf2Prf
+pbkdf2_prf_of b = algorithm_of any_tag any_at b >>= prf_in
 
 abbrev pub prf_at : Front Pbkdf2Prf
-prf_at = within 0x30 prf_of
+prf_at = within 0x30 pbkdf2_prf_of
 
 -- ---- the parameters of PBKDF2
 
@@ -74,7 +74,7 @@ prf_or_default (Some f) = f
 abbrev pub pbkdf2_params_of : All Pbkdf2Params
 pbkdf2_params_of = on (within 0x04 salt_of) (λ s. on (uint_at 4294967295) (λ n.
     on (option_at (λ t. t == 0x02) (uint_at 65535)) (λ k.
-    on (option_at (λ t. t == 0x30) (within 0x30 prf_of))
+    on (option_at (λ t. t == 0x30) (within 0x30 pbkdf2_prf_of))
     (λ f. ended (pbkdf2_params s n k (prf_or_default f))))))
 
 abbrev pub pbkdf2_params_at : Front Pbkdf2Params

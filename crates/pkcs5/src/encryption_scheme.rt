@@ -1,5 +1,6 @@
 //! Encryption schemes: the type, decryption and encryption, and the text.
-ghost use Rattle.std.specs.Prelude.{◌≡◌, ◌≤◌, ◌↔◌, length, take, drop, IfSome, IsSome, IfOk, IfErr, OnErr, OnOk, refl};
+ghost use Rattle.std.specs.Prelude.{◌≡◌, ◌≤◌, ◌<◌, ◌↔◌, length, take, drop, IfSome, IsSome, IfOk, IfErr, OnErr, OnOk, refl};
+ghost use Rattle.std.specs.Result.{IsErrOf};
 ghost use Rattle.asn1_core.specs.Gives.{Gives};
 ghost use Rattle.asn1_core.specs.Oid.{oid_octets};
 ghost use Rattle.asn1_core.specs.Reading.{whole};
@@ -45,6 +46,8 @@ impl EncryptionScheme {
         ensures err { IfErr result (λ e. (e ≡ errors.Rng)
             × Lacks (D.faults draw.old) (D.faults draw.new) (D.left draw.old) 32) }
         ensures count { D.faults draw.old ≤ D.faults draw.new }
+        ensures no_fault { OnOk result (D.faults draw.new ≡ D.faults draw.old) }
+        ensures last { D.faults draw.old < D.faults draw.new → IsErrOf result errors.Rng }
     {
         Ok(EncryptionScheme::Pbes2(pbes2::Parameters::generate(draw)?))
     }

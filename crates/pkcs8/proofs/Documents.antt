@@ -1,21 +1,16 @@
 -- Documents that are too long.
 use Rattle.std.proofs.Common.{ℕ, ◌≡◌, ◌+◌, ◌<◌, ◌≤◌, List, ◌++◌, length, None, refl, sym, subst, arith, length-append}
-use Rattle.asn1_core.specs.Der.{el, len, seq, octets, IsHeader}
+use Rattle.asn1_core.specs.Der.{el, len, octets, IsHeader}
 use Rattle.asn1_core.specs.Writing.{Cause, IsOverlong}
 use Rattle.asn1_core.specs.declared.error.Error.{Error}
 use Rattle.asn1_core.specs.declared.error.Error.TheVariants.{Overlength}
 use Rattle.asn1_core.specs.WritingLaws.{el_size, overlong_el}
-use Rattle.der_core.specs.Document.{IsSequence}
 use Rattle.pkcs5.specs.declared.encryption_scheme.EncryptionScheme.{EncryptionScheme}
 use Rattle.pkcs5.specs.Scheme.{scheme_content}
 use Rattle.pkcs8.specs.EncryptedPrivateKeyInfo.{encrypted_key_text}
 
 not_less : (n m : ℕ) → (n < m → ⊥) → m ≤ n
 not_less n m h = grind (arith, h)
-
--- A SEQUENCE that is no document is too long.
-pub no_document : (v : List ℕ) → (IsSequence (seq v) → ⊥) → IsOverlong (length (seq v))
-no_document v h = not_less (length (seq v)) 4294967296 (λ lt. h (v, refl, lt))
 
 -- A ciphertext that is no OCTET STRING makes a document that is too long.
 pub long_ciphertext : (s : EncryptionScheme) (c : List ℕ) → (IsHeader (length c) → ⊥) → IsOverlong (length (encrypted_key_text s c))

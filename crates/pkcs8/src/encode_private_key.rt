@@ -1,10 +1,12 @@
 //! Key types that private keys are stored from.
-ghost use Rattle.std.specs.Prelude.{◌≡◌, ◌≤◌, ◌⊎◌, List, ℕ, IfOk, IfErr, OnOk};
+ghost use Rattle.std.specs.Prelude.{◌≡◌, ◌≤◌, ◌<◌, ◌⊎◌, List, ℕ, IfOk, IfErr, OnOk};
+ghost use Rattle.std.specs.Result.{IsErrOf};
 ghost use Rattle.asn1_core.specs.declared.error.Error.TheVariants as below;
 ghost use Rattle.octet_core.specs.Draw.{DrawsIvAndSalt, Lacks};
 ghost use Rattle.pkcs5.specs.Generation.{recommended};
+ghost use Rattle.pkcs5.specs.declared.error.Error.TheVariants as pkcs5;
 ghost use Rattle.pkcs8.specs.declared.error.Error.{Error};
-ghost use Rattle.pkcs8.specs.declared.error.Error.TheVariants.{Asn1};
+ghost use Rattle.pkcs8.specs.declared.error.Error.TheVariants as errors;
 ghost use Rattle.pkcs8.specs.Sealing.{IsSealed, RefusesToSealDrawn};
 ghost use Rattle.pkcs8.specs.Writing.{RefusesToWrite};
 
@@ -49,6 +51,9 @@ pub trait EncodePrivateKey {
             × text self.now m × RefusesToSealDrawn (Lacks (D.faults draw.old) (D.faults draw.new)
             (D.left draw.old) 32) password.now m e)) }
         ensures count { D.faults draw.old ≤ D.faults draw.new }
+        ensures no_fault { OnOk result (D.faults draw.new ≡ D.faults draw.old) }
+        ensures last { D.faults draw.old < D.faults draw.new
+            → IsErrOf result (errors.EncryptedPrivateKey pkcs5.Rng) }
     {
         let document = self.to_pkcs8_der(alloc)?;
         seal_drawn(alloc, draw, password, document.as_bytes())
@@ -58,7 +63,7 @@ pub trait EncodePrivateKey {
     /// where a call on the file failed.
     fn write_pkcs8_der_file<R: Files>(&self, rt: &R, alloc: Global, path: &str) -> Result<()>
         ensures ok { OnOk result ((b : List ℕ) × text self.now b) }
-        ensures err { IfErr result (λ e. refuses self.now e ⊎ (e ≡ Asn1 below.File)) }
+        ensures err { IfErr result (λ e. refuses self.now e ⊎ (e ≡ errors.Asn1 below.File)) }
     {
         let document = self.to_pkcs8_der(alloc)?;
         document.write_der_file(rt, path)?;

@@ -1,5 +1,6 @@
 //! Private keys with their algorithms: the type, its forms, encryption, and its text.
-ghost use Rattle.std.specs.Prelude.{◌≡◌, ◌≤◌, ◌↔◌, ◌⊎◌, ◌∷◌, ℕ, List, length, None, IfOk, IfErr, OnOk, refl, IsTrue, is_some};
+ghost use Rattle.std.specs.Prelude.{◌≡◌, ◌≤◌, ◌<◌, ◌↔◌, ◌⊎◌, ◌∷◌, ℕ, List, length, None, IfOk, IfErr, OnOk, refl, IsTrue, is_some};
+ghost use Rattle.std.specs.Result.{IsErrOf};
 ghost use Rattle.asn1_core.specs.Der.{el};
 ghost use Rattle.asn1_core.specs.Gives.{Gives, Parses, ParsesIn};
 ghost use Rattle.asn1_core.specs.Texts.{seen_option};
@@ -10,6 +11,7 @@ ghost use Rattle.octet_core.specs.Draw.{DrawsIvAndSalt, Lacks};
 ghost use Rattle.pkcs5.specs.Generation.{recommended};
 ghost use Rattle.pkcs5.specs.Kinds.{IsDes, key_size};
 ghost use Rattle.pkcs5.specs.Opening.{FitsKey, key_under};
+ghost use Rattle.pkcs5.specs.declared.error.Error.TheVariants as pkcs5;
 ghost use Rattle.spki.specs.SameLaws.{algorithm_same};
 ghost use Rattle.spki.specs.Seen.{borrowed_any, owned_any};
 ghost use Rattle.pkcs8.specs.declared.error.Error.TheVariants as errors;
@@ -227,6 +229,9 @@ impl<Params: Encode, Key: Encode, PubKey: BitStringLike> PrivateKeyInfo<Params, 
             (Lacks (D.faults draw.old) (D.faults draw.new) (D.left draw.old) 32) password.now
             (⟦<PrivateKeyInfo<Params, Key, PubKey> as Encode>⟧.canon self.now) e) }
         ensures count { D.faults draw.old ≤ D.faults draw.new }
+        ensures no_fault { OnOk result (D.faults draw.new ≡ D.faults draw.old) }
+        ensures last { D.faults draw.old < D.faults draw.new
+            → IsErrOf result (errors.EncryptedPrivateKey pkcs5.Rng) }
     {
         self.encrypt_with_rng(alloc, draw, password)
     }
@@ -251,6 +256,9 @@ impl<Params: Encode, Key: Encode, PubKey: BitStringLike> PrivateKeyInfo<Params, 
             (Lacks (D.faults draw.old) (D.faults draw.new) (D.left draw.old) 32) password.now
             (⟦<PrivateKeyInfo<Params, Key, PubKey> as Encode>⟧.canon self.now) e) }
         ensures count { D.faults draw.old ≤ D.faults draw.new }
+        ensures no_fault { OnOk result (D.faults draw.new ≡ D.faults draw.old) }
+        ensures last { D.faults draw.old < D.faults draw.new
+            → IsErrOf result (errors.EncryptedPrivateKey pkcs5.Rng) }
     {
         match self.to_der(alloc) {
             Ok(text) => seal_drawn(alloc, draw, password, text.as_slice()),

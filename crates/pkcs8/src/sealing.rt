@@ -1,11 +1,14 @@
 //! Sealed documents: texts under a password or under a key, in DER.
-ghost use Rattle.std.specs.Prelude.{◌≡◌, ◌≤◌, ℕ, List, length, None, IfOk, IfErr, OnOk};
+ghost use Rattle.std.specs.Prelude.{◌≡◌, ◌≤◌, ◌<◌, ℕ, List, length, None, IfOk, IfErr, OnOk};
+ghost use Rattle.std.specs.Result.{IsErrOf};
 ghost use Rattle.asn1_core.specs.Writing.{Cause, IsOverlong};
 ghost use Rattle.octet_core.specs.Draw.{DrawsIvAndSalt, Lacks};
 ghost use Rattle.pkcs5.specs.Generation.{recommended};
 ghost use Rattle.pkcs5.specs.Kinds.{IsDes, key_size};
 ghost use Rattle.pkcs5.specs.Opening.{FitsKey, key_under};
 ghost use Rattle.pkcs5.specs.declared.encryption_scheme.EncryptionScheme.TheVariants.{Pbes2};
+ghost use Rattle.pkcs5.specs.declared.error.Error.TheVariants as pkcs5;
+ghost use Rattle.pkcs8.specs.declared.error.Error.TheVariants as errors;
 ghost use Rattle.pkcs8.specs.EncryptedPrivateKeyInfo.{encrypted_key_text};
 ghost use Rattle.pkcs8.specs.Sealing.{IsSealed, RefusesToSeal, RefusesToSealDrawn, RefusesToSealUnder};
 
@@ -103,6 +106,9 @@ pub(crate) fn seal_drawn<D: Draw>(
         (D.left draw.old) 32)
         password.now text.now e) }
     ensures count { D.faults draw.old ≤ D.faults draw.new }
+    ensures no_fault { OnOk result (D.faults draw.new ≡ D.faults draw.old) }
+    ensures last { D.faults draw.old < D.faults draw.new
+        → IsErrOf result (errors.EncryptedPrivateKey pkcs5.Rng) }
 {
     match pbes2::Parameters::generate_recommended(draw) {
         Ok(parameters) => seal(alloc, parameters, password, text),

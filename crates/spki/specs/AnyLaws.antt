@@ -35,9 +35,6 @@ algorithm_bad can p h = within_bad 0x30 _ (on_bad _ _ oid_at_bad (λ o. on_bad _
 pub parses_algorithm : {X : Type 0} (view : X → AnyAlgorithm) (b : List ℕ) (r : Result X Below) → Gives view r (whole (algorithm_at any_tag any_at) b) → Parses below.Malformed IsAlgorithm view b r
 parses_algorithm view b r e = parses_short (AlgorithmText AnyText) (algorithm_at any_tag any_at) (algorithm-exact any_tag AnyText any_at any-exact any-whole) (algorithm_bad any_tag any_at any_bad) b view r e
 
-pub algorithm_found : (b : List ℕ) (v : AnyAlgorithm) → whole (algorithm_at any_tag any_at) b ≡ Ok v → IsAlgorithm b v
-algorithm_found = whole_found (AlgorithmText AnyText) (algorithm_at any_tag any_at) (algorithm-exact any_tag AnyText any_at any-exact any-whole)
-
 bits_bad : OnlyBad bits_of
 bits_bad [] o e = absurd cc
 bits_bad (u ∷ l) o e = where_bad _ _ o e

@@ -3,11 +3,9 @@
 //!
 //! A counted call takes a `&mut Steps<L>` as its last parameter and states how far it moves it. The same call without
 //! a counter is two functions: `work_from(.., blank: Blank)` opens a counter and lends it to the counted call, and
-//! `work(..)` hands it `Blank::new(1)`. The tests show both.
+//! `work(..)` hands it `Blank::new(1)`. The tests of `primitive_tests` show both.
 #![tactic(auto)]
 
 mod counter;
-#[cfg(test)]
-mod tests;
 
 pub use counter::Steps;

@@ -9,8 +9,6 @@ mod attribute;
 mod name;
 mod parts;
 mod printed;
-#[cfg(test)]
-mod tests;
 mod time;
 mod value;
 

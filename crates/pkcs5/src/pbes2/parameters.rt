@@ -1,6 +1,7 @@
 //! The parameters of PBES2: the type, parameters from their parts and from drawn octets, decryption and encryption, and the
 //! text.
 ghost use Rattle.std.specs.Prelude.{◌≡◌, ◌+◌, ◌≤◌, ◌<◌, ◌⊎◌, length, take, drop, IfOk, IfErr, OnErr, OnOk, MatchResult, refl};
+ghost use Rattle.std.specs.Result.{IsErrOf};
 ghost use Rattle.asn1_core.specs.Gives.{Gives};
 ghost use Rattle.spki.specs.Seen.{borrowed_any};
 ghost use Rattle.octet_core.specs.Draw.{DrawsIvAndSalt, Lacks};
@@ -83,6 +84,8 @@ fn draw_both<D: Draw>(draw: &mut D) -> error::Result<Drawn>
     ensures err { IfErr result (λ e. (e ≡ errors.Rng)
         × Lacks (D.faults draw.old) (D.faults draw.new) (D.left draw.old) 32) }
     ensures count { D.faults draw.old ≤ D.faults draw.new }
+    ensures no_fault { OnOk result (D.faults draw.new ≡ D.faults draw.old) }
+    ensures last { D.faults draw.old < D.faults draw.new → IsErrOf result errors.Rng }
 {
     let mut iv = [0u8; 16];
     let mut salt = [0u8; 16];
@@ -104,6 +107,8 @@ impl Parameters {
         ensures err { IfErr result (λ e. (e ≡ errors.Rng)
             × Lacks (D.faults draw.old) (D.faults draw.new) (D.left draw.old) 32) }
         ensures count { D.faults draw.old ≤ D.faults draw.new }
+        ensures no_fault { OnOk result (D.faults draw.new ≡ D.faults draw.old) }
+        ensures last { D.faults draw.old < D.faults draw.new → IsErrOf result errors.Rng }
     {
         Parameters::generate_recommended(draw)
     }
@@ -115,6 +120,8 @@ impl Parameters {
         ensures err { IfErr result (λ e. (e ≡ errors.Rng)
             × Lacks (D.faults draw.old) (D.faults draw.new) (D.left draw.old) 32) }
         ensures count { D.faults draw.old ≤ D.faults draw.new }
+        ensures no_fault { OnOk result (D.faults draw.new ≡ D.faults draw.old) }
+        ensures last { D.faults draw.old < D.faults draw.new → IsErrOf result errors.Rng }
     {
         Parameters::generate_scrypt(draw)
     }
@@ -128,6 +135,8 @@ impl Parameters {
         ensures err { IfErr result (λ e. (e ≡ errors.Rng)
             × Lacks (D.faults draw.old) (D.faults draw.new) (D.left draw.old) 32) }
         ensures count { D.faults draw.old ≤ D.faults draw.new }
+        ensures no_fault { OnOk result (D.faults draw.new ≡ D.faults draw.old) }
+        ensures last { D.faults draw.old < D.faults draw.new → IsErrOf result errors.Rng }
     {
         let Drawn { iv, salt } = draw_both(draw)?;
         Ok(Parameters {
@@ -150,6 +159,8 @@ impl Parameters {
         ensures err { IfErr result (λ e. (e ≡ errors.Rng)
             × Lacks (D.faults draw.old) (D.faults draw.new) (D.left draw.old) 32) }
         ensures count { D.faults draw.old ≤ D.faults draw.new }
+        ensures no_fault { OnOk result (D.faults draw.new ≡ D.faults draw.old) }
+        ensures last { D.faults draw.old < D.faults draw.new → IsErrOf result errors.Rng }
     {
         let Drawn { iv, salt } = draw_both(draw)?;
         Ok(Parameters {

@@ -8,10 +8,10 @@ ghost use Rattle.spki.specs.Seen.{borrowed_any, borrowed_algorithm};
 ghost use Rattle.pkcs5.specs.Kinds.{prf_oid};
 ghost use Rattle.pkcs5.specs.Pbkdf2Params.{stated_prf};
 ghost use Rattle.pkcs5.specs.Pbkdf2Prf.{PrfOf, prf_content, SpellsPrf};
-ghost use Rattle.pkcs5.specs.PrfLaws.{prf_of-exact, prf_canonical, prf_spelled};
+ghost use Rattle.pkcs5.specs.PrfLaws.{pbkdf2_prf_of-exact, prf_canonical, prf_spelled};
 ghost use Rattle.pkcs5.specs.SameLaws.{prf_same};
 ghost use Rattle.pkcs5.specs.declared.pbes2.pbkdf2_prf.Pbkdf2Prf.{Pbkdf2Prf};
-ghost use Rattle.pkcs5.specs.Reading.{prf_named, null_or_none, prf_in, prf_of};
+ghost use Rattle.pkcs5.specs.Reading.{prf_named, null_or_none, prf_in, pbkdf2_prf_of};
 
 use crate::pbes2::identifiers::{
     HMAC_WITH_SHA1_OID, HMAC_WITH_SHA224_OID, HMAC_WITH_SHA256_OID, HMAC_WITH_SHA384_OID,
@@ -141,7 +141,7 @@ impl<'a> DecodeValue<&'a [u8]> for Pbkdf2Prf {
 
     ghost seen = { λ f. f };
 
-    ghost value = { λ t. prf_of };
+    ghost value = { λ t. pbkdf2_prf_of };
 
     ghost text = { λ t. PrfOf };
 
@@ -153,7 +153,7 @@ impl<'a> DecodeValue<&'a [u8]> for Pbkdf2Prf {
         Ok(prf)
     }
 
-    ghost exact = { λ t. prf_of-exact };
+    ghost exact = { λ t. pbkdf2_prf_of-exact };
 }
 
 impl EncodeValue for Pbkdf2Prf {
