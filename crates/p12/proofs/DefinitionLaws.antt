@@ -13,17 +13,17 @@ use Rattle.p12.specs.declared.content_info.ContentInfo.{ContentInfo}
 use Rattle.p12.specs.declared.pfx.PFX.{PFX}
 use Rattle.p12.specs.declared.safe_bag.SafeBag.{SafeBag}
 use Rattle.pkcs5.specs.Kinds.{key_size, rounds_of}
-use Rattle.pkcs5.specs.Opening.{opened, states_length, steps_of}
+use Rattle.pkcs5.specs.Opening.{opened, states_length, steps_of, unpadded}
 use Rattle.pkcs5.specs.declared.pbes2.parameters.Parameters.{Parameters}
-use Rattle.p12.specs.AlgorithmIdentifier.{IsOpened, cost, is_blocks, taken, taken_pbe, unlock, unlock_pbe, unlock_pbes2, unpadded, triple_des_text}
+use Rattle.p12.specs.AlgorithmIdentifier.{IsOpened, cost, is_blocks, taken, taken_pbe, unlock, unlock_pbe, unlock_pbes2, triple_des_text}
 use Rattle.p12.specs.ContentInfo.{ContentFits, ContentText, IsContents}
 use Rattle.pkcs12_kdf.specs.Password.{bmp_password}
 use Rattle.p12.specs.Pfx.{IsStore, PfxText, StoreFits}
 use Rattle.p12.specs.BagView.{ListsBags, bags_of}
 use Rattle.p12.specs.Reading.{bags_at}
-use Rattle.p12.specs.SafeBag.{BagFits, BagText, IsBags}
+use Rattle.p12.specs.SafeBag.{BagFits, BagText, BagWithin, IsBags}
 use Rattle.p12.specs.Walk.{read_or_none}
-use Rattle.p12.proofs.Pbes2.{by_rounds}
+use Rattle.p12.proofs.Pbes2.{by_rounds, unlock_pbes2-is}
 use Rattle.p12.proofs.BagRows.{bags-exact}
 use Rattle.p12.proofs.ContentRows.{contents-exact, pfx-exact}
 use Rattle.p12.proofs.Fits as fits
@@ -69,6 +69,9 @@ contents_fit b cs p = fits.contents_fit b cs p
 pub bags_fit : (b : List ℕ) (gs : List SafeBag) → IsBags b gs → All BagFits gs
 bags_fit b gs p = fits.bags_fit b gs p
 
+pub bags_fit_within : (n : ℕ) (b : List ℕ) (gs : List SafeBag) → length b ≤ n → IsBags b gs → All (BagWithin n) gs
+bags_fit_within n b gs h p = fits.bags_fit_within n b gs h p
+
 -- ---- opening a text
 
 not_none : (t : Bool) (r : Option (List ℕ)) (m : List ℕ) → (if t then r else None) ≡ Some m → IsTrue t
@@ -85,11 +88,11 @@ triple_des_opened p q c m h =
     record { openable = refl; some_rounds = ltb-true 0 p.iterations t.0; all = rw t.1 refl }
 
 pbes2_opened : (par : Parameters) (p c m : List ℕ) → unlock_pbes2 par p c ≡ Some m → IsOpened (Pbes2 par) c
-unfolding unlock_pbes2 taken
+unfolding taken
 pbes2_opened par p c m h =
     let fits = states_length par.kdf (key_size par.encryption) in
     let some = nat_lt 0 (rounds_of par.kdf) in
-    let t = both fits some (not_none (fits && some) (opened par p c) m h) in
+    let t = both fits some (not_none (fits && some) (opened par p c) m (sym (unlock_pbes2-is par p c) ∙ h)) in
     let rounds : 0 < rounds_of par.kdf = ltb-true 0 (rounds_of par.kdf) t.1 in
     record { openable = rw (by_rounds par.kdf rounds) t.0; some_rounds = rounds; all = rw t.0 refl }
 

@@ -22,7 +22,7 @@ use Rattle.p12.specs.ContentInfo.{ContentCase, ContentFits, ContentText, IsConte
 use Rattle.p12.specs.EncryptedPrivateKeyInfo.{EncryptedKeyText}
 use Rattle.p12.specs.MacData.{MacText}
 use Rattle.p12.specs.Pfx.{IsStore, StoreFits}
-use Rattle.p12.specs.SafeBag.{BagFits, BagText, IsBags, KindCase, KindFits}
+use Rattle.p12.specs.SafeBag.{BagFits, BagText, BagWithin, IsBags, KindCase, KindFits, KindWithin}
 
 abbrev pub Fits : List ℕ → List ℕ → Type 0
 Fits x b = length x ≤ length b
@@ -56,7 +56,7 @@ case_fits k q Sha1 r = omega arith
 case_fits k q Sha256 r = omega arith
 case_fits k q (Pbes2 par) r = omega arith
 case_fits k q (OtherAlg o) r = omega arith
-case_fits k q (PbewithSHAAnd40BitRC2CBC p) r = omega arith
+case_fits k q (PbewithSHAAnd40BitRC2CBC p) r = params_fit q p r.1
 case_fits k q (PbeWithSHAAnd3KeyTripleDESCBC p) r = params_fit q p r.1
 
 salt_fits : (b : List ℕ) (a : AlgorithmIdentifier) → AlgorithmText b a → Fits (salt_of a) b
@@ -118,31 +118,46 @@ key_fits b e r =
       through _ _ _ (salt_fits algorithm.0 _ algorithm.2) (through _ _ _ (left_fits algorithm.0 algorithm.1 r.0 algorithm.4) whole),
     )
 
-kind_fits : (k : ObjectIdentifier) (q : List ℕ) (v : SafeBagKind) → length q < 2 ^ 32 → KindCase k q v → KindFits v
-kind_fits k q (kind.CertBag c) h r = tt
-kind_fits k q (kind.Pkcs8ShroudedKeyBag e) h r = let f = key_fits q e r.1 in (omega (arith, h, f.0), omega (arith, h, f.1))
-kind_fits k q (kind.OtherBagKind o) h r = tt
+kind_within : (k : ObjectIdentifier) (q : List ℕ) (v : SafeBagKind) → KindCase k q v → KindWithin (length q) v
+kind_within k q (kind.CertBag c) r = tt
+kind_within k q (kind.Pkcs8ShroudedKeyBag e) r = key_fits q e r.1
+kind_within k q (kind.OtherBagKind o) r = tt
 
-bag_fits : (b : List ℕ) (g : SafeBag) → length b < 2 ^ 32 → BagText b g → BagFits g
-bag_fits b g h r =
+wider_kind : (m n : ℕ) (v : SafeBagKind) → m ≤ n → KindWithin m v → KindWithin n v
+wider_kind m n (kind.CertBag c) h f = tt
+wider_kind m n (kind.Pkcs8ShroudedKeyBag e) h f = (omega (arith, h, f.0), omega (arith, h, f.1))
+wider_kind m n (kind.OtherBagKind o) h f = tt
+
+bag_within : (b : List ℕ) (g : SafeBag) → BagText b g → BagWithin (length b) g
+bag_within b g r =
     let on = r.1 in
     let f = on.4 in
     let w = f.2 in
     let to_value = through _ _ _ (right_fits on.0 on.1 r.0 on.5) (value_fits 0x30 r.0 b r.2) in
     let to_kind = through _ _ _ (value_fits 0xa0 w.0 f.0 w.2) (through _ _ _ (left_fits f.0 f.1 on.1 f.4) to_value) in
-    kind_fits on.2 w.0 g.bag (omega (arith, h, to_kind)) w.1
+    wider_kind (length w.0) (length b) g.bag to_kind (kind_within on.2 w.0 g.bag w.1)
 
-bag_first : (g : SafeBag) (gs : List SafeBag) → BagFits g → All BagFits gs → All BagFits (g ∷ gs)
-bag_first g gs f h zero d lt = f
-bag_first g gs f h (suc k) d lt = h k d (omega (arith, lt))
+bag_first : (n : ℕ) (g : SafeBag) (gs : List SafeBag) → BagWithin n g → All (BagWithin n) gs → All (BagWithin n) (g ∷ gs)
+bag_first n g gs f h zero d lt = f
+bag_first n g gs f h (suc k) d lt = h k d (omega (arith, lt))
 
-all_bags_fit : (b : List ℕ) (gs : List SafeBag) → length b < 2 ^ 32 → Many BagText b gs → All BagFits gs
-all_bags_fit b [] h m = λ k d lt. absurd (omega (arith, lt))
-all_bags_fit b (g ∷ gs) h (p, q, r, m, e) = bag_first g gs (bag_fits p g (omega (arith, h, left_fits p q b e)) r) (all_bags_fit q gs (omega (arith, h, right_fits p q b e)) m)
+all_bags_within : (n : ℕ) (b : List ℕ) (gs : List SafeBag) → length b ≤ n → Many BagText b gs → All (BagWithin n) gs
+all_bags_within n b [] h m = λ k d lt. absurd (omega (arith, lt))
+all_bags_within n b (g ∷ gs) h (p, q, r, m, e) =
+    bag_first n g gs (wider_kind (length p) n g.bag (omega (arith, h, left_fits p q b e)) (bag_within p g r)) (all_bags_within n q gs (omega (arith, h, right_fits p q b e)) m)
+
+pub bags_fit_within : (n : ℕ) (b : List ℕ) (gs : List SafeBag) → length b ≤ n → IsBags b gs → All (BagWithin n) gs
+unfolding IsBags
+bags_fit_within n b gs h p = let r = p.0 in all_bags_within n r.0 gs (omega (arith, h, value_fits 0x30 r.0 b r.2)) r.1
+
+within_fits : (n : ℕ) (v : SafeBagKind) → n < 2 ^ 32 → KindWithin n v → KindFits v
+within_fits n (kind.CertBag c) h f = tt
+within_fits n (kind.Pkcs8ShroudedKeyBag e) h f = (omega (arith, h, f.0), omega (arith, h, f.1))
+within_fits n (kind.OtherBagKind o) h f = tt
 
 pub bags_fit : (b : List ℕ) (gs : List SafeBag) → IsBags b gs → All BagFits gs
 unfolding IsBags
-bags_fit b gs p = let r = p.0 in all_bags_fit r.0 gs (omega (arith, p.1, value_fits 0x30 r.0 b r.2)) r.1
+bags_fit b gs p = λ k d lt. within_fits (length b) _ p.1 (bags_fit_within (length b) b gs (omega arith) p k d lt)
 
 -- ---- stores
 

@@ -4,13 +4,11 @@ use Rattle.std.specs.Prelude.{All, IfSome, Option, Some, None}
 use Rattle.std.proofs.lemmas.List.{append_assoc, append-nil, take-append-drop, take_more}
 use Rattle.std.proofs.lemmas.List.Elements.{All-append}
 use Rattle.p12.specs.Collected.{ContentFault, FirstFault, HoldAll, HoldsBags, Refuses}
-use Rattle.p12.specs.Error.{MalformedOnly}
 use Rattle.p12.specs.ContentInfo.{ContentFits, IsContents, SealFits, plain_of}
 use Rattle.p12.specs.SafeBag.{BagFits}
 use Rattle.p12.specs.declared.content_info.ContentInfo.{ContentInfo}
 use Rattle.p12.specs.declared.content_info.ContentInfo.TheVariants as content
 use Rattle.p12.specs.declared.error.Error.{Error}
-use Rattle.p12.specs.declared.error.Error.TheVariants.{Malformed, Invalid, Rng, TooLong, Memory}
 use Rattle.p12.specs.declared.safe_bag.SafeBag.{SafeBag}
 use Rattle.p12.specs.Pfx.{IsStore, OpeningFits, StoreFits}
 use Rattle.p12.specs.declared.mac_data.MacData.{MacData}
@@ -42,14 +40,6 @@ fault_at p cs i c gs e lt at all (inr f) =
     inr (subst (λ t. FirstFault p t e)
     (sym (sym (take-append-drop (i + 1) cs) ∙ ap (λ t. t ++ drop (i + 1) cs) (take_one cs i c lt at) ∙ append_assoc (take i cs) (c ∷ []) (drop (i + 1) cs)))
     (fault_behind p (take i cs) c (drop (i + 1) cs) gs e all f))
-
--- a refusal of a reader, where F has it
-pub by_malformed : (F : Error → Type 0) (P : Type 0) (e : Error) → MalformedOnly e P → (P → F Malformed) → Refuses F e
-by_malformed F P Malformed h f = inr (f h)
-by_malformed F P Invalid h f = absurd h
-by_malformed F P Rng h f = absurd h
-by_malformed F P TooLong h f = absurd h
-by_malformed F P Memory h f = inl refl
 
 -- bags that were held fit
 pub held_fit : (p : List ℕ) (cs : List ContentInfo) (gs : List SafeBag) → HoldAll p cs gs → All BagFits gs

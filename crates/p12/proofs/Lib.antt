@@ -3,7 +3,7 @@ pub mod ContentRows
 pub mod BagRows
 pub mod Public
 pub mod Paddings
-mod Pbes2
+pub mod Pbes2
 pub mod Opened
 pub mod Macs
 pub mod Fits
@@ -16,13 +16,9 @@ mod UnitsPass
 mod Characters
 mod Refusals
 mod OneCiphertext
-pub mod Spelled
-pub mod SpelledStores
 mod HeldBags
 pub mod TextRefusals
 pub mod Again
-pub mod Alike
 pub mod MadeTexts
-mod Made
 pub mod MadeSizes
 mod MadeRefusals

@@ -13,7 +13,8 @@ use Rattle.mac_modes.specs.Sha1Laws.{length-sha1}
 use Rattle.mac_modes.proofs.Uniqueness.{one_ciphertext}
 use Rattle.pkcs5.proofs.Openings.{length_8, tdes_blocks}
 use Rattle.pkcs12_kdf.specs.Derivation.{derive12}
-use Rattle.p12.specs.AlgorithmIdentifier.{ciphertext_length, is_blocks, triple_des_text, unlock_pbe, unpadded}
+use Rattle.pkcs5.specs.Opening.{unpadded}
+use Rattle.p12.specs.AlgorithmIdentifier.{ciphertext_length, is_blocks, triple_des_text, unlock_pbe}
 use Rattle.p12.specs.declared.pkcs12_pbe_params.Pkcs12PbeParams.{Pkcs12PbeParams}
 use Rattle.p12.specs.declared.algorithm_identifier.AlgorithmIdentifier.TheVariants.{PbeWithSHAAnd3KeyTripleDESCBC}
 use Rattle.p12.proofs.Paddings.{unpadded_is}

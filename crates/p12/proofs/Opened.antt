@@ -8,7 +8,8 @@ use Rattle.octet_core.specs.Lending.{written_over}
 use Rattle.mac_modes.specs.Padding.{padded}
 use Rattle.p12.proofs.Paddings.{unpadded_some}
 use Rattle.pkcs12_kdf.specs.Derivation.{derive12}
-use Rattle.p12.specs.AlgorithmIdentifier.{unpadded, triple_des_text}
+use Rattle.pkcs5.specs.Opening.{unpadded}
+use Rattle.p12.specs.AlgorithmIdentifier.{triple_des_text}
 
 -- octets that are written over as many are those octets
 whole_over : (base t : List ℕ) → length t ≡ length base → written_over base t ≡ t

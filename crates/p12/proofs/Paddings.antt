@@ -7,7 +7,7 @@ use Rattle.std.proofs.lemmas.List.{take_at, length-replicate, get_or-replicate}
 use Rattle.std.proofs.Math.Seq.{get_or-append_right}
 use Rattle.std.proofs.lemmas.Nat.{mod_below}
 use Rattle.mac_modes.specs.Padding.{pad_count, padded}
-use Rattle.p12.specs.AlgorithmIdentifier.{unpadded, without_last}
+use Rattle.pkcs5.specs.Opening.{unpadded}
 
 if_some : {A : Type 0} (t : Bool) (m n : A) → (if t then Some m else None) ≡ Some n → IsTrue t × (m ≡ n)
 if_some true m n e = (refl, cc)
@@ -28,16 +28,16 @@ unpadded_of n m h =
     let some : 0 < k = let lt = mod_below (length m) n h in omega (arith, lt) in
     let last = last_is m k some in
     let size : length (padded m n) - k ≡ length m = omega (arith, length-append m (replicate k k), length-replicate k k) in
-    let front : without_last (slice_index (padded m n) (length (padded m n) - 1)) (padded m n) ≡ m =
-    ap (λ (j : ℕ). without_last j (padded m n)) last ∙ ap (λ (j : ℕ). take j (padded m n)) size ∙ take_at m (replicate k k) (length m) refl in
+    let front : take (length (padded m n) - slice_index (padded m n) (length (padded m n) - 1)) (padded m n) ≡ m =
+    ap (λ (j : ℕ). take (length (padded m n) - j) (padded m n)) last ∙ ap (λ (j : ℕ). take j (padded m n)) size ∙ take_at m (replicate k k) (length m) refl in
     rw (front, (bytes_eq-Decides (padded m n) (padded m n)).1 refl) refl
 
 pub unpadded_is : (n : ℕ) (t m : List ℕ) → unpadded n t ≡ Some m → padded m n ≡ t
 unfolding unpadded
 unpadded_is n t m e =
-    let k = slice_index t (length t - 1) in
-    let h = if_some (bytes_eq (padded (without_last k t) n) t) (without_last k t) m e in
-    ap (λ (x : List ℕ). padded x n) (sym h.1) ∙ (bytes_eq-Decides (padded (without_last k t) n) t).0 h.0
+    let front = take (length t - slice_index t (length t - 1)) t in
+    let h = if_some (bytes_eq (padded front n) t) front m e in
+    ap (λ (x : List ℕ). padded x n) (sym h.1) ∙ (bytes_eq-Decides (padded front n) t).0 h.0
 
 pub unpadded_some : (n : ℕ) (t m : List ℕ) → 0 < n → padded m n ≡ t → unpadded n t ≡ Some m
 unpadded_some n t m h e = ap (unpadded n) (sym e) ∙ unpadded_of n m h

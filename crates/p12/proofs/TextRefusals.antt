@@ -21,8 +21,7 @@ use Rattle.asn1_core.specs.Writing.{Cause, IsOverlong}
 use Rattle.asn1_core.specs.declared.error.Error.{Error}
 use Rattle.asn1_core.specs.declared.error.Error.TheVariants.{Malformed, OidUnknown, Overlength, NoRoom, File, Memory}
 use Rattle.p12.specs.declared.attribute.OtherAttribute.{OtherAttribute}
-use Rattle.p12.specs.Error.{refusal_of}
-use Rattle.p12.specs.Writing.{RefusesText, MakesText, EncodesText}
+use Rattle.p12.specs.Writing.{RefusesText, MakesText}
 
 -- a part of a text is refused, and so the whole
 pub part_refused : (can more : Type 0) (part whole : List ℕ) → (more → can) → length part ≤ length whole → (e : Error) → RefusesText can part e → RefusesText more whole e
@@ -46,14 +45,6 @@ memory_refused bad can text f Memory c = c
 pub made_as : (can more : Type 0) (text : List ℕ) → (can → more) → (more → can) → (r : Result (List ℕ) Error) → MakesText can text r → MakesText more text r
 made_as can more text f g (Ok t) h = (h.0, h.1, f h.2)
 made_as can more text f g (Err e) h = part_refused can more text text g (omega arith) e h
-
-pub encoded_refused : (can : Type 0) (text : List ℕ) (e : Error) → RefusesText can text e → EncodesText can text (Err (refusal_of e))
-encoded_refused can text Malformed c = c
-encoded_refused can text (OidUnknown o) c = absurd c
-encoded_refused can text Overlength c = c
-encoded_refused can text NoRoom c = absurd c
-encoded_refused can text File c = absurd (omega (arith, c))
-encoded_refused can text Memory c = tt
 
 -- a value is no longer than its element
 pub inside_refused : (can : Type 0) (tag : ℕ) (v : List ℕ) (e : Error) → RefusesText can v e → RefusesText can (el tag v) e

@@ -80,20 +80,12 @@ linked [] h = refl
 linked (a ∷ []) h = (refl, refl)
 linked (a ∷ c ∷ bs) h = one_more h a c bs (units_in bs) (λ k. linked bs k)
 
-abbrev Told : Bool → List ℕ → Type 0
-Told true b = (t : List ℕ) × (units_text b ≡ Ok t)
-Told false b = units_text b ≡ Err Bad
-
 abbrev text_of : Result (List ℕ) Fault → Result (List ℕ) Fault
 text_of r = r >>= λ us. where_ok (not (has_unpaired_surrogate us)) (encode_utf8_all (utf16_lossy_chars us))
 
 abbrev ToldOf : Bool → Result (List ℕ) Fault → Type 0
 ToldOf true r = (t : List ℕ) × (text_of r ≡ Ok t)
 ToldOf false r = text_of r ≡ Err Bad
-
-not_not : (t : Bool) → not (not t) ≡ t
-not_not true = refl
-not_not false = refl
 
 told_by : (p : Bool) (us : List ℕ) → has_unpaired_surrogate us ≡ not p → ToldOf p (Ok us)
 told_by true us e = (encode_utf8_all (utf16_lossy_chars us), rw e refl)

@@ -9,7 +9,6 @@ use Rattle.asn1_core.specs.ExactLaws.{bind_ok, ok_is}
 use Rattle.asn1_core.specs.Gives.{Fails}
 use Rattle.asn1_core.specs.Reading.{Bad}
 use Rattle.asn1_core.specs.Fields.{latest}
-use Rattle.asn1_core.specs.PartLoop.{SoFar}
 use Rattle.asn1_core.proofs.PartLoops.{ends, latest_fails}
 use Rattle.asn1_core.specs.declared.error.Error.{Error}
 use Rattle.asn1_core.specs.declared.error.Error.TheVariants as errors
@@ -119,13 +118,6 @@ latest_fails_free p b errors.Overlength none h = absurd h
 latest_fails_free p b errors.NoRoom none h = absurd h
 latest_fails_free p b errors.File none h = absurd h
 latest_fails_free p b errors.Memory none h = absurd h
-
--- a list that was read is the list that reading gives
-pub read_list : {A : Type 0} (r : Result (List A) Fault) (xs : List A) → r ≡ Ok xs → r ≡ Ok (read_or_none r)
-read_list r xs e = e ∙ ap (λ (s : Result (List _) Fault). Ok (read_or_none s)) (sym e)
-
-pub all_read : {A : Type 0} (p : Front A) (b rest : List ℕ) → length rest ≡ 0 → (items : List A) × SoFar p b items rest → many p b ≡ Ok (read_or_none (many p b))
-all_read p b rest n s = read_list (many p b) s.0 (ends p b rest s.0 n s.1)
 
 -- ---- a part by itself
 

@@ -1,20 +1,22 @@
 -- Algorithms of PKCS#12 (RFC 7292 appendix C; PBES2 of RFC 8018 appendix A.4; AlgorithmIdentifier
 -- of RFC 5280 section 4.1.1.2), and what they open under a password.
-use Rattle.std.specs.Prelude.{◌≡◌, ◌≢◌, ◌⊎◌, ℕ, ◌<◌, ◌≤◌, ◌+◌, ◌-◌, ◌*◌, ◌^◌, ◌%◌, ◌==◌, ◌&&◌, nat_lt, if◌then◌else◌, Bool, true, false, List, [], length, take, slice_index, Option, Some, None, ⊤}
+use Rattle.std.specs.Prelude.{◌≡◌, ◌≢◌, ◌⊎◌, ℕ, ◌<◌, ◌≤◌, ◌+◌, ◌-◌, ◌*◌, ◌^◌, ◌%◌, ◌==◌, ◌&&◌, nat_lt, if◌then◌else◌, Bool, true, false, List, [], length, Option, Some, None, ⊤}
 use Rattle.asn1_core.specs.Texts.{On, Perhaps, Raw, Uint, Oid, Inside}
 use Rattle.asn1_core.specs.Fields.{Field, End, Sequence}
 use Rattle.asn1_core.specs.Oid.{oid_octets}
 use Rattle.asn1_core.specs.declared.identifier.ObjectIdentifier.{ObjectIdentifier}
 use Rattle.asn1_core.specs.Der.{IsShort, null}
-use Rattle.std.specs.Str.{bytes_eq}
 use Rattle.sha1.specs.Sha1.{sha1}
 use Rattle.block_core.specs.Tdes.{inv_tdes}
 use Rattle.mac_modes.specs.Cbc.{uncbc}
-use Rattle.mac_modes.specs.Padding.{pad_count, padded}
+use Rattle.mac_modes.specs.Padding.{pad_count}
+use Rattle.pbkdf2.specs.Pbkdf2.{pbkdf2}
 use Rattle.pkcs5.specs.Identifiers.{pbes2_oid}
-use Rattle.pkcs5.specs.Opening.{opened, states_length, steps_of}
+use Rattle.pkcs5.specs.Opening.{opened_by, prf_of, prf_output, states_length, steps_of, unpadded}
 use Rattle.pkcs5.specs.Kinds.{IsDes, is_pbkdf2, key_size, rounds_of}
 use Rattle.pkcs5.specs.Parameters.{ParametersText}
+use Rattle.pkcs5.specs.declared.pbes2.kdf.Kdf.{Kdf}
+use Rattle.pkcs5.specs.declared.pbes2.kdf.Kdf.TheVariants.{Pbkdf2, Scrypt}
 use Rattle.pkcs5.specs.declared.pbes2.parameters.Parameters.{Parameters}
 use Rattle.pkcs12_kdf.specs.Derivation.{derive12}
 use Rattle.pkcs12_kdf.specs.Password.{bmp_password}
@@ -56,49 +58,33 @@ AlgorithmText = Sequence (On Oid AlgorithmCase)
 -- whether a text under it can be opened: Triple DES, and PBES2 with PBKDF2 where a length of the
 -- key that is stated is the cipher's
 abbrev pub openable : AlgorithmIdentifier → Bool
-openable Sha1 = false
-openable Sha256 = false
-openable (PbewithSHAAnd40BitRC2CBC p) = false
 openable (PbeWithSHAAnd3KeyTripleDESCBC p) = true
 openable (Pbes2 par) = is_pbkdf2 par.kdf && states_length par.kdf (key_size par.encryption)
-openable (OtherAlg o) = false
+openable _ = false
 
 -- whether it is PBES2 with DES, under which nothing is encrypted anew
 abbrev pub IsUnderDes : AlgorithmIdentifier → Type 0
-IsUnderDes Sha1 = ⊥
-IsUnderDes Sha256 = ⊥
-IsUnderDes (PbewithSHAAnd40BitRC2CBC p) = ⊥
-IsUnderDes (PbeWithSHAAnd3KeyTripleDESCBC p) = ⊥
 IsUnderDes (Pbes2 par) = IsDes par.encryption
-IsUnderDes (OtherAlg o) = ⊥
+IsUnderDes _ = ⊥
 
 -- its count of rounds
 abbrev pub count : AlgorithmIdentifier → ℕ
-count Sha1 = 0
-count Sha256 = 0
-count (PbewithSHAAnd40BitRC2CBC p) = 0
 count (PbeWithSHAAnd3KeyTripleDESCBC p) = p.iterations
 count (Pbes2 par) = rounds_of par.kdf
-count (OtherAlg o) = 0
+count _ = 0
 
 -- its share of the work: for Triple DES the SHA-1 digests of the key's two blocks and of the IV's
 -- one block, for PBES2 the outputs of the pseudorandom function that make the key
 abbrev pub cost : AlgorithmIdentifier → ℕ
-cost Sha1 = 0
-cost Sha256 = 0
-cost (PbewithSHAAnd40BitRC2CBC p) = 0
 cost (PbeWithSHAAnd3KeyTripleDESCBC p) = 3 * p.iterations
 cost (Pbes2 par) = rounds_of par.kdf * steps_of par
-cost (OtherAlg o) = 0
+cost _ = 0
 
--- the salt that a key and an IV are derived from, where it is Triple DES of RFC 7292
+-- the salt that a key and an IV are derived from, where it is a scheme of RFC 7292
 abbrev pub salt_of : AlgorithmIdentifier → List ℕ
-salt_of Sha1 = []
-salt_of Sha256 = []
-salt_of (PbewithSHAAnd40BitRC2CBC p) = []
+salt_of (PbewithSHAAnd40BitRC2CBC p) = p.salt
 salt_of (PbeWithSHAAnd3KeyTripleDESCBC p) = p.salt
-salt_of (Pbes2 par) = []
-salt_of (OtherAlg o) = []
+salt_of _ = []
 
 -- a positive multiple of 8 octets
 abbrev pub is_blocks : List ℕ → Bool
@@ -106,33 +92,15 @@ is_blocks c = nat_lt 0 (length c) && (length c % 8 == 0)
 
 -- the steps of opening a text of RFC 7292: none where its length is wrong
 unfoldable pub taken_pbe : AlgorithmIdentifier → List ℕ → ℕ
-taken_pbe Sha1 c = 0
-taken_pbe Sha256 c = 0
-taken_pbe (PbewithSHAAnd40BitRC2CBC p) c = 0
 taken_pbe (PbeWithSHAAnd3KeyTripleDESCBC p) c = if is_blocks c then 3 * p.iterations else 0
-taken_pbe (Pbes2 par) c = 0
-taken_pbe (OtherAlg o) c = 0
+taken_pbe _ c = 0
 
 -- the steps of opening a text
 unfoldable pub taken : AlgorithmIdentifier → List ℕ → ℕ
-taken Sha1 c = 0
-taken Sha256 c = 0
-taken (PbewithSHAAnd40BitRC2CBC p) c = 0
 taken (PbeWithSHAAnd3KeyTripleDESCBC p) c = taken_pbe (PbeWithSHAAnd3KeyTripleDESCBC p) c
 taken (Pbes2 par) c = if states_length par.kdf (key_size par.encryption)
     then rounds_of par.kdf * steps_of par else 0
-taken (OtherAlg o) c = 0
-
--- the text before its last k octets
-abbrev pub without_last : ℕ → List ℕ → List ℕ
-without_last k t = take (length t - k) t
-
--- the text of which t is the padded one, to blocks of n octets, or none: it ends where t's last
--- octet says. It is the text by the law `unpadding_undoes_padding` of src/uniqueness.rt.
-unfoldable pub unpadded : ℕ → List ℕ → Option (List ℕ)
-unpadded n t =
-    let m = without_last (slice_index t (length t - 1)) t in
-    if bytes_eq (padded m n) t then Some m else None
+taken _ c = 0
 
 -- what a text decrypts to under Triple DES, whose key and IV come of the password in UTF-16
 unfoldable pub triple_des_text : List ℕ → List ℕ → ℕ → List ℕ → List ℕ
@@ -142,31 +110,32 @@ triple_des_text q salt r c =
 -- a text of RFC 7292 opened under a password in UTF-16: none under another algorithm, with no
 -- rounds, of a wrong length, or with a wrong padding
 unfoldable pub unlock_pbe : AlgorithmIdentifier → List ℕ → List ℕ → Option (List ℕ)
-unlock_pbe Sha1 q c = None
-unlock_pbe Sha256 q c = None
-unlock_pbe (PbewithSHAAnd40BitRC2CBC p) q c = None
 unlock_pbe (PbeWithSHAAnd3KeyTripleDESCBC p) q c = if nat_lt 0 p.iterations && is_blocks c
     then unpadded 8 (triple_des_text q p.salt p.iterations c) else None
-unlock_pbe (Pbes2 par) q c = None
-unlock_pbe (OtherAlg o) q c = None
+unlock_pbe _ q c = None
 
--- a text opened by PBES2 under a password: none with no rounds of PBKDF2, where the length of the
--- key that is stated is not the cipher's, and where the ciphertext opens to none
+-- the key of n octets that PBKDF2 derives from a password: none where there are no rounds, or where
+-- the length of the key that is stated is not n; and none by scrypt
+unfoldable pub pbkdf2_key : Kdf → List ℕ → ℕ → Option (List ℕ)
+pbkdf2_key (Pbkdf2 k) p n = if states_length (Pbkdf2 k) n && nat_lt 0 k.iteration_count
+    then Some (pbkdf2 (prf_of k.prf p) (prf_output k.prf) k.salt k.iteration_count n) else None
+pbkdf2_key (Scrypt k) p n = None
+
+-- a text opened by PBES2 under a password: none where there is no such key, and where the
+-- ciphertext opens to none
 unfoldable pub unlock_pbes2 : Parameters → List ℕ → List ℕ → Option (List ℕ)
-unlock_pbes2 par p c =
-    if states_length par.kdf (key_size par.encryption) && nat_lt 0 (rounds_of par.kdf)
-    then opened par p c else None
+unlock_pbes2 par p c = elim (pbkdf2_key par.kdf p (key_size par.encryption)) [
+  | Some key ↦ opened_by par.encryption key c
+  | None ↦ None
+]
 
 -- a text opened under a password, given by its UTF-8: schemes of RFC 7292 take it in UTF-16, PBES2
 -- as it is
 unfoldable pub unlock : AlgorithmIdentifier → List ℕ → List ℕ → Option (List ℕ)
-unlock Sha1 p c = None
-unlock Sha256 p c = None
-unlock (PbewithSHAAnd40BitRC2CBC params) p c = None
 unlock (PbeWithSHAAnd3KeyTripleDESCBC params) p c =
     unlock_pbe (PbeWithSHAAnd3KeyTripleDESCBC params) (bmp_password p) c
 unlock (Pbes2 par) p c = unlock_pbes2 par p c
-unlock (OtherAlg o) p c = None
+unlock _ p c = None
 
 -- what opening a text shows
 pub record IsOpened (a : AlgorithmIdentifier) (c : List ℕ) : Type 0 where
@@ -178,12 +147,8 @@ pub record IsOpened (a : AlgorithmIdentifier) (c : List ℕ) : Type 0 where
 
 -- whether texts are opened under it by a password in UTF-16
 abbrev pub is_triple_des : AlgorithmIdentifier → Bool
-is_triple_des Sha1 = false
-is_triple_des Sha256 = false
-is_triple_des (PbewithSHAAnd40BitRC2CBC p) = false
 is_triple_des (PbeWithSHAAnd3KeyTripleDESCBC p) = true
-is_triple_des (Pbes2 par) = false
-is_triple_des (OtherAlg o) = false
+is_triple_des _ = false
 
 -- the octets of a ciphertext under Triple DES, whose text has n: 1 to 8 more, up to a multiple of 8
 abbrev pub ciphertext_length : ℕ → ℕ

@@ -1,6 +1,6 @@
 -- What is seen of an algorithm that lends its parameters: the same algorithm in memory of its own.
 -- And what opening in place leaves.
-use Rattle.std.specs.Prelude.{◌≡◌, ℕ, ◌&&◌, Bool, true, false, nat_lt, if◌then◌else◌, List}
+use Rattle.std.specs.Prelude.{◌≡◌, ℕ, ◌&&◌, MatchBool, nat_lt, if◌then◌else◌, List}
 use Rattle.asn1_core.specs.Texts.{seen_option}
 use Rattle.pkcs5.specs.Kinds.{key_size, rounds_of}
 use Rattle.pkcs5.specs.Opening.{LeftBy, key_under, states_length}
@@ -31,32 +31,20 @@ seen_algorithm (view.Other k params) =
 -- what a buffer holds that held the text c and was opened in place, or found not to open, under a
 -- password in UTF-16: the decrypted blocks, or what it held
 unfoldable pub left_pbe : AlgorithmIdentifier → List ℕ → List ℕ → List ℕ
-left_pbe Sha1 q c = c
-left_pbe Sha256 q c = c
-left_pbe (PbewithSHAAnd40BitRC2CBC p) q c = c
 left_pbe (PbeWithSHAAnd3KeyTripleDESCBC p) q c = if nat_lt 0 p.iterations && is_blocks c
     then triple_des_text q p.salt p.iterations c else c
-left_pbe (Pbes2 par) q c = c
-left_pbe (OtherAlg o) q c = c
-
--- one of two, by a test
-abbrev pub LeftWhere : Bool → Type 0 → Type 0 → Type 0
-LeftWhere true P Q = P
-LeftWhere false P Q = Q
+left_pbe _ q c = c
 
 -- what a buffer holds that held a text which PBES2 opens to none, under a password in UTF-8: what
 -- the cipher leaves of it, and where there is no key what it held
 unfoldable pub LeftPbes2 : Parameters → List ℕ → List ℕ → List ℕ → Type 0
 LeftPbes2 par p before now =
-    LeftWhere (states_length par.kdf (key_size par.encryption) && nat_lt 0 (rounds_of par.kdf))
+    MatchBool (states_length par.kdf (key_size par.encryption) && nat_lt 0 (rounds_of par.kdf))
     (LeftBy par.encryption (key_under par p) before now) (now ≡ before)
 
 -- the same of any algorithm
 unfoldable pub LeftUnopened : AlgorithmIdentifier → List ℕ → List ℕ → List ℕ → Type 0
-LeftUnopened Sha1 p before now = now ≡ before
-LeftUnopened Sha256 p before now = now ≡ before
-LeftUnopened (PbewithSHAAnd40BitRC2CBC params) p before now = now ≡ before
 LeftUnopened (PbeWithSHAAnd3KeyTripleDESCBC params) p before now =
     now ≡ left_pbe (PbeWithSHAAnd3KeyTripleDESCBC params) (bmp_password p) before
 LeftUnopened (Pbes2 par) p before now = LeftPbes2 par p before now
-LeftUnopened (OtherAlg o) p before now = now ≡ before
+LeftUnopened _ p before now = now ≡ before

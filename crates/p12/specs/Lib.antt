@@ -21,7 +21,6 @@ pub mod Units
 pub mod AttributeView
 pub mod BagView
 pub mod Sole
-pub mod Spellings
 pub mod Collected
 pub mod Writing
 pub mod Canonical

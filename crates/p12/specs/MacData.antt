@@ -7,7 +7,7 @@ use Rattle.sha1.specs.Sha1.{sha1}
 use Rattle.sha2.specs.Sha256.{sha256}
 use Rattle.pkcs12_kdf.specs.Mac.{mac_under}
 use Rattle.p12.specs.declared.algorithm_identifier.AlgorithmIdentifier.{AlgorithmIdentifier}
-use Rattle.p12.specs.declared.algorithm_identifier.AlgorithmIdentifier.TheVariants.{Sha1, Sha256, PbewithSHAAnd40BitRC2CBC, PbeWithSHAAnd3KeyTripleDESCBC, Pbes2, OtherAlg}
+use Rattle.p12.specs.declared.algorithm_identifier.AlgorithmIdentifier.TheVariants.{Sha1, Sha256}
 use Rattle.p12.specs.DigestInfo.{DigestText}
 use Rattle.p12.specs.declared.mac_data.MacData.{MacData}
 
@@ -21,19 +21,13 @@ MacText = Sequence (Field DigestText (λ m. m.mac) (Field (Inside 0x04) (λ m. m
 abbrev pub is_mac_digest : AlgorithmIdentifier → Bool
 is_mac_digest Sha1 = true
 is_mac_digest Sha256 = true
-is_mac_digest (PbewithSHAAnd40BitRC2CBC p) = false
-is_mac_digest (PbeWithSHAAnd3KeyTripleDESCBC p) = false
-is_mac_digest (Pbes2 par) = false
-is_mac_digest (OtherAlg o) = false
+is_mac_digest _ = false
 
 -- the MAC of a content under the digest's own hash; the password comes in UTF-16
 unfoldable pub mac_value : AlgorithmIdentifier → List ℕ → List ℕ → ℕ → List ℕ → List ℕ
 mac_value Sha1 = mac_under sha1 20
 mac_value Sha256 = mac_under sha256 32
-mac_value (PbewithSHAAnd40BitRC2CBC p) = λ q salt r v. []
-mac_value (PbeWithSHAAnd3KeyTripleDESCBC p) = λ q salt r v. []
-mac_value (Pbes2 par) = λ q salt r v. []
-mac_value (OtherAlg o) = λ q salt r v. []
+mac_value _ = λ q salt r v. []
 
 -- the digest is SHA-1 or SHA-256, the count at least 1, and the octets are the MAC of the content
 unfoldable pub mac_agrees : MacData → List ℕ → List ℕ → Bool

@@ -1,5 +1,5 @@
 -- Bags (RFC 7292 section 4.2).
-use Rattle.std.specs.Prelude.{◌≡◌, ◌≢◌, ℕ, ◌<◌, ◌^◌, List, [], ◌∷◌, length, Option, Some, None, ⊤}
+use Rattle.std.specs.Prelude.{◌≡◌, ◌≢◌, ℕ, ◌<◌, ◌≤◌, ◌^◌, List, [], ◌∷◌, length, Option, Some, None, ⊤}
 use Rattle.asn1_core.specs.Texts.{On, Within, Many, Raw, Oid}
 use Rattle.asn1_core.specs.Fields.{Field, End, Sequence}
 use Rattle.asn1_core.specs.Oid.{oid_octets}
@@ -73,6 +73,15 @@ KindFits (kind.OtherBagKind o) = ⊤
 
 abbrev pub BagFits : SafeBag → Type 0
 BagFits g = KindFits g.bag
+
+-- an encrypted key has at most n octets, and so does its salt
+abbrev pub KindWithin : ℕ → SafeBagKind → Type 0
+KindWithin n (kind.Pkcs8ShroudedKeyBag e) = (length e.encrypted_data ≤ n)
+    × (length (salt_of e.encryption_algorithm) ≤ n)
+KindWithin n _ = ⊤
+
+abbrev pub BagWithin : ℕ → SafeBag → Type 0
+BagWithin n g = KindWithin n g.bag
 
 -- the text of an SDSI certificate
 abbrev pub sdsi_of : SafeBagKind → Option (List ℕ)

@@ -488,7 +488,7 @@ impl<'a> AlgorithmView<'a> {
     /// only refusal is `Memory`; the buffer is then as it was, and at most these steps were counted. Steps as
     /// `decrypt_text_counted` takes them.
     ///
-    /// Caller: the buffer has fewer than 2^32 octets, the password fewer than 2^57, the salt of Triple DES fewer than 2^59.
+    /// Caller: the buffer has fewer than 2^32 octets, the password fewer than 2^57, the salt of Triple DES or RC2 fewer than 2^59.
     #[tactic(auto, unfolding(crate::specs::AlgorithmIdentifier::unlock, crate::specs::AlgorithmIdentifier::taken, crate::specs::AlgorithmView::LeftUnopened))]
     pub fn decrypt_in_place_counted<L: Ledger>(
         &self,

@@ -1,5 +1,6 @@
 //! Making stores.
 ghost use Rattle.std.specs.Prelude.{◌≡◌, ◌<◌, ◌≤◌, ◌^◌, All, length, IfErr, IfOk, OnOk};
+ghost use Rattle.std.specs.Result.{IsErrOf};
 ghost use Rattle.asn1_core.specs.Der.{IsShort};
 ghost use Rattle.p12.specs.Building.{DrawsSalt, FailsToDraw, IsTooLong, RefusesBags, SealsBags, triple_des};
 ghost use Rattle.p12.specs.Canonical.{WritableBag, bags_canon};
@@ -23,7 +24,9 @@ pub(crate) fn draw_salt<D: Draw>(draw: &mut D) -> Result<[u8; 8], Error>
         (λ salt. s ≡ salt)) }
     ensures err { IfErr result
         (FailsToDraw (D.faults draw.old) (D.faults draw.new) (D.left draw.old) 8) }
-    ensures kept { D.faults draw.old ≤ D.faults draw.new }
+    ensures count { D.faults draw.old ≤ D.faults draw.new }
+    ensures no_fault { OnOk result (D.faults draw.new ≡ D.faults draw.old) }
+    ensures last { D.faults draw.old < D.faults draw.new → IsErrOf result Error.Rng }
 {
     let mut salt = [0u8; 8];
     match draw.fill(&mut salt) {

@@ -1,5 +1,6 @@
 //! Encrypted contents.
 ghost use Rattle.std.specs.Prelude.{◌+◌, ◌≡◌, ◌<◌, ◌^◌, length, OnOk, IfOk, IfErr, ◌≤◌, All};
+ghost use Rattle.std.specs.Result.{IsErrOf};
 ghost use Rattle.asn1_core.specs.Gives.{ReadsAs};
 ghost use Rattle.p12.specs.EncryptedData.{EncryptedContentText, EncryptedDataText};
 ghost use Rattle.p12.specs.ContentView.{seen_encrypted, seen_encrypted_data};
@@ -270,6 +271,8 @@ impl EncryptedContentInfo {
             (IsTooLong (bags_canon safe_bags.now))
             (D.faults draw.old) (D.faults draw.new) (D.left draw.old) 8) }
         ensures count { D.faults draw.old ≤ D.faults draw.new }
+        ensures no_fault { OnOk result (D.faults draw.new ≡ D.faults draw.old) }
+        ensures last { D.faults draw.old < D.faults draw.new → IsErrOf result Error.Rng }
     {
         let salt = draw_salt(draw)?;
         seal_bags(alloc, safe_bags, password, &salt)
@@ -294,6 +297,8 @@ impl EncryptedData {
             (IsTooLong (bags_canon safe_bags.now))
             (D.faults draw.old) (D.faults draw.new) (D.left draw.old) 8) }
         ensures count { D.faults draw.old ≤ D.faults draw.new }
+        ensures no_fault { OnOk result (D.faults draw.new ≡ D.faults draw.old) }
+        ensures last { D.faults draw.old < D.faults draw.new → IsErrOf result Error.Rng }
     {
         Ok(EncryptedData {
             encrypted_content_info: EncryptedContentInfo::from_safe_bags(

@@ -1,7 +1,9 @@
 //! The MAC of a store.
 ghost use Rattle.std.specs.Prelude.{◌+◌, ◌≡◌, ◌<◌, ◌≤◌, ◌^◌, length, OnOk, IfOk, IfErr, true};
+ghost use Rattle.std.specs.Result.{IsErrOf};
 ghost use Rattle.asn1_core.specs.Gives.{Gives, ReadsAs};
-ghost use Rattle.p12.specs.MacData.{MacText, mac_agrees, mac_of, mac_steps};
+ghost use Rattle.p12.specs.MacData.{MacText, is_mac_digest, mac_agrees, mac_of, mac_steps, mac_value};
+ghost use Rattle.pkcs12_kdf.specs.Mac.{mac_under};
 ghost use Rattle.pkcs12_kdf.specs.Password.{bmp_password};
 ghost use Rattle.p12.specs.declared.algorithm_identifier.AlgorithmIdentifier.TheVariants as algorithm;
 ghost use Rattle.p12.specs.MacView.{seen_mac};
@@ -21,7 +23,7 @@ use crate::mac::{agrees_under, made_under};
 use crate::password::bmp_string;
 use crate::writing::write_row;
 use asn1_core::{Octets, Reader, SliceReader, Tag, Writer, read_inner, read_uint};
-use mac_modes::{Draw, Sha1, Sha256};
+use mac_modes::{Draw, HashFn, Sha1, Sha256};
 use std::alloc::Global;
 use std::marker::Brand;
 use std::sync::ledger::{Blank, Ledger};
@@ -149,9 +151,12 @@ impl MacData {
 }
 
 impl<'a> MacView<'a> {
-    /// `verify_counted` under a password as `bmp_string` gives it.
+    /// `MacData::verify_mac_counted` of a MAC that is lent: its password comes as `bmp_string` gives it. The only refusal is
+    /// `Memory`.
+    ///
+    /// Caller: password and salt have fewer than 2^59 octets each.
     #[tactic(auto, unfolding(crate::specs::MacData::mac_agrees, crate::specs::MacData::mac_value))]
-    fn agrees<L: Ledger>(
+    pub fn verify_mac_counted<L: Ledger>(
         &self,
         alloc: Global,
         content: &[u8],
@@ -202,7 +207,7 @@ impl<'a> MacView<'a> {
             × (steps.new ≤ steps.old + mac_steps (seen_mac self.now)) }
     {
         let units = bmp_string(alloc, password)?;
-        self.agrees(alloc, content, units.as_slice(), steps)
+        self.verify_mac_counted(alloc, content, units.as_slice(), steps)
     }
 }
 
@@ -228,7 +233,8 @@ impl MacData {
         ensures steps { OnOk result (steps.new ≡ steps.old + mac_steps self.now) }
         ensures at_most { (steps.old ≤ steps.new) × (steps.new ≤ steps.old + mac_steps self.now) }
     {
-        self.view().agrees(alloc, content, password, steps)
+        self.view()
+            .verify_mac_counted(alloc, content, password, steps)
     }
 
     fn verify_mac_from<L: Ledger>(
@@ -264,11 +270,43 @@ impl MacData {
         self.verify_mac_from::<Brand>(alloc, content, password, Blank::new(1))
     }
 
+    /// `with_salt` under the hash `H`, which is that of the digest's algorithm.
+    fn with_salt_under<H: HashFn>(
+        alloc: Global,
+        digest_algorithm: AlgorithmIdentifier,
+        content: &[u8],
+        password: &[u8],
+        salt: &[u8],
+        iterations: u32,
+    ) -> Result<MacData, Error>
+        requires block { H.BLOCK ≡ 64 }
+        requires hash { mac_value digest_algorithm ≡ mac_under H.digest H.OUTPUT }
+        requires digest { is_mac_digest digest_algorithm ≡ true }
+        requires iterations { 1 ≤ iterations }
+        requires password { length password.now < 2 ^ 59 }
+        requires salt { length salt.now < 2 ^ 59 }
+        ensures value { IfOk result
+            (λ m. m ≡ mac_of digest_algorithm password.now content.now salt.now iterations) }
+        ensures agrees { IfOk result (λ m. mac_agrees m password.now content.now ≡ true) }
+        ensures err { IfErr result (λ e. e ≡ Error.Memory) }
+    {
+        let digest = made_under::<H>(alloc, content, password, salt, iterations)?;
+        let salt = Octets::from_slice(alloc, salt)?;
+        Ok(MacData {
+            mac: DigestInfo {
+                digest_algorithm,
+                digest,
+            },
+            salt,
+            iterations,
+        })
+    }
+
     /// The MAC of a content under SHA-1, with this salt and count. It agrees for this content and password. The only refusal is
     /// `Memory`.
     ///
     /// Caller: at least one round, a content of fewer than 2^32 octets, password and salt of fewer than 2^59 octets each.
-    #[tactic(auto, unfolding(crate::specs::MacData::mac_of, crate::specs::MacData::mac_value))]
+    #[tactic(auto, unfolding(crate::specs::MacData::mac_value))]
     pub fn with_salt(
         alloc: Global,
         content: &[u8],
@@ -285,20 +323,12 @@ impl MacData {
         ensures agrees { IfOk result (λ m. mac_agrees m password.now content.now ≡ true) }
         ensures err { IfErr result (λ e. e ≡ Error.Memory) }
     {
-        let digest = made_under::<Sha1>(alloc, content, password, salt, iterations)?;
-        let salt = Octets::from_slice(alloc, salt)?;
-        Ok(MacData {
-            mac: DigestInfo {
-                digest_algorithm: AlgorithmIdentifier::Sha1,
-                digest,
-            },
-            salt,
-            iterations,
-        })
+        let algorithm = AlgorithmIdentifier::Sha1;
+        MacData::with_salt_under::<Sha1>(alloc, algorithm, content, password, salt, iterations)
     }
 
     /// `with_salt` under SHA-256. Refusal and caller's conditions as there.
-    #[tactic(auto, unfolding(crate::specs::MacData::mac_of, crate::specs::MacData::mac_value))]
+    #[tactic(auto, unfolding(crate::specs::MacData::mac_value))]
     pub fn with_salt_sha256(
         alloc: Global,
         content: &[u8],
@@ -315,16 +345,8 @@ impl MacData {
         ensures agrees { IfOk result (λ m. mac_agrees m password.now content.now ≡ true) }
         ensures err { IfErr result (λ e. e ≡ Error.Memory) }
     {
-        let digest = made_under::<Sha256>(alloc, content, password, salt, iterations)?;
-        let salt = Octets::from_slice(alloc, salt)?;
-        Ok(MacData {
-            mac: DigestInfo {
-                digest_algorithm: AlgorithmIdentifier::Sha256,
-                digest,
-            },
-            salt,
-            iterations,
-        })
+        let algorithm = AlgorithmIdentifier::Sha256;
+        MacData::with_salt_under::<Sha256>(alloc, algorithm, content, password, salt, iterations)
     }
 }
 
@@ -362,6 +384,8 @@ impl MacData {
         ensures err { IfErr result (RefusesDrawn ⊥ ⊥
             (D.faults draw.old) (D.faults draw.new) (D.left draw.old) 8) }
         ensures count { D.faults draw.old ≤ D.faults draw.new }
+        ensures no_fault { OnOk result (D.faults draw.new ≡ D.faults draw.old) }
+        ensures last { D.faults draw.old < D.faults draw.new → IsErrOf result Error.Rng }
     {
         let salt = draw_salt(draw)?;
         MacData::with_salt(alloc, content, password, &salt, ITERATIONS)

@@ -2,7 +2,8 @@
 ghost use Rattle.std.specs.Prelude.{◌≡◌, ◌+◌, ◌*◌, ◌%◌, ◌≤◌, ◌<◌, ◌^◌, ℕ, length, take, IfOk, IfErr, IfSome, IfNone, OnOk, Some, None};
 ghost use Rattle.block_core.specs.Tdes.{inv_tdes};
 ghost use Rattle.mac_modes.specs.Cbc.{uncbc};
-ghost use Rattle.p12.specs.AlgorithmIdentifier.{taken, triple_des_text, unlock_pbes2, unpadded};
+ghost use Rattle.p12.specs.AlgorithmIdentifier.{taken, triple_des_text, unlock_pbes2};
+ghost use Rattle.pkcs5.specs.Opening.{unpadded};
 ghost use Rattle.p12.specs.AlgorithmView.{LeftPbes2};
 ghost use Rattle.pkcs12_kdf.specs.Derivation.{turns};
 ghost use Rattle.p12.specs.declared.algorithm_identifier.AlgorithmIdentifier.TheVariants.{Pbes2};

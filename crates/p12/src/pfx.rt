@@ -1,5 +1,6 @@
 //! Stores.
 ghost use Rattle.std.specs.Prelude.{◌+◌, ◌-◌, ◌^◌, ◌≡◌, length, OnOk, IfOk, IfErr, ◌<◌, List, ◌≤◌};
+ghost use Rattle.std.specs.Result.{IsErrOf};
 ghost use Rattle.asn1_core.specs.Gives.{Gives, ReadsAs};
 ghost use Rattle.asn1_core.specs.Reading.{perhaps, whole};
 ghost use Rattle.asn1_core.specs.Texts.{seen_option};
@@ -327,6 +328,8 @@ impl PFX {
             (entry_of cert_der.now key_der.now ca_der_list.now name.now))
             (D.faults draw.old) (D.faults draw.new) (D.left draw.old) 24) }
         ensures count { D.faults draw.old ≤ D.faults draw.new }
+        ensures no_fault { OnOk result (D.faults draw.new ≡ D.faults draw.old) }
+        ensures last { D.faults draw.old < D.faults draw.new → IsErrOf result Error.Rng }
     {
         let entry = EntryParts {
             certificate: cert_der,
@@ -369,6 +372,8 @@ impl PFX {
             (at_most_one (seen_option (λ c. c.now) ca_der.entry)) name.now))
             (D.faults draw.old) (D.faults draw.new) (D.left draw.old) 24) }
         ensures count { D.faults draw.old ≤ D.faults draw.new }
+        ensures no_fault { OnOk result (D.faults draw.new ≡ D.faults draw.old) }
+        ensures last { D.faults draw.old < D.faults draw.new → IsErrOf result Error.Rng }
     {
         let mut others = Items::new(alloc);
         if let Some(certificate) = ca_der {

@@ -3,9 +3,9 @@ ghost use Rattle.std.specs.Prelude.{◌≡◌, ◌+◌, ◌≤◌, ◌<◌, ◌^
 ghost use Rattle.block_core.specs.Tdes.{inv_tdes};
 ghost use Rattle.mac_modes.specs.Cbc.{uncbc};
 ghost use Rattle.mac_modes.specs.Padding.{pad_count, padded};
-ghost use Rattle.p12.specs.AlgorithmIdentifier.{ciphertext_length, is_blocks, triple_des_text, unlock_pbes2, unpadded};
+ghost use Rattle.p12.specs.AlgorithmIdentifier.{ciphertext_length, is_blocks, triple_des_text, unlock_pbes2};
 ghost use Rattle.pkcs5.specs.Kinds.{IsDes, key_size, rounds_of};
-ghost use Rattle.pkcs5.specs.Opening.{states_length};
+ghost use Rattle.pkcs5.specs.Opening.{states_length, unpadded};
 
 use crate::error::Error;
 use crate::opening::{TRIPLE_DES_BLOCK, TRIPLE_DES_KEY};

@@ -1,5 +1,6 @@
 //! Making a store of a key and its certificates.
 ghost use Rattle.std.specs.Prelude.{◌≡◌, ◌<◌, ◌≤◌, ◌-◌, ◌^◌, ◌++◌, ◌∷◌, [], List, ℕ, length, IfErr, IfOk, OnOk};
+ghost use Rattle.std.specs.Result.{IsErrOf};
 ghost use Rattle.p12.specs.Building.{DrawsSalts, FailsToDraw, IsCiphertext, IsOuterText, IsTooLong, IsTooLongStore, RefusesStore, SealsBags, certificate_bag, certificate_bags, key_bag, own_attributes, seen_entry, seen_salts, store_over};
 ghost use Rattle.asn1_core.specs.Der.{IsShort};
 ghost use Rattle.p12.specs.Canonical.{bags_canon};
@@ -47,6 +48,8 @@ pub(crate) fn draw_salts<D: Draw>(draw: &mut D) -> Result<DrawnSalts, Error>
     ensures err { IfErr result
         (FailsToDraw (D.faults draw.old) (D.faults draw.new) (D.left draw.old) 24) }
     ensures count { D.faults draw.old ≤ D.faults draw.new }
+    ensures no_fault { OnOk result (D.faults draw.new ≡ D.faults draw.old) }
+    ensures last { D.faults draw.old < D.faults draw.new → IsErrOf result Error.Rng }
 {
     let key = draw_salt(draw)?;
     let certificates = draw_salt(draw)?;

@@ -2,7 +2,8 @@
 ghost use Rattle.std.specs.Prelude.{◌≡◌, ◌↔◌, ◌<◌, ℕ, List, All, Some, length};
 ghost use Rattle.asn1_core.specs.declared.identifier.ObjectIdentifier.{ObjectIdentifier};
 ghost use Rattle.mac_modes.specs.Padding.{padded};
-ghost use Rattle.p12.specs.AlgorithmIdentifier.{AlgorithmText, ParamsText, ciphertext_length, unlock_pbe, unpadded};
+ghost use Rattle.p12.specs.AlgorithmIdentifier.{AlgorithmText, ParamsText, ciphertext_length, unlock_pbe};
+ghost use Rattle.pkcs5.specs.Opening.{unpadded};
 ghost use Rattle.p12.specs.declared.pkcs12_pbe_params.Pkcs12PbeParams.{Pkcs12PbeParams};
 ghost use Rattle.p12.specs.declared.algorithm_identifier.AlgorithmIdentifier.TheVariants.{PbeWithSHAAnd3KeyTripleDESCBC};
 ghost use Rattle.p12.specs.Attribute.{AttributeText};

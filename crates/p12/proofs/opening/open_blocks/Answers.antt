@@ -2,7 +2,7 @@ use Rattle.std.proofs.Common.{◌≡◌, ◌≤◌, List, ℕ, Some, None, ap, s
 use Rattle.std.specs.Prelude.{IfSome, IfNone}
 use Rattle.sha1.specs.Sha1.{sha1}
 use Rattle.mac_modes.specs.Sha1Laws.{length-sha1}
-use Rattle.p12.specs.AlgorithmIdentifier.{unpadded}
+use Rattle.pkcs5.specs.Opening.{unpadded}
 use Rattle.pkcs12_kdf.proofs.Texts.{length-derive12}
 use Rattle.p12.proofs.Opened.{text_of_keys}
 use Rattle.p12.proofs.opening.open_blocks.Goals as goal

@@ -1,0 +1,4 @@
+mod Spelled
+mod SpelledStores
+mod Alike
+mod Made
