@@ -1,6 +1,6 @@
 -- Drawn octets, and documents sealed under them.
 use Rattle.std.proofs.Common.{ℕ, ◌≡◌, ◌+◌, ◌*◌, ◌≤◌, ◌<◌, suc, List, [], ◌∷◌, ◌++◌, length, refl, sym, ap, ◌∙◌, arith, subst, take, get_or}
-use Rattle.std.specs.Prelude.{All, Option, Some, None, IfSome, Result, Ok, Err, IfOk}
+use Rattle.std.specs.Prelude.{All, Option, Some, None, Result, Ok, Err, IfOk}
 use Rattle.std.specs.Io.KnownBytes.{Consumes}
 use Rattle.std.proofs.lemmas.List.{append_assoc, append-nil, get_or-map, length-append, length-map}
 use Rattle.pkcs5.specs.declared.pbes2.parameters.Parameters.{Parameters}
@@ -8,27 +8,20 @@ use Rattle.pkcs8.specs.Sealing.{IsSealed}
 use Rattle.transfer.specs.declared.store.error.TransferError.{TransferError}
 use Rattle.transfer.specs.declared.store.key_text.OpenedKey.{OpenedKey}
 use Rattle.transfer.specs.Document.{IsDocument, document_key}
-use Rattle.transfer.specs.declared.store.seal.IvAndSalt.{IvAndSalt}
+use Rattle.sealing_core.proofs.Draws.{consumes_more, length-octets_of, octets_more}
+use Rattle.sealing_core.specs.Drawn.{AreOf16, octets_of}
+use Rattle.sealing_core.specs.declared.drawn.IvAndSalt.{IvAndSalt}
 use Rattle.mac_modes.specs.Hmac.{hmac}
 use Rattle.mac_modes.specs.HmacLaws.{length-hmac}
 use Rattle.pbkdf2.proofs.Xors.{has_its_length}
 use Rattle.sha2.specs.Sha256.{sha256}
 use Rattle.sha2.proofs.Facts256.{length-sha256}
-use Rattle.std.proofs.lemmas.Grind.{flat_map-append}
-use Rattle.std.proofs.lemmas.List.Elements.{All-drop, All-head, All-tail, All-take}
+use Rattle.std.proofs.lemmas.List.Elements.{All-drop, All-take}
 use Rattle.std.proofs.Math.Seq.{drop-append_seam, take-append_seam}
-use Rattle.transfer.specs.Sealing.{AreDrawn, AreOf16, IsDrawn, SealsAll, document_keys, octets_of}
+use Rattle.transfer.specs.Sealing.{AreDrawn, IsDrawn, SealsAll, document_keys}
 use Rattle.transfer.specs.InPlace.{texts_of}
 use Rattle.transfer.proofs.Faults.{take_one}
-use Rattle.octet_core.specs.Draw.{Lacks}
-use Rattle.octet_core.specs.Faults.{Rose}
 use Rattle.transfer.proofs.Overwriting.{map_more}
-
-pub consumes_more : (a b c : Option (List ℕ)) (xs ys : List ℕ) → Consumes a b xs → Consumes b c ys → Consumes a c (xs ++ ys)
-consumes_more None b c xs ys p q = tt
-consumes_more (Some a) None c xs ys p q = absurd p
-consumes_more (Some a) (Some b) None xs ys p q = absurd q
-consumes_more (Some a) (Some b) (Some c) xs ys p q = p ∙ ap (λ z. xs ++ z) q ∙ sym (append_assoc xs ys c)
 
 pub sealed_length : (rounds : ℕ) (q drawn : List ℕ) (k : List ℕ) (b : List ℕ) → IsDrawn rounds q drawn k b → length drawn ≡ 32
 sealed_length rounds q drawn k b s = ap length s.are ∙ length-append s.iv s.salt ∙ omega (arith, s.of_16, s.and_16)
@@ -85,29 +78,6 @@ all_group P xs done rest group after split is all = all_left P group after (subs
 pub group_fits : {A : Type 0} (xs done rest group after : List A) → xs ≡ done ++ rest → rest ≡ group ++ after → (n : ℕ) → n ≡ 32 * length done → n + 32 * length group ≤ 32 * length xs
 group_fits xs done rest group after split is n e = omega (arith, e, ap length split, length-append done rest, ap length is, length-append group after)
 
--- What a draw lacks for a group it lacks for all keys.
-pub lacks_all : (before mid now : ℕ) (old left : Option (List ℕ)) (drawn : List ℕ) (n all : ℕ) → mid ≡ before → Consumes old left drawn
-    → length drawn + n ≤ all → Lacks mid now left n → Lacks before now old all
-lacks_all before mid now None left drawn n all same took most h = (subst (λ m. Rose m now) same h.0, tt)
-lacks_all before mid now (Some o) None drawn n all same took most h = absurd took
-lacks_all before mid now (Some o) (Some l) drawn n all same took most h =
-    (subst (λ m. Rose m now) same h.0, omega (arith, ap length took, length-append drawn l, most, h.1))
-
--- The octets of one more IV and salt come after the others.
-octets_more : (ds : List IvAndSalt) (d : IvAndSalt) → octets_of (ds ++ d ∷ []) ≡ octets_of ds ++ (d.iv ++ d.salt)
-octets_more ds d = flat_map-append (λ (d : IvAndSalt). d.iv ++ d.salt) ds (d ∷ []) ∙ ap (λ t. octets_of ds ++ t) (append-nil (d.iv ++ d.salt))
-
-pub drawn_more : (first old new : Option (List ℕ)) (ds : List IvAndSalt) (d : IvAndSalt) → Consumes first old (octets_of ds) → Consumes old new (d.iv ++ d.salt)
-    → Consumes first new (octets_of (ds ++ d ∷ []))
-drawn_more first old new ds d a b = subst (Consumes first new) (sym (octets_more ds d)) (consumes_more first old new (octets_of ds) (d.iv ++ d.salt) a b)
-
--- 32 octets of each
-pub length-octets_of : (ds : List IvAndSalt) → All AreOf16 ds → length (octets_of ds) ≡ 32 * length ds
-length-octets_of [] h = refl
-length-octets_of (d ∷ ds) h =
-    let of = All-head AreOf16 d ds h in
-    omega (arith, length-append (d.iv ++ d.salt) (octets_of ds), length-append d.iv d.salt, of.0, of.1, length-octets_of ds (All-tail AreOf16 d ds h))
-
 -- The key at a place is sealed under the IV and the salt at that place.
 pub sealed_next : (rounds : ℕ) (q : List ℕ) (keys : List OpenedKey) (i : ℕ) (key : OpenedKey) (ds : List IvAndSalt) (d : IvAndSalt) (bs : List (List ℕ)) (b : List ℕ)
     → i < length keys → i < length ds → key ≡ get_or keys i key → d ≡ get_or ds i d → All AreOf16 ds
@@ -159,9 +129,3 @@ pub key_at : (rounds : ℕ) (q : List ℕ) (ds : List IvAndSalt) (keys : List (L
 key_at rounds q ds keys i d key lt e at there =
     at ∙ ap (λ ks. get_or ks i key) e ∙ get_or-map (λ (d : IvAndSalt). document_key rounds d.salt q) ds i d key lt
     ∙ ap (λ (d : IvAndSalt). document_key rounds d.salt q) (sym there)
-
--- What was drawn is no more than was left.
-pub took_least : (old new : Option (List ℕ)) (drawn : List ℕ) (n : ℕ) → Consumes old new drawn → length drawn ≡ n → IfSome old (λ d. n ≤ length d)
-took_least None new drawn n t is = tt
-took_least (Some x) None drawn n t is = absurd t
-took_least (Some x) (Some y) drawn n t is = omega (arith, is, ap length t ∙ length-append drawn y)

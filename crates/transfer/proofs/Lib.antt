@@ -1,6 +1,6 @@
-mod Lists
+pub mod Lists
 mod Lengths
-mod Faults
+pub mod Faults
 mod Rows
 mod Overwriting
 mod ContentBags

@@ -1,5 +1,5 @@
 -- Each result comes where its cause holds.
-use Rattle.std.proofs.Common.{ℕ, ◌≡◌, ◌+◌, ◌*◌, ◌≤◌, ◌⊎◌, inl, inr, List, length, refl, ap, subst, arith}
+use Rattle.std.proofs.Common.{ℕ, ◌≡◌, ◌+◌, ◌⊎◌, inl, inr, List, length, refl, ap, subst, arith}
 use Rattle.std.specs.Prelude.{Option, Some, None, Result, Ok, Err, IfErr, IfSome, IsOk, ⊤}
 use Rattle.p12.specs.declared.safe_bag.SafeBag.{SafeBag}
 use Rattle.transfer.specs.declared.store.error.TransferError.{TransferError}
@@ -52,9 +52,6 @@ if_some_map (Some d) P Q f h = f d h
 pub any : (o : Option (List ℕ)) → IfSome o (λ d. ⊤)
 any None = tt
 any (Some d) = tt
-
-pub draws_ok : {T : Type 0} (left : Option (List ℕ)) (n : ℕ) (t : T) → IfSome left (λ d. 32 * n ≤ length d) → DrawsFor {T = T} left n (Ok t)
-draws_ok left n t enough = if_some_map left (λ d. 32 * n ≤ length d) _ (λ d le. (λ lt. absurd (omega (arith, le, lt)), λ more. inr refl)) enough
 
 -- What a refusal before the draw says, without its steps.
 pub refused_undrawn : (F : TransferError → ℕ → Type 0) (R : Type 0) (old new : ℕ) (e : TransferError) → RefusedAfter F old new e → RefusedBy (λ e. (n : ℕ) × F e n) R e

@@ -1,17 +1,8 @@
 -- Documents under drawn octets, one for each private key.
 use Rattle.std.specs.Prelude.{ℕ, ◌+◌, ◌*◌, ◌<◌, ◌≡◌, List, [], ◌∷◌, ◌++◌, length, map, take, drop, get_or, Option}
-use Rattle.std.specs.List.{flat_map}
 use Rattle.std.specs.Io.KnownBytes.{Consumes}
 use Rattle.transfer.specs.Document.{IsDocument, document_key}
-use Rattle.transfer.specs.declared.store.seal.IvAndSalt.{IvAndSalt}
-
--- The IV and the salt have 16 octets each.
-abbrev pub AreOf16 : IvAndSalt → Type 0
-AreOf16 d = (length d.iv ≡ 16) × (length d.salt ≡ 16)
-
--- the octets of IVs and salts in the order in which they are drawn
-abbrev pub octets_of : List IvAndSalt → List ℕ
-octets_of drawn = flat_map (λ d. d.iv ++ d.salt) drawn
+use Rattle.sealing_core.specs.declared.drawn.IvAndSalt.{IvAndSalt}
 
 -- the keys of documents under the password q
 abbrev pub document_keys : ℕ → List ℕ → List IvAndSalt → List (List ℕ)

@@ -4,7 +4,7 @@ ghost use Rattle.transfer.specs.declared.store.error.TransferError.TheVariants.{
 
 use crate::store::error::TransferError;
 use asn1_core::{Items, Octets};
-use p12::SafeBag;
+use p12::{Place, SafeBag};
 use std::alloc::Global;
 
 /// Equal octets in memory of their own.
@@ -15,6 +15,18 @@ pub(crate) fn copied(alloc: Global, texts: &[Octets]) -> Result<Items<Octets>, T
     let mut copies = Items::new(alloc);
     for text in texts {
         copies.push(text.try_clone(alloc)?)?;
+    }
+    Ok(copies)
+}
+
+/// Equal places in memory of their own.
+pub(crate) fn copied_places(alloc: Global, places: &[Place]) -> Result<Items<Place>, TransferError>
+    ensures ok { IfOk result (λ copies. copies ≡ places.now) }
+    ensures err { IfErr result (λ e. e ≡ Memory) }
+{
+    let mut copies = Items::new(alloc);
+    for place in places {
+        copies.push(*place)?;
     }
     Ok(copies)
 }

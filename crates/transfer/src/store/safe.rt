@@ -8,10 +8,12 @@ ghost use Rattle.transfer.specs.Opening.{HasVerdict, RefusedAfter, refused};
 ghost use Rattle.transfer.specs.TransferError.{RefusedBy};
 ghost use Rattle.transfer.specs.Transferred.{DrawsFor, IsDecided, SealsOpened};
 ghost use Rattle.transfer.specs.Verdicts.{StoreOpens};
+ghost use Rattle.transfer.specs.declared.store.error.TransferError.TheVariants as refusal;
 
 use crate::store::bag_keys::open_keys;
 use crate::store::bags::bags_at;
 use crate::store::certificates::certificates_of;
+use crate::store::copies::{copied, copied_places};
 use crate::store::error::TransferError;
 use crate::store::open::{OpenedContents, open_parts};
 use crate::store::opened::Opened;
@@ -137,6 +139,18 @@ impl OpenedSafe {
         ensures { result ≡ length self.now.keys }
     {
         self.keys.len()
+    }
+
+    /// An equal value in memory of its own. The only refusal is `Memory`.
+    pub fn try_clone(&self, alloc: Global) -> Result<OpenedSafe, TransferError>
+        ensures ok { IfOk result (λ o. o ≡ self.now) }
+        ensures err { IfErr result (λ e. e ≡ refusal.Memory) }
+    {
+        Ok(OpenedSafe {
+            text: self.text.try_clone(alloc)?,
+            places: copied_places(alloc, self.places.as_slice())?,
+            keys: copied(alloc, self.keys.as_slice())?,
+        })
     }
 
     /// The opened store without its private keys.

@@ -1,6 +1,6 @@
 //! Sealing private keys anew, under octets that are drawn.
 ghost use Rattle.std.specs.Io.KnownBytes.{Consumes};
-ghost use Rattle.std.specs.Prelude.{◌≡◌, ◌≤◌, ◌<◌, ◌*◌, ◌^◌, ◌++◌, ℕ, List, All, length, map, IfOk, IfErr, OnOk};
+ghost use Rattle.std.specs.Prelude.{◌≡◌, ◌≤◌, ◌<◌, ◌*◌, ◌^◌, ◌++◌, ℕ, List, All, length, IfOk, IfErr, OnOk};
 ghost use Rattle.std.specs.Result.{IsErrOf};
 ghost use Rattle.octet_core.specs.Draw.{Lacks};
 ghost use Rattle.pkcs8.specs.declared.error.Error.TheVariants as errors;
@@ -8,7 +8,8 @@ ghost use Rattle.transfer.specs.Limits.{rounds_limit};
 ghost use Rattle.transfer.specs.Document.{IsDocument, document_key};
 ghost use Rattle.transfer.specs.InPlace.{IsOpenedKey, texts_of};
 ghost use Rattle.transfer.specs.Opening.{IsStoredKey};
-ghost use Rattle.transfer.specs.Sealing.{AreDrawn, AreOf16, SealsAll, document_keys, octets_of};
+ghost use Rattle.sealing_core.specs.Drawn.{AreOf16, octets_of};
+ghost use Rattle.transfer.specs.Sealing.{AreDrawn, SealsAll, document_keys};
 ghost use Rattle.transfer.specs.TransferError.{RefusedBy};
 
 use crate::store::error::TransferError;
@@ -16,8 +17,9 @@ use crate::store::key_text::{OpenedKey, opened_key};
 use asn1_core::{Items, Octets};
 use mac_modes::Draw;
 use octet_core::laws::are_octets;
-use pkcs5::pbes2::{EncryptionKey, Parameters, Salt};
+use pkcs5::pbes2::{EncryptionKey, Parameters};
 use pkcs8::{Error, private_keys_are_written, short_keys_are_encrypted, written_keys_are_shortest};
+use sealing_core::{DrawError, IvAndSalt, derive_keys, draw_each};
 use std::alloc::{AllocError, Global};
 
 /// The refusal to seal a key of a short text, which is running out of memory.
@@ -32,40 +34,6 @@ fn refusal_of(error: Error) -> TransferError
         | Error::KeyMalformed(_)
         | Error::ParametersMalformed
         | Error::PublicKey(_) => unreachable!(),
-    }
-}
-
-/// What is drawn for a document: an IV of 16 octets and a salt of 16.
-#[derive(Clone, Copy, Drop)]
-struct IvAndSalt {
-    iv: [u8; 16],
-    salt: Salt,
-}
-
-/// Draws 16 octets as IV, and the next 16 as salt.
-fn draw_one<D: Draw>(draw: &mut D) -> Result<IvAndSalt, TransferError>
-    ensures count { D.faults draw.old ≤ D.faults draw.new }
-    ensures no_fault { OnOk result (D.faults draw.new ≡ D.faults draw.old) }
-    ensures last { D.faults draw.old < D.faults draw.new → IsErrOf result TransferError.Rng }
-    ensures lengths { IfOk result AreOf16 }
-    ensures drawn { IfOk result
-        (λ d. Consumes (D.left draw.old) (D.left draw.new) (d.iv ++ d.salt)) }
-    ensures cause { IfErr result
-        (RefusedBy (λ e. ⊥) (Lacks (D.faults draw.old) (D.faults draw.new) (D.left draw.old) 32)) }
-{
-    let mut iv = [0u8; 16];
-    let mut octets = [0u8; 16];
-    match draw.fill(&mut iv) {
-        Ok(()) => {}
-        Err(_) => return Err(TransferError::Rng),
-    }
-    match draw.fill(&mut octets) {
-        Ok(()) => {}
-        Err(_) => return Err(TransferError::Rng),
-    }
-    match Salt::new(&octets) {
-        Ok(salt) => Ok(IvAndSalt { iv, salt }),
-        Err(_) => unreachable!(),
     }
 }
 
@@ -85,44 +53,10 @@ fn draw_all<D: Draw>(
         (RefusedBy (λ e. ⊥) (Lacks (D.faults draw.old) (D.faults draw.new) (D.left draw.old)
         (32 * number))) }
 {
-    let mut drawn = Items::new(alloc);
-    for _place in 0..number {
-        // The search proves the loop in this form alone.
-        match draw_one(draw) {
-            Ok(one) => drawn.push(one)?,
-            Err(e) => return Err(e),
-        }
-    }
-    Ok(drawn)
-}
-
-/// The salts. The only refusal is `Memory`.
-fn salts_of(alloc: Global, drawn: &[IvAndSalt]) -> Result<Items<Salt>, TransferError>
-    ensures ok { IfOk result (λ salts. salts ≡ map (λ d. d.salt) drawn.now) }
-    ensures err { IfErr result (λ e. e ≡ TransferError.Memory) }
-{
-    let mut salts = Items::new(alloc);
-    for one in drawn {
-        salts.push(one.salt)?;
-    }
-    Ok(salts)
-}
-
-/// The key of each document under the password. The only refusal is `Memory`.
-fn derive_keys(
-    alloc: Global,
-    new_password: &[u8],
-    rounds: u32,
-    drawn: &[IvAndSalt],
-) -> Result<Items<EncryptionKey>, TransferError>
-    ensures ok { IfOk result (λ keys. keys ≡ document_keys rounds new_password.now drawn.now) }
-    ensures err { IfErr result (λ e. e ≡ TransferError.Memory) }
-{
-    let salts = salts_of(alloc, drawn)?;
-    let salts = salts.as_slice();
-    match EncryptionKey::derive_each_pbkdf2_sha256(alloc, new_password, salts, rounds) {
-        Ok(keys) => Ok(keys),
-        Err(_) => Err(TransferError::Memory),
+    match draw_each(alloc, number, draw) {
+        Ok(drawn) => Ok(drawn),
+        Err(DrawError::Rng) => Err(TransferError::Rng),
+        Err(DrawError::Memory) => Err(TransferError::Memory),
     }
 }
 

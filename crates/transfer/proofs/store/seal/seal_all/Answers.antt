@@ -6,7 +6,8 @@ use Rattle.std.specs.Slice.Iter.{chunks_rest}
 use Rattle.transfer.specs.InPlace.{IsOpenedKey, texts_of}
 use Rattle.transfer.specs.Opening.{IsStoredKey}
 use Rattle.transfer.specs.declared.store.key_text.OpenedKey.{OpenedKey}
-use Rattle.transfer.proofs.Drawn.{all_group, group_fits, lacks_all, seals_both, seals_none}
+use Rattle.sealing_core.proofs.Draws.{lacks_all}
+use Rattle.transfer.proofs.Drawn.{all_group, group_fits, seals_both, seals_none}
 use Rattle.transfer.proofs.Faults.{refused_as}
 use Rattle.transfer.proofs.store.seal.seal_all.Goals as goal
 

@@ -1,6 +1,7 @@
 use Rattle.std.proofs.Common.{◌≡◌, ℕ, List, take}
 use Rattle.transfer.specs.InPlace.{texts_of}
-use Rattle.transfer.specs.Sealing.{AreDrawn, document_keys, octets_of}
+use Rattle.sealing_core.specs.Drawn.{octets_of}
+use Rattle.transfer.specs.Sealing.{AreDrawn, document_keys}
 use Rattle.transfer.proofs.store.seal.seal_each.Given as goal
 
 abbrev pub invariant-loop-index : goal.invariant-loop-index
