@@ -1,2 +1,6 @@
+mod Blanks
 mod Lines
+mod LineCuts
 mod ReadBack
+mod RoundTrip
+mod Symbols

@@ -1,0 +1,7 @@
+mod PartSealing
+mod BagLoops
+mod Sizes
+mod Texts
+mod Opens
+mod Steps
+mod Once
