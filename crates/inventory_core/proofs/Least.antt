@@ -7,7 +7,7 @@ use Rattle.std.proofs.lemmas.Bool.{cases_lt}
 use Rattle.std.proofs.lemmas.Slice.Eq.{bytes_eq-Decides}
 use Rattle.inventory_core.specs.Certificate.{Certificate}
 use Rattle.inventory_core.specs.Chains.{IsLeast, Subject, has_subject}
-use Rattle.inventory_core.specs.SubjectIndex.{at_issuer, at_subject, least_from, named_from, namesake_of}
+use Rattle.inventory_core.specs.SubjectIndex.{at_subject, least_from, named_from, namesake_of}
 use Rattle.inventory_core.proofs.Rising.{named_below}
 
 -- ---- the least number of a range
@@ -101,11 +101,6 @@ least_noted passes n i k hit old new next lt at is e =
     e ∙ ap (λ o. cond hit (Some i) o) (is ∙ ap (λ m. least_from passes m (n - m)) next) ∙ sym (least_step passes n i lt ∙ ap (λ b. cond b (Some i) (least_from passes (i + 1) (n - (i + 1)))) at)
 
 -- ---- under one function for another that gives the same
-
-pub issuer_alike : (f g : List ℕ → Option ℕ) → ((name : List ℕ) → f name ≡ g name) → (x : Option (Option Certificate)) → at_issuer f x ≡ at_issuer g x
-issuer_alike f g e (Some (Some c)) = ap (λ o. cond (bytes_eq c.issuer c.subject) None o) (e c.issuer)
-issuer_alike f g e (Some None) = refl
-issuer_alike f g e None = refl
 
 pub subject_alike : (f g : List ℕ → Option ℕ) → ((name : List ℕ) → f name ≡ g name) → (x : Option (Option Certificate)) → at_subject f x ≡ at_subject g x
 subject_alike f g e (Some (Some c)) = e c.subject

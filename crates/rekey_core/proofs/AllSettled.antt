@@ -15,6 +15,7 @@ use Rattle.rekey_core.proofs.Alike.{changes_alike}
 use Rattle.rekey_core.proofs.Keeping.{change_keeps}
 use Rattle.rekey_core.proofs.Listing.{Done}
 use Rattle.rekey_core.proofs.Settling.{draws_once, err, if_told, no_refusal, ok_rng, size_once, told_all}
+use Rattle.rekey_core.specs.declared.kinds.Kinds.TheVariants.{Kept}
 
 -- ---- octets that were taken
 
@@ -80,11 +81,11 @@ stands b p (q ∷ ps) limit left now n m c (x, between, midway, one, all) a =
       further = s.further;
       draws_are = s.draws_are ∙ same.0;
       size_is = s.size_is ∙ same.1;
-      took = took_more left between now one.drawn (draws b p limit a) (length ps) one.took (one.exactly ∙ draws_once b p limit one.allowed a) (subst (λ (k : ℕ). Took (k * length ps) between now) same.0 s.took);
+      took = took_more left between now one.drawn (draws b p limit a) (length ps) one.took (one.exactly ∙ draws_once Kept b p limit one.allowed a) (subst (λ (k : ℕ). Took (k * length ps) between now) same.0 s.took);
     }
 
 fits_first : (b p q : List ℕ) (limit : ℕ) (left now : Option (List ℕ)) (n m : ℕ) (c : List ℕ) → Rekeys b p q limit left now n m c → (a : IsAllowed b p limit) → size b p limit a ≤ store_limit
-fits_first b p q limit left now n m c one a = omega (arith, one.sized, one.short, size_once b p limit one.allowed a)
+fits_first b p q limit left now n m c one a = omega (arith, one.sized, one.short, size_once Kept b p limit one.allowed a)
 
 -- ---- answers
 

@@ -1,6 +1,6 @@
 -- The keys that are derived before the parts are sealed.
-use Rattle.std.proofs.Common.{◌≡◌, ℕ, ◌+◌, ◌≤◌, List, [], ◌∷◌, ◌++◌, length, map, take, drop, refl, sym, ap, subst, ◌∙◌, arith, append-nil}
-use Rattle.std.specs.Prelude.{All}
+use Rattle.std.proofs.Common.{◌≡◌, ℕ, ◌+◌, ◌≤◌, Some, None, List, [], ◌∷◌, ◌++◌, length, map, take, drop, refl, sym, ap, subst, ◌∙◌, arith, append-nil}
+use Rattle.std.specs.Prelude.{All, Option}
 use Rattle.std.specs.List.{sum_by}
 use Rattle.std.proofs.lemmas.List.{append_assoc, drop-drop, map-append, take-append-drop}
 use Rattle.std.proofs.lemmas.List.Concat.{flat_map-append, flat_map-cons}
@@ -8,7 +8,6 @@ use Rattle.std.proofs.lemmas.List.Elements.{All-head, All-push, All-tail}
 use Rattle.std.proofs.lemmas.List.Sums.{sum_by-cons}
 use Rattle.pkcs5.specs.Kinds.{rounds_of}
 use Rattle.pkcs5.specs.Opening.{sha256_key}
-use Rattle.pkcs5.specs.declared.pbes2.parameters.Parameters.{Parameters}
 use Rattle.p12.specs.declared.algorithm_identifier.AlgorithmIdentifier.{AlgorithmIdentifier}
 use Rattle.p12.specs.declared.algorithm_identifier.AlgorithmIdentifier.TheVariants.{Sha1, Sha256, PbewithSHAAnd40BitRC2CBC, PbeWithSHAAnd3KeyTripleDESCBC, Pbes2, OtherAlg}
 use Rattle.p12.specs.declared.content_info.ContentInfo.{ContentInfo}
@@ -23,6 +22,9 @@ use Rattle.rekey_core.specs.Sealing.{bags_draw}
 use Rattle.rekey_core.specs.declared.derived_keys.DerivedKeys.{DerivedKeys}
 use Rattle.rekey_core.specs.declared.key_derivation.RoundsAndSalt.{RoundsAndSalt}
 use Rattle.rekey_core.proofs.Supplying.{all_draws_cons, bags_keys, draws_cons}
+use Rattle.rekey_core.specs.Anew.{pbes2_rounds}
+use Rattle.rekey_core.specs.Kinds.{kind_for}
+use Rattle.rekey_core.specs.declared.kinds.Kinds.{Kinds}
 
 abbrev Part : Type 0
 Part = ℕ × List ℕ
@@ -30,8 +32,8 @@ Part = ℕ × List ℕ
 abbrev seen_part : RoundsAndSalt → Part
 seen_part p = (p.rounds, p.salt)
 
-abbrev algorithm_of : EncryptedPrivateKeyInfo → AlgorithmIdentifier
-algorithm_of k = k.encryption_algorithm
+abbrev algorithm_of : Kinds → EncryptedPrivateKeyInfo → AlgorithmIdentifier
+algorithm_of to k = kind_for to k.encryption_algorithm
 
 -- ---- parts that follow each other
 
@@ -46,96 +48,111 @@ parts_append (a ∷ xs) ys drawn =
     ∙ ap (λ (l : List ℕ). (first ++ rounds_and_salts xs (drop n drawn)) ++ rounds_and_salts ys l)
     (drop-drop (sum_by drawn_for xs) n drawn ∙ ap (λ (m : ℕ). drop m drawn) (sym (sum_by-cons drawn_for a xs)))
 
-key_sums : (ks : List EncryptedPrivateKeyInfo) → sum_by drawn_for (map algorithm_of ks) ≡ sum_by key_draws ks
-key_sums [] = refl
-key_sums (k ∷ ks) =
-    sum_by-cons drawn_for k.encryption_algorithm (map algorithm_of ks) ∙ ap (λ (n : ℕ). drawn_for k.encryption_algorithm + n) (key_sums ks) ∙ sym (sum_by-cons key_draws k ks)
+key_sums : (to : Kinds) (ks : List EncryptedPrivateKeyInfo) → sum_by drawn_for (map (algorithm_of to) ks) ≡ sum_by (key_draws to) ks
+key_sums to [] = refl
+key_sums to (k ∷ ks) =
+    sum_by-cons drawn_for (kind_for to k.encryption_algorithm) (map (algorithm_of to) ks) ∙ ap (λ (n : ℕ). drawn_for (kind_for to k.encryption_algorithm) + n) (key_sums to ks) ∙ sym (sum_by-cons (key_draws to) k ks)
 
-keys_drawn : (gs : List SafeBag) → sum_by drawn_for (key_algorithms gs) ≡ bags_draw gs
-keys_drawn gs = key_sums (shrouded_among gs) ∙ sym (bags_keys gs)
+keys_drawn : (to : Kinds) (gs : List SafeBag) → sum_by drawn_for (key_algorithms to gs) ≡ bags_draw to gs
+keys_drawn to gs = key_sums to (shrouded_among gs) ∙ sym (bags_keys to gs)
+
+some_part : (a : AlgorithmIdentifier) (z : List ℕ) (r : ℕ) → Some r ≡ pbes2_rounds a → rounds_and_salt a z ≡ (r, drop 16 z) ∷ []
+some_part Sha1 z r e = absurd cc
+some_part Sha256 z r e = absurd cc
+some_part (PbewithSHAAnd40BitRC2CBC p) z r e = absurd cc
+some_part (PbeWithSHAAnd3KeyTripleDESCBC p) z r e = absurd cc
+some_part (Pbes2 par) z r e = let same : rounds_of par.kdf ≡ r = cc in ap (λ (n : ℕ). (n, drop 16 z) ∷ []) same
+some_part (OtherAlg o) z r e = absurd cc
+
+no_part : (a : AlgorithmIdentifier) (z : List ℕ) → None ≡ pbes2_rounds a → rounds_and_salt a z ≡ []
+no_part Sha1 z e = refl
+no_part Sha256 z e = refl
+no_part (PbewithSHAAnd40BitRC2CBC p) z e = refl
+no_part (PbeWithSHAAnd3KeyTripleDESCBC p) z e = refl
+no_part (Pbes2 par) z e = absurd cc
+no_part (OtherAlg o) z e = refl
+
+no_rounds : (o : Option ℕ) → ((r : ℕ) → o ≡ Some r → ⊥) → o ≡ None
+no_rounds None h = refl
+no_rounds (Some r) h = absurd (h r refl)
 
 -- a part under PBES2
-pub part_added : (a : AlgorithmIdentifier) (par : Parameters) (z salt : List ℕ) (r : ℕ) (old parts : List RoundsAndSalt) → a ≡ Pbes2 par → r ≡ rounds_of par.kdf → salt ≡ drop 16 z
+pub part_added : (a : AlgorithmIdentifier) (z salt : List ℕ) (r : ℕ) (old parts : List RoundsAndSalt) → Some r ≡ pbes2_rounds a → salt ≡ drop 16 z
     → parts ≡ old ++ (record { rounds = r; salt = salt }) ∷ [] → seen_parts parts ≡ seen_parts old ++ rounds_and_salt a z
-part_added a par z salt r old parts is rounds cut pushed =
-    let one : (r, salt) ∷ [] ≡ rounds_and_salt a z =
-    ap (λ (n : ℕ). (n, salt) ∷ []) rounds ∙ ap (λ (s : List ℕ). (rounds_of par.kdf, s) ∷ []) cut ∙ ap (λ (b : AlgorithmIdentifier). rounds_and_salt b z) (sym is) in
+part_added a z salt r old parts is cut pushed =
+    let one : (r, salt) ∷ [] ≡ rounds_and_salt a z = ap (λ (s : List ℕ). (r, s) ∷ []) cut ∙ sym (some_part a z r is) in
     ap seen_parts pushed ∙ map-append seen_part old ((record { rounds = r; salt = salt }) ∷ []) ∙ ap (λ (l : List Part). seen_parts old ++ l) one
 
 -- any other part
-pub part_passed : (a : AlgorithmIdentifier) (z : List ℕ) (old parts : List RoundsAndSalt) → ((par : Parameters) → a ≡ Pbes2 par → ⊥) → parts ≡ old → seen_parts parts ≡ seen_parts old ++ rounds_and_salt a z
-part_passed Sha1 z old parts h e = ap seen_parts e ∙ sym (append-nil (seen_parts old))
-part_passed Sha256 z old parts h e = ap seen_parts e ∙ sym (append-nil (seen_parts old))
-part_passed (PbewithSHAAnd40BitRC2CBC p) z old parts h e = ap seen_parts e ∙ sym (append-nil (seen_parts old))
-part_passed (PbeWithSHAAnd3KeyTripleDESCBC p) z old parts h e = ap seen_parts e ∙ sym (append-nil (seen_parts old))
-part_passed (OtherAlg o) z old parts h e = ap seen_parts e ∙ sym (append-nil (seen_parts old))
-part_passed (Pbes2 par) z old parts h e = absurd (h par refl)
+pub part_passed : (a : AlgorithmIdentifier) (z : List ℕ) (old parts : List RoundsAndSalt) (o : Option ℕ) → o ≡ pbes2_rounds a → ((r : ℕ) → o ≡ Some r → ⊥) → parts ≡ old
+    → seen_parts parts ≡ seen_parts old ++ rounds_and_salt a z
+part_passed a z old parts o is h e = ap seen_parts e ∙ sym (append-nil (seen_parts old)) ∙ ap (λ (l : List Part). seen_parts old ++ l) (sym (no_part a z (sym (no_rounds o h) ∙ is)))
 
 -- ---- the keys among bags
 
-pub record KeysOn (bags rest : List SafeBag) (drawn left : List ℕ) (old parts : List RoundsAndSalt) : Type 0 where
-  pub after : drop (bags_draw rest) left ≡ drop (bags_draw bags) drawn
-  pub are : seen_parts parts ++ rounds_and_salts (key_algorithms rest) left ≡ seen_parts old ++ rounds_and_salts (key_algorithms bags) drawn
+pub record KeysOn (to : Kinds) (bags rest : List SafeBag) (drawn left : List ℕ) (old parts : List RoundsAndSalt) : Type 0 where
+  pub after : drop (bags_draw to rest) left ≡ drop (bags_draw to bags) drawn
+  pub are : seen_parts parts ++ rounds_and_salts (key_algorithms to rest) left ≡ seen_parts old ++ rounds_and_salts (key_algorithms to bags) drawn
 
 -- ---- the parts of contents
 
-pub record PartsOn (contents rest : List ContentInfo) (bags rest_bags : List (List SafeBag)) (drawn left : List ℕ) (parts : List RoundsAndSalt) : Type 0 where
-  pub are : seen_parts parts ++ rounds_and_salts (part_algorithms rest rest_bags) left ≡ rounds_and_salts (part_algorithms contents bags) drawn
+pub record PartsOn (to : Kinds) (contents rest : List ContentInfo) (bags rest_bags : List (List SafeBag)) (drawn left : List ℕ) (parts : List RoundsAndSalt) : Type 0 where
+  pub are : seen_parts parts ++ rounds_and_salts (part_algorithms to rest rest_bags) left ≡ rounds_and_salts (part_algorithms to contents bags) drawn
 
 -- the keys among the bags of a content, after its own part
-keys_among : (gs : List SafeBag) (more : List AlgorithmIdentifier) (left left_after : List ℕ) (parts parts_after : List RoundsAndSalt) → left_after ≡ drop (bags_draw gs) left
-    → seen_parts parts_after ≡ seen_parts parts ++ rounds_and_salts (key_algorithms gs) left
-    → seen_parts parts_after ++ rounds_and_salts more left_after ≡ seen_parts parts ++ rounds_and_salts (key_algorithms gs ++ more) left
-keys_among gs more left left_after parts parts_after cut added =
-    let own = rounds_and_salts (key_algorithms gs) left in
-    let at = drop (bags_draw gs) left in
+keys_among : (to : Kinds) (gs : List SafeBag) (more : List AlgorithmIdentifier) (left left_after : List ℕ) (parts parts_after : List RoundsAndSalt) → left_after ≡ drop (bags_draw to gs) left
+    → seen_parts parts_after ≡ seen_parts parts ++ rounds_and_salts (key_algorithms to gs) left
+    → seen_parts parts_after ++ rounds_and_salts more left_after ≡ seen_parts parts ++ rounds_and_salts (key_algorithms to gs ++ more) left
+keys_among to gs more left left_after parts parts_after cut added =
+    let own = rounds_and_salts (key_algorithms to gs) left in
+    let at = drop (bags_draw to gs) left in
     ap (λ (l : List ℕ). seen_parts parts_after ++ rounds_and_salts more l) cut ∙ ap (λ (l : List Part). l ++ rounds_and_salts more at) added ∙ append_assoc (seen_parts parts) own (rounds_and_salts more at)
     ∙ ap (λ (l : List Part). seen_parts parts ++ l)
-    (ap (λ (n : ℕ). own ++ rounds_and_salts more (drop n left)) (sym (keys_drawn gs)) ∙ sym (parts_append (key_algorithms gs) more left))
+    (ap (λ (n : ℕ). own ++ rounds_and_salts more (drop n left)) (sym (keys_drawn to gs)) ∙ sym (parts_append (key_algorithms to gs) more left))
 
 -- the drawn octets that are left are enough for the other contents
-pub room_after : (rest back : List ContentInfo) (c : ContentInfo) (rest_bags bags_after : List (List SafeBag)) (gs : List SafeBag) (n : ℕ) (left left_own left_after : List ℕ)
-    → rest ≡ c ∷ back → rest_bags ≡ gs ∷ bags_after → sum_by content_draws rest + sum_by bags_draw rest_bags ≤ length left → n ≤ content_draws c → length left ≡ n + length left_own
-    → length left_own ≡ bags_draw gs + length left_after → sum_by content_draws back + sum_by bags_draw bags_after ≤ length left_after
-room_after rest back c rest_bags bags_after gs n left left_own left_after e f room few one two =
-    omega (arith, ap (sum_by content_draws) e ∙ draws_cons c back, ap (sum_by bags_draw) f ∙ all_draws_cons gs bags_after, room, few, one, two)
+pub room_after : (to : Kinds) (rest back : List ContentInfo) (c : ContentInfo) (rest_bags bags_after : List (List SafeBag)) (gs : List SafeBag) (n : ℕ) (left left_own left_after : List ℕ)
+    → rest ≡ c ∷ back → rest_bags ≡ gs ∷ bags_after → sum_by (content_draws to) rest + sum_by (bags_draw to) rest_bags ≤ length left → n ≤ content_draws to c → length left ≡ n + length left_own
+    → length left_own ≡ bags_draw to gs + length left_after → sum_by (content_draws to) back + sum_by (bags_draw to) bags_after ≤ length left_after
+room_after to rest back c rest_bags bags_after gs n left left_own left_after e f room few one two =
+    omega (arith, ap (sum_by (content_draws to)) e ∙ draws_cons to c back, ap (sum_by (bags_draw to)) f ∙ all_draws_cons to gs bags_after, room, few, one, two)
 
-pub not_locked : (c : ContentInfo) → ((d : EncryptedData) → c ≡ content.EncryptedData d → ⊥) → own_algorithm c ≡ []
-not_locked (content.Data v) h = refl
-not_locked (content.OtherContext o) h = refl
-not_locked (content.EncryptedData d) h = absurd (h d refl)
+pub not_locked : (to : Kinds) (c : ContentInfo) → ((d : EncryptedData) → c ≡ content.EncryptedData d → ⊥) → own_algorithm to c ≡ []
+not_locked to (content.Data v) h = refl
+not_locked to (content.OtherContext o) h = refl
+not_locked to (content.EncryptedData d) h = absurd (h d refl)
 
 -- a content that is not encrypted
-pub parts_plain : (contents rest back : List ContentInfo) (c : ContentInfo) (bags rest_bags bags_after : List (List SafeBag)) (gs : List SafeBag) (drawn left left_after : List ℕ) (parts parts_after : List RoundsAndSalt)
-    → PartsOn contents rest bags rest_bags drawn left parts → rest ≡ c ∷ back → rest_bags ≡ gs ∷ bags_after → own_algorithm c ≡ [] → left_after ≡ drop (bags_draw gs) left
-    → seen_parts parts_after ≡ seen_parts parts ++ rounds_and_salts (key_algorithms gs) left → PartsOn contents back bags bags_after drawn left_after parts_after
-parts_plain contents rest back c bags rest_bags bags_after gs drawn left left_after parts parts_after on e f none cut added =
-    let more = part_algorithms back bags_after in
-    let same : part_algorithms rest rest_bags ≡ key_algorithms gs ++ more =
-    ap (λ (cs : List ContentInfo). part_algorithms cs rest_bags) e ∙ ap (λ (gss : List (List SafeBag)). part_algorithms (c ∷ back) gss) f
-    ∙ ap (λ (own : List AlgorithmIdentifier). own ++ (key_algorithms gs ++ more)) none in
+pub parts_plain : (to : Kinds) (contents rest back : List ContentInfo) (c : ContentInfo) (bags rest_bags bags_after : List (List SafeBag)) (gs : List SafeBag) (drawn left left_after : List ℕ) (parts parts_after : List RoundsAndSalt)
+    → PartsOn to contents rest bags rest_bags drawn left parts → rest ≡ c ∷ back → rest_bags ≡ gs ∷ bags_after → own_algorithm to c ≡ [] → left_after ≡ drop (bags_draw to gs) left
+    → seen_parts parts_after ≡ seen_parts parts ++ rounds_and_salts (key_algorithms to gs) left → PartsOn to contents back bags bags_after drawn left_after parts_after
+parts_plain to contents rest back c bags rest_bags bags_after gs drawn left left_after parts parts_after on e f none cut added =
+    let more = part_algorithms to back bags_after in
+    let same : part_algorithms to rest rest_bags ≡ key_algorithms to gs ++ more =
+    ap (λ (cs : List ContentInfo). part_algorithms to cs rest_bags) e ∙ ap (λ (gss : List (List SafeBag)). part_algorithms to (c ∷ back) gss) f
+    ∙ ap (λ (own : List AlgorithmIdentifier). own ++ (key_algorithms to gs ++ more)) none in
     record {
-      are = keys_among gs more left left_after parts parts_after cut added ∙ ap (λ (l : List AlgorithmIdentifier). seen_parts parts ++ rounds_and_salts l left) (sym same) ∙ on.are;
+      are = keys_among to gs more left left_after parts parts_after cut added ∙ ap (λ (l : List AlgorithmIdentifier). seen_parts parts ++ rounds_and_salts l left) (sym same) ∙ on.are;
     }
 
 -- a content that is
-pub parts_locked : (contents rest back : List ContentInfo) (c : ContentInfo) (d : EncryptedData) (bags rest_bags bags_after : List (List SafeBag)) (gs : List SafeBag) (drawn left left_own left_after : List ℕ)
-    (parts parts_own parts_after : List RoundsAndSalt) → PartsOn contents rest bags rest_bags drawn left parts → rest ≡ c ∷ back → rest_bags ≡ gs ∷ bags_after → c ≡ content.EncryptedData d
-    → left_own ≡ drop (drawn_for d.encrypted_content_info.content_encryption_algorithm) left
-    → seen_parts parts_own ≡ seen_parts parts ++ rounds_and_salt d.encrypted_content_info.content_encryption_algorithm (take (drawn_for d.encrypted_content_info.content_encryption_algorithm) left)
-    → left_after ≡ drop (bags_draw gs) left_own → seen_parts parts_after ≡ seen_parts parts_own ++ rounds_and_salts (key_algorithms gs) left_own → PartsOn contents back bags bags_after drawn left_after parts_after
-parts_locked contents rest back c d bags rest_bags bags_after gs drawn left left_own left_after parts parts_own parts_after on e f is cut_own added_own cut added =
-    let a = d.encrypted_content_info.content_encryption_algorithm in
+pub parts_locked : (to : Kinds) (contents rest back : List ContentInfo) (c : ContentInfo) (d : EncryptedData) (bags rest_bags bags_after : List (List SafeBag)) (gs : List SafeBag) (drawn left left_own left_after : List ℕ)
+    (parts parts_own parts_after : List RoundsAndSalt) → PartsOn to contents rest bags rest_bags drawn left parts → rest ≡ c ∷ back → rest_bags ≡ gs ∷ bags_after → c ≡ content.EncryptedData d
+    → left_own ≡ drop (drawn_for (kind_for to d.encrypted_content_info.content_encryption_algorithm)) left
+    → seen_parts parts_own ≡ seen_parts parts ++ rounds_and_salt (kind_for to d.encrypted_content_info.content_encryption_algorithm) (take (drawn_for (kind_for to d.encrypted_content_info.content_encryption_algorithm)) left)
+    → left_after ≡ drop (bags_draw to gs) left_own → seen_parts parts_after ≡ seen_parts parts_own ++ rounds_and_salts (key_algorithms to gs) left_own → PartsOn to contents back bags bags_after drawn left_after parts_after
+parts_locked to contents rest back c d bags rest_bags bags_after gs drawn left left_own left_after parts parts_own parts_after on e f is cut_own added_own cut added =
+    let a = kind_for to d.encrypted_content_info.content_encryption_algorithm in
     let n = drawn_for a in
     let own = rounds_and_salt a (take n left) in
-    let more = part_algorithms back bags_after in
-    let keys = key_algorithms gs ++ more in
-    let same : part_algorithms rest rest_bags ≡ a ∷ keys =
-    ap (λ (cs : List ContentInfo). part_algorithms cs rest_bags) e ∙ ap (λ (gss : List (List SafeBag)). part_algorithms (c ∷ back) gss) f
-    ∙ ap (λ (x : ContentInfo). own_algorithm x ++ keys) is in
+    let more = part_algorithms to back bags_after in
+    let keys = key_algorithms to gs ++ more in
+    let same : part_algorithms to rest rest_bags ≡ a ∷ keys =
+    ap (λ (cs : List ContentInfo). part_algorithms to cs rest_bags) e ∙ ap (λ (gss : List (List SafeBag)). part_algorithms to (c ∷ back) gss) f
+    ∙ ap (λ (x : ContentInfo). own_algorithm to x ++ keys) is in
     record {
       are =
-          keys_among gs more left_own left_after parts_own parts_after cut added ∙ ap (λ (l : List ℕ). seen_parts parts_own ++ rounds_and_salts keys l) cut_own
+          keys_among to gs more left_own left_after parts_own parts_after cut added ∙ ap (λ (l : List ℕ). seen_parts parts_own ++ rounds_and_salts keys l) cut_own
           ∙ ap (λ (l : List Part). l ++ rounds_and_salts keys (drop n left)) added_own ∙ append_assoc (seen_parts parts) own (rounds_and_salts keys (drop n left))
           ∙ ap (λ (l : List AlgorithmIdentifier). seen_parts parts ++ rounds_and_salts l left) (sym same) ∙ on.are;
     }

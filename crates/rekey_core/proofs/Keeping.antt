@@ -26,7 +26,6 @@ use Rattle.p12.specs.declared.attribute.PKCS12Attribute.TheVariants.{FriendlyNam
 use Rattle.p12.specs.declared.content_info.ContentInfo.{ContentInfo}
 use Rattle.p12.specs.declared.content_info.ContentInfo.TheVariants as content
 use Rattle.p12.specs.declared.encrypted_private_key_info.EncryptedPrivateKeyInfo.{EncryptedPrivateKeyInfo}
-use Rattle.p12.specs.declared.mac_data.MacData.{MacData}
 use Rattle.p12.specs.declared.pfx.PFX.{PFX}
 use Rattle.p12.specs.declared.safe_bag.SafeBag.{SafeBag}
 use Rattle.p12.specs.declared.safe_bag.SafeBagKind.{SafeBagKind}
@@ -37,11 +36,17 @@ use Rattle.transfer.specs.Opening.{FirstCause, KeyOpens, all_certificates, all_s
 use Rattle.transfer.specs.Verdicts.{StoreOpens, work}
 use Rattle.transfer.proofs.Valid.{opened_exactly}
 use Rattle.rekey_core.specs.Anew.{anew}
-use Rattle.rekey_core.specs.Change.{Changes}
-use Rattle.rekey_core.specs.Changes.{BagKept, IsKept, KindKept, RekeysAll, last_of}
+use Rattle.rekey_core.specs.Change.{Changes, ChangesTo}
+use Rattle.rekey_core.specs.Changes.{BagKept, IsKept, IsKeptTo, KindKept, RekeysAll, last_of}
 use Rattle.rekey_core.specs.Like.{BagLike, ContentLike, IsAnew, KindLike}
 use Rattle.rekey_core.specs.Resealing.{EachDrawn}
+use Rattle.rekey_core.proofs.OuterParts.{data_is, mac_is}
 use Rattle.rekey_core.proofs.Sizes.{holds_sole}
+use Rattle.rekey_core.specs.Kinds.{count_for, kind_for}
+use Rattle.rekey_core.specs.Work.{content_work, key_work, work_to}
+use Rattle.rekey_core.specs.declared.kinds.Kinds.{Kinds}
+use Rattle.rekey_core.specs.declared.kinds.Kinds.TheVariants.{Kept}
+use Rattle.rekey_core.proofs.KindFacts.{kind_opens}
 
 -- ---- costs
 
@@ -95,17 +100,17 @@ first_true : (x y : Bool) → x && y ≡ true → x ≡ true
 first_true true y e = refl
 first_true false y e = absurd cc
 
--- The cost of the algorithm that is stated never passes that of the one whose place it takes.
-pub cost_anew : (a b : AlgorithmIdentifier) (z : List ℕ) → openable a ≡ true → IsAnew z a b → cost b ≤ cost a
-cost_anew a b z o n = subst (λ (x : AlgorithmIdentifier). cost x ≤ cost a) (sym n.algorithm) (least a z o)
-  where
-    least : (a : AlgorithmIdentifier) (z : List ℕ) → openable a ≡ true → cost (anew a z) ≤ cost a
-    least Sha1 z o = absurd cc
-    least Sha256 z o = absurd cc
-    least (PbewithSHAAnd40BitRC2CBC p) z o = absurd cc
-    least (PbeWithSHAAnd3KeyTripleDESCBC p) z o = omega arith
-    least (Pbes2 par) z o = let k = answers par.kdf par.encryption (first_true _ _ o) in omega (arith, k)
-    least (OtherAlg p) z o = absurd cc
+-- The cost of the algorithm that is stated never passes that of the one of whose kind it is.
+cost_kind : (a : AlgorithmIdentifier) (z : List ℕ) → openable a ≡ true → cost (anew a z) ≤ cost a
+cost_kind Sha1 z o = absurd cc
+cost_kind Sha256 z o = absurd cc
+cost_kind (PbewithSHAAnd40BitRC2CBC p) z o = absurd cc
+cost_kind (PbeWithSHAAnd3KeyTripleDESCBC p) z o = omega arith
+cost_kind (Pbes2 par) z o = let k = answers par.kdf par.encryption (first_true _ _ o) in omega (arith, k)
+cost_kind (OtherAlg p) z o = absurd cc
+
+pub cost_anew : (to : Kinds) (a b : AlgorithmIdentifier) (z : List ℕ) → openable a ≡ true → IsAnew to z a b → cost b ≤ cost (kind_for to a)
+cost_anew to a b z o n = subst (λ (x : AlgorithmIdentifier). cost x ≤ cost (kind_for to a)) (sym n.algorithm) (cost_kind (kind_for to a) z (kind_opens to a o))
 
 -- ---- attributes
 
@@ -164,25 +169,25 @@ some_is : (x y : List ℕ) → Some x ≡ Some y → x ≡ y
 some_is x y e = cc
 
 -- what bags that are like others give
-record BagsKeep (q : List ℕ) (gs hs : List SafeBag) (us : List (List ℕ)) : Type 0 where
+record BagsKeep (to : Kinds) (q : List ℕ) (gs hs : List SafeBag) (us : List (List ℕ)) : Type 0 where
   pub keys : Each (KeyOpens q) (shrouded_among hs) us
   pub certificates : certificates_among hs ≡ certificates_among gs
-  pub cost : sum_by key_share (shrouded_among hs) ≤ sum_by key_share (shrouded_among gs)
+  pub cost : sum_by key_share (shrouded_among hs) ≤ sum_by (key_work to) (shrouded_among gs)
   pub kept : Each BagKept gs hs
 
-key_keeps : (p q z : List ℕ) (k l : EncryptedPrivateKeyInfo) (u : List ℕ) → KindLike p q z (kind.Pkcs8ShroudedKeyBag k) (kind.Pkcs8ShroudedKeyBag l) → KeyOpens p k u → KeyOpens q l u
-key_keeps p q z k l u v o = (v.1.opens_anew ∙ ap (λ (x : List ℕ). Some x) (some_is v.1.text u (sym v.1.opens ∙ o.0)), o.1)
+key_keeps : (to : Kinds) (p q z : List ℕ) (k l : EncryptedPrivateKeyInfo) (u : List ℕ) → KindLike to p q z (kind.Pkcs8ShroudedKeyBag k) (kind.Pkcs8ShroudedKeyBag l) → KeyOpens p k u → KeyOpens q l u
+key_keeps to p q z k l u v o = (v.1.opens_anew ∙ ap (λ (x : List ℕ). Some x) (some_is v.1.text u (sym v.1.opens ∙ o.0)), o.1)
 
-kind_kept : (p q z : List ℕ) (k l : SafeBagKind) → KindLike p q z k l → KindKept k l
-kind_kept p q z (kind.CertBag c) l v = v.1
-kind_kept p q z (kind.OtherBagKind o) l v = v.1
-kind_kept p q z (kind.Pkcs8ShroudedKeyBag k) (kind.CertBag c) v = absurd v
-kind_kept p q z (kind.Pkcs8ShroudedKeyBag k) (kind.OtherBagKind o) v = absurd v
-kind_kept p q z (kind.Pkcs8ShroudedKeyBag k) (kind.Pkcs8ShroudedKeyBag l) v = tt
+kind_kept : (to : Kinds) (p q z : List ℕ) (k l : SafeBagKind) → KindLike to p q z k l → KindKept k l
+kind_kept to p q z (kind.CertBag c) l v = v.1
+kind_kept to p q z (kind.OtherBagKind o) l v = v.1
+kind_kept to p q z (kind.Pkcs8ShroudedKeyBag k) (kind.CertBag c) v = absurd v
+kind_kept to p q z (kind.Pkcs8ShroudedKeyBag k) (kind.OtherBagKind o) v = absurd v
+kind_kept to p q z (kind.Pkcs8ShroudedKeyBag k) (kind.Pkcs8ShroudedKeyBag l) v = tt
 
-one_keeps : (p q z : List ℕ) (g h : SafeBag) (k l : SafeBagKind) (gs hs : List SafeBag) (us : List (List ℕ)) → g.bag ≡ k → h.bag ≡ l → KindLike p q z k l → SameSet SameAttribute h.attributes g.attributes
-    → ((ws : List (List ℕ)) → Each (KeyOpens p) (shrouded_among gs) ws → BagsKeep q gs hs ws) → Each (KeyOpens p) (shrouded_in k ++ shrouded_among gs) us → BagsKeep q (g ∷ gs) (h ∷ hs) us
-one_keeps p q z g h (kind.CertBag c) l gs hs us is il v s e o =
+one_keeps : (to : Kinds) (p q z : List ℕ) (g h : SafeBag) (k l : SafeBagKind) (gs hs : List SafeBag) (us : List (List ℕ)) → g.bag ≡ k → h.bag ≡ l → KindLike to p q z k l → SameSet SameAttribute h.attributes g.attributes
+    → ((ws : List (List ℕ)) → Each (KeyOpens p) (shrouded_among gs) ws → BagsKeep to q gs hs ws) → Each (KeyOpens p) (shrouded_in k ++ shrouded_among gs) us → BagsKeep to q (g ∷ gs) (h ∷ hs) us
+one_keeps to p q z g h (kind.CertBag c) l gs hs us is il v s e o =
     let m = e us o in
     let same : h.bag ≡ g.bag = il ∙ v.1 ∙ sym is in
     let none : shrouded_in h.bag ≡ [] = ap shrouded_in (il ∙ v.1) in
@@ -190,11 +195,11 @@ one_keeps p q z g h (kind.CertBag c) l gs hs us is il v s e o =
     record {
       keys = subst (λ (x : List EncryptedPrivateKeyInfo). Each (KeyOpens q) (x ++ shrouded_among hs) us) (sym none) m.keys;
       certificates = ap (λ (x : SafeBagKind). at_most_one (x509_of x) ++ certificates_among hs) same ∙ ap (λ x. at_most_one (x509_of g.bag) ++ x) m.certificates;
-      cost = subst (λ (x : List EncryptedPrivateKeyInfo). sum_by key_share (x ++ shrouded_among hs) ≤ sum_by key_share (shrouded_in g.bag ++ shrouded_among gs)) (sym none)
-          (subst (λ (x : List EncryptedPrivateKeyInfo). sum_by key_share (shrouded_among hs) ≤ sum_by key_share (x ++ shrouded_among gs)) (sym none_old) m.cost);
+      cost = subst (λ (x : List EncryptedPrivateKeyInfo). sum_by key_share (x ++ shrouded_among hs) ≤ sum_by (key_work to) (shrouded_in g.bag ++ shrouded_among gs)) (sym none)
+          (subst (λ (x : List EncryptedPrivateKeyInfo). sum_by key_share (shrouded_among hs) ≤ sum_by (key_work to) (x ++ shrouded_among gs)) (sym none_old) m.cost);
       kept = (record { attributes = s; value = subst (λ (x : SafeBagKind). KindKept x h.bag) (sym is) (il ∙ v.1) }, m.kept);
     }
-one_keeps p q z g h (kind.OtherBagKind c) l gs hs us is il v s e o =
+one_keeps to p q z g h (kind.OtherBagKind c) l gs hs us is il v s e o =
     let m = e us o in
     let same : h.bag ≡ g.bag = il ∙ v.1 ∙ sym is in
     let none : shrouded_in h.bag ≡ [] = ap shrouded_in (il ∙ v.1) in
@@ -202,55 +207,55 @@ one_keeps p q z g h (kind.OtherBagKind c) l gs hs us is il v s e o =
     record {
       keys = subst (λ (x : List EncryptedPrivateKeyInfo). Each (KeyOpens q) (x ++ shrouded_among hs) us) (sym none) m.keys;
       certificates = ap (λ (x : SafeBagKind). at_most_one (x509_of x) ++ certificates_among hs) same ∙ ap (λ x. at_most_one (x509_of g.bag) ++ x) m.certificates;
-      cost = subst (λ (x : List EncryptedPrivateKeyInfo). sum_by key_share (x ++ shrouded_among hs) ≤ sum_by key_share (shrouded_in g.bag ++ shrouded_among gs)) (sym none)
-          (subst (λ (x : List EncryptedPrivateKeyInfo). sum_by key_share (shrouded_among hs) ≤ sum_by key_share (x ++ shrouded_among gs)) (sym none_old) m.cost);
+      cost = subst (λ (x : List EncryptedPrivateKeyInfo). sum_by key_share (x ++ shrouded_among hs) ≤ sum_by (key_work to) (shrouded_in g.bag ++ shrouded_among gs)) (sym none)
+          (subst (λ (x : List EncryptedPrivateKeyInfo). sum_by key_share (shrouded_among hs) ≤ sum_by (key_work to) (x ++ shrouded_among gs)) (sym none_old) m.cost);
       kept = (record { attributes = s; value = subst (λ (x : SafeBagKind). KindKept x h.bag) (sym is) (il ∙ v.1) }, m.kept);
     }
-one_keeps p q z g h (kind.Pkcs8ShroudedKeyBag k) (kind.CertBag c) gs hs us is il v s e o = absurd v
-one_keeps p q z g h (kind.Pkcs8ShroudedKeyBag k) (kind.OtherBagKind c) gs hs us is il v s e o = absurd v
-one_keeps p q z g h (kind.Pkcs8ShroudedKeyBag k) (kind.Pkcs8ShroudedKeyBag l) gs hs [] is il v s e o = absurd o
-one_keeps p q z g h (kind.Pkcs8ShroudedKeyBag k) (kind.Pkcs8ShroudedKeyBag l) gs hs (u ∷ us) is il v s e o =
+one_keeps to p q z g h (kind.Pkcs8ShroudedKeyBag k) (kind.CertBag c) gs hs us is il v s e o = absurd v
+one_keeps to p q z g h (kind.Pkcs8ShroudedKeyBag k) (kind.OtherBagKind c) gs hs us is il v s e o = absurd v
+one_keeps to p q z g h (kind.Pkcs8ShroudedKeyBag k) (kind.Pkcs8ShroudedKeyBag l) gs hs [] is il v s e o = absurd o
+one_keeps to p q z g h (kind.Pkcs8ShroudedKeyBag k) (kind.Pkcs8ShroudedKeyBag l) gs hs (u ∷ us) is il v s e o =
     let m = e us o.1 in
     let new : shrouded_in h.bag ≡ l ∷ [] = ap shrouded_in il in
     let old : shrouded_in g.bag ≡ k ∷ [] = ap shrouded_in is in
-    let less : cost l.encryption_algorithm ≤ cost k.encryption_algorithm = cost_anew k.encryption_algorithm l.encryption_algorithm z (unlock_opened k.encryption_algorithm p k.encrypted_data u o.0.0).openable v.0 in
-    let all : sum_by key_share (l ∷ shrouded_among hs) ≤ sum_by key_share (k ∷ shrouded_among gs) = omega (arith, m.cost, less, sum_by-cons key_share l (shrouded_among hs), sum_by-cons key_share k (shrouded_among gs)) in
-    let keys : Each (KeyOpens q) (l ∷ shrouded_among hs) (u ∷ us) = (key_keeps p q z k l u v o.0, m.keys) in
+    let less : cost l.encryption_algorithm ≤ cost (kind_for to k.encryption_algorithm) = cost_anew to k.encryption_algorithm l.encryption_algorithm z (unlock_opened k.encryption_algorithm p k.encrypted_data u o.0.0).openable v.0 in
+    let all : sum_by key_share (l ∷ shrouded_among hs) ≤ sum_by (key_work to) (k ∷ shrouded_among gs) = omega (arith, m.cost, less, sum_by-cons key_share l (shrouded_among hs), sum_by-cons (key_work to) k (shrouded_among gs)) in
+    let keys : Each (KeyOpens q) (l ∷ shrouded_among hs) (u ∷ us) = (key_keeps to p q z k l u v o.0, m.keys) in
     record {
       keys = subst (λ (x : List EncryptedPrivateKeyInfo). Each (KeyOpens q) (x ++ shrouded_among hs) (u ∷ us)) (sym new) keys;
       certificates = ap (λ (x : SafeBagKind). at_most_one (x509_of x) ++ certificates_among hs) il ∙ m.certificates ∙ sym (ap (λ (x : SafeBagKind). at_most_one (x509_of x) ++ certificates_among gs) is);
-      cost = subst (λ (x : List EncryptedPrivateKeyInfo). sum_by key_share (x ++ shrouded_among hs) ≤ sum_by key_share (shrouded_in g.bag ++ shrouded_among gs)) (sym new)
-          (subst (λ (x : List EncryptedPrivateKeyInfo). sum_by key_share (l ∷ shrouded_among hs) ≤ sum_by key_share (x ++ shrouded_among gs)) (sym old) all);
+      cost = subst (λ (x : List EncryptedPrivateKeyInfo). sum_by key_share (x ++ shrouded_among hs) ≤ sum_by (key_work to) (shrouded_in g.bag ++ shrouded_among gs)) (sym new)
+          (subst (λ (x : List EncryptedPrivateKeyInfo). sum_by key_share (l ∷ shrouded_among hs) ≤ sum_by (key_work to) (x ++ shrouded_among gs)) (sym old) all);
       kept = (record { attributes = s; value = subst (λ (x : SafeBagKind). KindKept x h.bag) (sym is) (subst (λ (x : SafeBagKind). KindKept (kind.Pkcs8ShroudedKeyBag k) x) (sym il) tt) }, m.kept);
     }
 
-bags_keep : (p q : List ℕ) (gs hs : List SafeBag) (d : List ℕ) (us : List (List ℕ)) → EachDrawn (BagLike p q) gs hs d → Each (KeyOpens p) (shrouded_among gs) us → BagsKeep q gs hs us
-bags_keep p q [] [] d us e o = record { keys = o; certificates = refl; cost = omega arith; kept = tt }
-bags_keep p q [] (h ∷ hs) d us e o = absurd e
-bags_keep p q (g ∷ gs) [] d us e o = absurd e
-bags_keep p q (g ∷ gs) (h ∷ hs) d us (z, rest, f, b, e) o = one_keeps p q z g h g.bag h.bag gs hs us refl refl b.value b.attributes (λ ws r. bags_keep p q gs hs rest ws e r) o
+bags_keep : (to : Kinds) (p q : List ℕ) (gs hs : List SafeBag) (d : List ℕ) (us : List (List ℕ)) → EachDrawn (BagLike to p q) gs hs d → Each (KeyOpens p) (shrouded_among gs) us → BagsKeep to q gs hs us
+bags_keep to p q [] [] d us e o = record { keys = o; certificates = refl; cost = omega arith; kept = tt }
+bags_keep to p q [] (h ∷ hs) d us e o = absurd e
+bags_keep to p q (g ∷ gs) [] d us e o = absurd e
+bags_keep to p q (g ∷ gs) (h ∷ hs) d us (z, rest, f, b, e) o = one_keeps to p q z g h g.bag h.bag gs hs us refl refl b.value b.attributes (λ ws r. bags_keep to p q gs hs rest ws e r) o
 
 -- ---- contents that are like others
 
-record PartsKeep (q : List ℕ) (cs es : List ContentInfo) (gss : List (List SafeBag)) (us : List (List ℕ)) : Type 0 where
+record PartsKeep (to : Kinds) (q : List ℕ) (cs es : List ContentInfo) (gss : List (List SafeBag)) (us : List (List ℕ)) : Type 0 where
   pub bags : List (List SafeBag)
   pub holds : Each (HoldsBags q) es bags
   pub keys : Each (KeyOpens q) (all_shrouded bags) us
   pub certificates : all_certificates bags ≡ all_certificates gss
-  pub share : sum_by content_share es ≤ sum_by content_share cs
-  pub cost : sum_by key_share (all_shrouded bags) ≤ sum_by key_share (all_shrouded gss)
+  pub share : sum_by content_share es ≤ sum_by (content_work to) cs
+  pub cost : sum_by key_share (all_shrouded bags) ≤ sum_by (key_work to) (all_shrouded gss)
   pub kept : Each (Each BagKept) gss bags
 
-share_keeps : (p q d : List ℕ) (c e : ContentInfo) → ContentLike p q d c e → content_share e ≤ content_share c
-share_keeps p q d (content.Data v) (content.Data w) l = omega arith
-share_keeps p q d (content.EncryptedData v) (content.EncryptedData w) l =
+share_keeps : (to : Kinds) (p q d : List ℕ) (c e : ContentInfo) → ContentLike to p q d c e → content_share e ≤ content_work to c
+share_keeps to p q d (content.Data v) (content.Data w) l = omega arith
+share_keeps to p q d (content.EncryptedData v) (content.EncryptedData w) l =
     let i = v.encrypted_content_info in
-    cost_anew i.content_encryption_algorithm w.encrypted_content_info.content_encryption_algorithm l.own (unlock_opened i.content_encryption_algorithm p i.encrypted_content l.holds.0 l.holds.1).openable l.form
-share_keeps p q d (content.Data v) (content.EncryptedData w) l = absurd l.form
-share_keeps p q d (content.Data v) (content.OtherContext o) l = absurd l.form
-share_keeps p q d (content.EncryptedData v) (content.Data w) l = absurd l.form
-share_keeps p q d (content.EncryptedData v) (content.OtherContext o) l = absurd l.form
-share_keeps p q d (content.OtherContext o) e l = absurd l.form
+    cost_anew to i.content_encryption_algorithm w.encrypted_content_info.content_encryption_algorithm l.own (unlock_opened i.content_encryption_algorithm p i.encrypted_content l.holds.0 l.holds.1).openable l.form
+share_keeps to p q d (content.Data v) (content.EncryptedData w) l = absurd l.form
+share_keeps to p q d (content.Data v) (content.OtherContext o) l = absurd l.form
+share_keeps to p q d (content.EncryptedData v) (content.Data w) l = absurd l.form
+share_keeps to p q d (content.EncryptedData v) (content.OtherContext o) l = absurd l.form
+share_keeps to p q d (content.OtherContext o) e l = absurd l.form
 
 record Halves {A B : Type 0} (R : A → B → Type 0) (xs ys : List A) (zs : List B) : Type 0 where
   front : List B
@@ -272,42 +277,36 @@ whole R [] ys (u ∷ us) vs e f = absurd e
 whole R (x ∷ xs) ys [] vs e f = absurd e
 whole R (x ∷ xs) ys (u ∷ us) vs e f = (e.0, whole R xs ys us vs e.1 f)
 
-parts_keep : (p q : List ℕ) (cs es : List ContentInfo) (gss : List (List SafeBag)) (d : List ℕ) (us : List (List ℕ)) → EachDrawn (ContentLike p q) cs es d → Each (HoldsBags p) cs gss
-    → Each (KeyOpens p) (all_shrouded gss) us → PartsKeep q cs es gss us
-parts_keep p q [] [] [] d us e h o = record { bags = []; holds = tt; keys = o; certificates = refl; share = omega arith; cost = omega arith; kept = tt }
-parts_keep p q [] [] (gs ∷ gss) d us e h o = absurd h
-parts_keep p q [] (x ∷ es) gss d us e h o = absurd e
-parts_keep p q (c ∷ cs) [] gss d us e h o = absurd e
-parts_keep p q (c ∷ cs) (x ∷ es) [] d us e h o = absurd h
-parts_keep p q (c ∷ cs) (x ∷ es) (gs ∷ gss) d us (z, rest, f, l, e) h o =
+parts_keep : (to : Kinds) (p q : List ℕ) (cs es : List ContentInfo) (gss : List (List SafeBag)) (d : List ℕ) (us : List (List ℕ)) → EachDrawn (ContentLike to p q) cs es d → Each (HoldsBags p) cs gss
+    → Each (KeyOpens p) (all_shrouded gss) us → PartsKeep to q cs es gss us
+parts_keep to p q [] [] [] d us e h o = record { bags = []; holds = tt; keys = o; certificates = refl; share = omega arith; cost = omega arith; kept = tt }
+parts_keep to p q [] [] (gs ∷ gss) d us e h o = absurd h
+parts_keep to p q [] (x ∷ es) gss d us e h o = absurd e
+parts_keep to p q (c ∷ cs) [] gss d us e h o = absurd e
+parts_keep to p q (c ∷ cs) (x ∷ es) [] d us e h o = absurd h
+parts_keep to p q (c ∷ cs) (x ∷ es) (gs ∷ gss) d us (z, rest, f, l, e) h o =
     let k = halves (KeyOpens p) (shrouded_among gs) (all_shrouded gss) us o in
     let same : l.bags ≡ gs = holds_sole p c l.bags gs l.holds h.0 in
-    let b = bags_keep p q gs l.bags_anew l.of_keys k.front (subst (λ (g : List SafeBag). EachDrawn (BagLike p q) g l.bags_anew l.of_keys) same l.like) k.first in
-    let m = parts_keep p q cs es gss rest k.back e h.1 k.second in
-    let one : content_share x ≤ content_share c = share_keeps p q z c x l in
+    let b = bags_keep to p q gs l.bags_anew l.of_keys k.front (subst (λ (g : List SafeBag). EachDrawn (BagLike to p q) g l.bags_anew l.of_keys) same l.like) k.first in
+    let m = parts_keep to p q cs es gss rest k.back e h.1 k.second in
+    let one : content_share x ≤ content_work to c = share_keeps to p q z c x l in
     record {
       bags = l.bags_anew ∷ m.bags;
       holds = (l.holds_anew, m.holds);
       keys = subst (λ (t : List (List ℕ)). Each (KeyOpens q) (shrouded_among l.bags_anew ++ all_shrouded m.bags) t) (sym k.are) (whole (KeyOpens q) (shrouded_among l.bags_anew) (all_shrouded m.bags) k.front k.back b.keys m.keys);
       certificates = ap (λ t. t ++ all_certificates m.bags) b.certificates ∙ ap (λ t. certificates_among gs ++ t) m.certificates;
-      share = omega (arith, one, m.share, sum_by-cons content_share x es, sum_by-cons content_share c cs);
-      cost = omega (arith, b.cost, m.cost, sum_by-append key_share (shrouded_among l.bags_anew) (all_shrouded m.bags), sum_by-append key_share (shrouded_among gs) (all_shrouded gss));
+      share = omega (arith, one, m.share, sum_by-cons content_share x es, sum_by-cons (content_work to) c cs);
+      cost = omega (arith, b.cost, m.cost, sum_by-append key_share (shrouded_among l.bags_anew) (all_shrouded m.bags), sum_by-append (key_work to) (shrouded_among gs) (all_shrouded gss));
       kept = (b.kept, m.kept);
     }
 
 -- ---- stores
 
-data_is : (v w : List ℕ) → content.Data v ≡ content.Data w → v ≡ w
-data_is v w e = cc
-
-mac_is : (m n : MacData) → Some m ≡ Some n → m ≡ n
-mac_is m n e = cc
-
-pub change_keeps : (b p q c d : List ℕ) → length c ≤ store_limit → Changes b p c q d → IsKept b p c q
-change_keeps b p q c d short ch = record { keeps = keeps }
+pub change_keeps_to : (to : Kinds) (b p q c d : List ℕ) → length c ≤ store_limit → ChangesTo to b p c q d → IsKeptTo to b p c q
+change_keeps_to to b p q c d short ch = record { keeps = keeps }
   where
-    keeps : (gss : List (List SafeBag)) (ks : List (List ℕ)) (n : ℕ) → StoreOpens b p gss ks n
-        → (hss : List (List SafeBag)) × (m : ℕ) × StoreOpens c q hss ks m × (m ≤ n) × (all_certificates hss ≡ all_certificates gss) × Each (Each BagKept) gss hss
+    keeps : (gss : List (List SafeBag)) (ks : List (List ℕ)) (n : ℕ) → (o : StoreOpens b p gss ks n)
+        → (hss : List (List SafeBag)) × (m : ℕ) × StoreOpens c q hss ks m × (m ≤ work_to to o.mac o.parts gss) × (all_certificates hss ≡ all_certificates gss) × Each (Each BagKept) gss hss
     keeps gss ks n o =
         let x = ch.changed in
         let store : o.store ≡ ch.store = store_sole b o.store ch.store o.is ch.is in
@@ -315,7 +314,7 @@ change_keeps b p q c d short ch = record { keeps = keeps }
         let mac : o.mac ≡ x.mac = mac_is o.mac x.mac (sym o.has ∙ ap (λ (s : PFX). s.mac_data) store ∙ x.has_mac) in
         let parts : o.parts ≡ x.parts = contents_sole x.text o.parts x.parts (subst (λ (t : List ℕ). IsContents t o.parts) text o.opening.contents) x.lists in
         let bags : Each (HoldsBags p) x.parts gss = subst (λ (t : List ContentInfo). Each (HoldsBags p) t gss) parts o.opening.bags in
-        let k = parts_keep p q x.parts x.parts_anew gss x.of_parts ks x.like bags o.opening.keys in
+        let k = parts_keep to p q x.parts x.parts_anew gss x.of_parts ks x.like bags o.opening.keys in
         let made : StoreOpens c q k.bags ks (work x.mac_anew x.parts_anew k.bags) = record {
           short = short;
           store = ch.store_anew;
@@ -329,9 +328,27 @@ change_keeps b p q c d short ch = record { keeps = keeps }
           opening = record { contents = x.lists_anew; bags = k.holds; keys = k.keys };
           work = refl;
         } in
-        let rounds : x.mac_anew.iterations ≡ o.mac.iterations = x.count ∙ sym (ap (λ (m : MacData). m.iterations) mac) in
-        let shares : sum_by content_share o.parts ≡ sum_by content_share x.parts = ap (sum_by content_share) parts in
-        (k.bags, work x.mac_anew x.parts_anew k.bags, made, omega (arith, o.work, rounds, shares, k.share, k.cost), k.certificates, k.kept)
+        let rounds : x.mac_anew.iterations ≡ count_for to o.mac = x.count ∙ sym (ap (count_for to) mac) in
+        let shares : sum_by (content_work to) o.parts ≡ sum_by (content_work to) x.parts = ap (sum_by (content_work to)) parts in
+        (k.bags, work x.mac_anew x.parts_anew k.bags, made, omega (arith, rounds, shares, k.share, k.cost), k.certificates, k.kept)
+
+-- where each part keeps its kind, no more than before
+content_kept : (c : ContentInfo) → content_work Kept c ≡ content_share c
+content_kept (content.Data v) = refl
+content_kept (content.EncryptedData d) = refl
+content_kept (content.OtherContext o) = refl
+
+contents_kept : (cs : List ContentInfo) → sum_by (content_work Kept) cs ≡ sum_by content_share cs
+contents_kept [] = refl
+contents_kept (c ∷ cs) = omega (arith, content_kept c, contents_kept cs, sum_by-cons (content_work Kept) c cs, sum_by-cons content_share c cs)
+
+pub change_keeps : (b p q c d : List ℕ) → length c ≤ store_limit → Changes b p c q d → IsKept b p c q
+change_keeps b p q c d short ch = record {
+  keeps = λ gss ks n o. (
+      let k = (change_keeps_to Kept b p q c d short ch).keeps gss ks n o in
+      (k.0, k.1, k.2, omega (arith, k.3, o.work, contents_kept o.parts), k.4, k.5)
+      );
+}
 
 all_refl : (gss : List (List SafeBag)) → Each (Each BagKept) gss gss
 all_refl gss = each-refl (Each BagKept) (λ gs. each-refl BagKept kept_refl gs) gss

@@ -19,26 +19,29 @@ use Rattle.p12.specs.declared.pfx.PFX.{PFX}
 use Rattle.p12.specs.declared.safe_bag.SafeBag.{SafeBag}
 use Rattle.p12.specs.declared.safe_bag.SafeBagKind.{SafeBagKind}
 use Rattle.pkcs12_kdf.specs.Password.{bmp_password}
-use Rattle.rekey_core.specs.Change.{Changes}
+use Rattle.rekey_core.specs.Change.{ChangesTo}
 use Rattle.rekey_core.specs.Like.{BagLike, ContentLike, KindLike}
 use Rattle.rekey_core.specs.Resealing.{EachDrawn}
 use Rattle.rekey_core.specs.Making.{store_anew}
 use Rattle.rekey_core.specs.Sealing.{BagSealed, ContentSealed}
 use Rattle.rekey_core.proofs.Texts.{bags_sealed, contents_list, store_text}
+use Rattle.rekey_core.specs.Kinds.{count_for, digest_for, mac_salt}
+use Rattle.rekey_core.specs.declared.kinds.Kinds.{Kinds}
+use Rattle.rekey_core.proofs.KindFacts.{count_some, digest_known}
 
-bag_like : (p q z : List ℕ) (g h u : SafeBag) → BagSealed p q z g h → SameBag u h → BagLike p q z g u
-bag_like p q z g h u b s = record {
+bag_like : (to : Kinds) (p q z : List ℕ) (g h u : SafeBag) → BagSealed to p q z g h → SameBag u h → BagLike to p q z g u
+bag_like to p q z g h u b s = record {
   attributes = subst (λ (vs : List PKCS12Attribute). SameSet SameAttribute u.attributes vs) b.attributes s.1;
-  value = subst (λ (l : SafeBagKind). KindLike p q z g.bag l) (sym s.0) b.value;
+  value = subst (λ (l : SafeBagKind). KindLike to p q z g.bag l) (sym s.0) b.value;
 }
 
-bags_like : (p q : List ℕ) (gs hs us : List SafeBag) (d : List ℕ) → EachDrawn (BagSealed p q) gs hs d → Each SameBag us hs → EachDrawn (BagLike p q) gs us d
-bags_like p q [] [] [] d s e = s
-bags_like p q [] [] (u ∷ us) d s e = absurd e
-bags_like p q [] (h ∷ hs) us d s e = absurd s
-bags_like p q (g ∷ gs) [] us d s e = absurd s
-bags_like p q (g ∷ gs) (h ∷ hs) [] d s e = absurd e
-bags_like p q (g ∷ gs) (h ∷ hs) (u ∷ us) d (z, rest, f, b, s) e = (z, rest, f, bag_like p q z g h u b e.0, bags_like p q gs hs us rest s e.1)
+bags_like : (to : Kinds) (p q : List ℕ) (gs hs us : List SafeBag) (d : List ℕ) → EachDrawn (BagSealed to p q) gs hs d → Each SameBag us hs → EachDrawn (BagLike to p q) gs us d
+bags_like to p q [] [] [] d s e = s
+bags_like to p q [] [] (u ∷ us) d s e = absurd e
+bags_like to p q [] (h ∷ hs) us d s e = absurd s
+bags_like to p q (g ∷ gs) [] us d s e = absurd s
+bags_like to p q (g ∷ gs) (h ∷ hs) [] d s e = absurd e
+bags_like to p q (g ∷ gs) (h ∷ hs) (u ∷ us) d (z, rest, f, b, s) e = (z, rest, f, bag_like to p q z g h u b e.0, bags_like to p q gs hs us rest s e.1)
 
 read_back : (hs : List SafeBag) → IsRead (Many BagText) hs → IsShort (bags_canon hs) → (us : List SafeBag) × IsBags (bags_canon hs) us × Each SameBag us hs
 unfolding IsBags
@@ -48,10 +51,10 @@ many_of : (m : List ℕ) (gs : List SafeBag) → IsBags m gs → IsRead (Many Ba
 unfolding IsBags
 many_of m gs ((w, r, e), short) = (w, r)
 
-pub content_like : (p q d : List ℕ) (c e : ContentInfo) → ContentSealed p q d c e → ContentLike p q d c e
-content_like p q d c e s =
+pub content_like : (to : Kinds) (p q d : List ℕ) (c e : ContentInfo) → ContentSealed to p q d c e → ContentLike to p q d c e
+content_like to p q d c e s =
     let held = many_of s.holds.0 s.bags s.holds.2 in
-    let read = bags_sealed p q s.bags s.bags_anew s.of_keys held.0 s.sealed held.1 in
+    let read = bags_sealed to p q s.bags s.bags_anew s.of_keys held.0 s.sealed held.1 in
     let back = read_back s.bags_anew read s.short in
     record {
       own = s.own;
@@ -62,26 +65,26 @@ content_like p q d c e s =
       bags_anew = back.0;
       holds = s.holds;
       holds_anew = (bags_canon s.bags_anew, s.opens, back.1);
-      like = bags_like p q s.bags s.bags_anew back.0 s.of_keys s.sealed back.2;
+      like = bags_like to p q s.bags s.bags_anew back.0 s.of_keys s.sealed back.2;
       canonical = s.opens ∙ ap (λ (t : List ℕ). Some t) (sym (bags_once back.0 s.bags_anew back.2));
     }
 
-pub contents_like : (p q : List ℕ) (cs es : List ContentInfo) (d : List ℕ) → EachDrawn (ContentSealed p q) cs es d → EachDrawn (ContentLike p q) cs es d
-contents_like p q [] [] d s = s
-contents_like p q [] (e ∷ es) d s = absurd s
-contents_like p q (c ∷ cs) [] d s = absurd s
-contents_like p q (c ∷ cs) (e ∷ es) d (z, rest, f, b, s) = (z, rest, f, content_like p q z c e b, contents_like p q cs es rest s)
+pub contents_like : (to : Kinds) (p q : List ℕ) (cs es : List ContentInfo) (d : List ℕ) → EachDrawn (ContentSealed to p q) cs es d → EachDrawn (ContentLike to p q) cs es d
+contents_like to p q [] [] d s = s
+contents_like to p q [] (e ∷ es) d s = absurd s
+contents_like to p q (c ∷ cs) [] d s = absurd s
+contents_like to p q (c ∷ cs) (e ∷ es) d (z, rest, f, b, s) = (z, rest, f, content_like to p q z c e b, contents_like to p q cs es rest s)
 
 -- The store that is made of contents that are sealed anew is a change.
-pub store_changes : (b v p q : List ℕ) (s : PFX) (m : MacData) (cs es : List ContentInfo) (d salt : List ℕ) → IsStore b s → s.auth_safe ≡ content.Data v → s.mac_data ≡ Some m
-    → is_mac_digest m.mac.digest_algorithm ≡ true → 1 ≤ m.iterations → IsContents v cs → EachDrawn (ContentSealed p q) cs es d → length salt ≡ 8
-    → IsShort (contents_canon es) → IsShort (store_canon (store_anew s.version m q salt es)) → Changes b p (store_canon (store_anew s.version m q salt es)) q (d ++ salt)
+pub store_changes : (to : Kinds) (b v p q : List ℕ) (s : PFX) (m : MacData) (cs es : List ContentInfo) (d salt : List ℕ) → IsStore b s → s.auth_safe ≡ content.Data v → s.mac_data ≡ Some m
+    → is_mac_digest m.mac.digest_algorithm ≡ true → 1 ≤ m.iterations → IsContents v cs → EachDrawn (ContentSealed to p q) cs es d → length salt ≡ mac_salt to
+    → IsShort (contents_canon es) → IsShort (store_canon (store_anew to s.version m q salt es)) → ChangesTo to b p (store_canon (store_anew to s.version m q salt es)) q (d ++ salt)
 unfolding mac_of
-store_changes b v p q s m cs es d salt is plain has known rounds lists sealed long short short_store = record {
+store_changes to b v p q s m cs es d salt is plain has known rounds lists sealed long short short_store = record {
   store = s;
-  store_anew = store_anew s.version m q salt es;
+  store_anew = store_anew to s.version m q salt es;
   is = is;
-  is_anew = store_text b v s m q salt es is plain has short_store;
+  is_anew = store_text to b v s m q salt es is plain has short_store;
   canonical = refl;
   changed = record {
     version = refl;
@@ -90,20 +93,24 @@ store_changes b v p q s m cs es d salt is plain has known rounds lists sealed lo
     is_data = plain;
     is_data_anew = refl;
     mac = m;
-    mac_anew = mac_of m.mac.digest_algorithm (bmp_password q) (contents_canon es) salt m.iterations;
+    mac_anew = mac_of (digest_for to m) (bmp_password q) (contents_canon es) salt (count_for to m);
     has_mac = has;
     has_mac_anew = refl;
     digest = refl;
     count = refl;
-    agrees = record { known = known; some_rounds = rounds; agrees = mac_of_agrees m.mac.digest_algorithm (bmp_password q) (contents_canon es) salt m.iterations known rounds };
+    agrees = record {
+      known = digest_known to m known;
+      some_rounds = count_some to m rounds;
+      agrees = mac_of_agrees (digest_for to m) (bmp_password q) (contents_canon es) salt (count_for to m) (digest_known to m known) (count_some to m rounds);
+    };
     parts = cs;
     parts_anew = es;
     lists = lists;
-    lists_anew = contents_list p q v cs es d lists sealed short;
+    lists_anew = contents_list to p q v cs es d lists sealed short;
     canonical = refl;
     of_parts = d;
     order = refl;
-    of_8 = long;
-    like = contents_like p q cs es d sealed;
+    salt_drawn = long;
+    like = contents_like to p q cs es d sealed;
   };
 }

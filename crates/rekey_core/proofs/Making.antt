@@ -36,6 +36,8 @@ use Rattle.rekey_core.specs.Size.{blank_contents, changed_size}
 use Rattle.rekey_core.proofs.Sizes.{contents_in, store_size}
 use Rattle.rekey_core.proofs.Supplying.{all_keys, long_map}
 use Rattle.rekey_core.proofs.Texts.{contents_many}
+use Rattle.rekey_core.specs.Kinds.{mac_salt}
+use Rattle.rekey_core.specs.declared.kinds.Kinds.{Kinds}
 
 pub supply_of : (p : List ℕ) (cs : List ContentInfo) (gss : List (List SafeBag)) (keys : List (List ℕ)) → HeldOpen p cs gss keys → SuppliesAll p gss keys []
 supply_of p cs gss keys h = record { front = keys; splits = sym (append-nil keys); are_opened = h.are_opened }
@@ -43,11 +45,11 @@ supply_of p cs gss keys h = record { front = keys; splits = sym (append-nil keys
 pub supplied : (cs : List ContentInfo) (gss : List (List SafeBag)) (keys : List (List ℕ)) → (p : List ℕ) × HeldOpen p cs gss keys → (p : List ℕ) × (more : List (List ℕ)) × Each (HoldsBags p) cs gss × SuppliesAll p gss keys more
 supplied cs gss keys (p, h) = (p, [], h.bags, supply_of p cs gss keys h)
 
-pub room_of : (cs : List ContentInfo) (gss : List (List SafeBag)) (drawn : List ℕ) → length drawn ≡ change_draws cs gss → sum_by content_draws cs + sum_by bags_draw gss ≤ length drawn
-room_of cs gss drawn e = omega (arith, e, all_keys gss)
+pub room_of : (to : Kinds) (cs : List ContentInfo) (gss : List (List SafeBag)) (drawn : List ℕ) → length drawn ≡ change_draws to cs gss → sum_by (content_draws to) cs + sum_by (bags_draw to) gss ≤ length drawn
+room_of to cs gss drawn e = omega (arith, e, all_keys to gss)
 
-pub salt_left : (cs : List ContentInfo) (gss : List (List SafeBag)) (drawn rest : List ℕ) → length drawn ≡ change_draws cs gss → length drawn ≡ sum_by content_draws cs + sum_by bags_draw gss + length rest → length rest ≡ 8
-salt_left cs gss drawn rest e u = omega (arith, e, u, all_keys gss)
+pub salt_left : (to : Kinds) (cs : List ContentInfo) (gss : List (List SafeBag)) (drawn rest : List ℕ) → length drawn ≡ change_draws to cs gss → length drawn ≡ sum_by (content_draws to) cs + sum_by (bags_draw to) gss + length rest → length rest ≡ mac_salt to
+salt_left to cs gss drawn rest e u = omega (arith, e, u, all_keys to gss)
 
 write_all : (t : List ℕ) (es : List ContentInfo) → Many ContentText t es → All WritableContent es
 write_all t [] m = All-nil WritableContent
@@ -57,43 +59,43 @@ many_of : (v : List ℕ) (cs : List ContentInfo) → IsContents v cs → IsRead 
 unfolding IsContents
 many_of v cs ((w, m, e), short) = (w, m)
 
-pub contents_write : (v p q : List ℕ) (cs es : List ContentInfo) (drawn rest : List ℕ) → IsContents v cs → ContentsSealed p q cs drawn rest es → All WritableContent es
-contents_write v p q cs es drawn rest is s = let m = many_of v cs is in write_all _ es (contents_many p q cs es s.took m.0 s.sealed m.1)
+pub contents_write : (to : Kinds) (v p q : List ℕ) (cs es : List ContentInfo) (drawn rest : List ℕ) → IsContents v cs → ContentsSealed to p q cs drawn rest es → All WritableContent es
+contents_write to v p q cs es drawn rest is s = let m = many_of v cs is in write_all _ es (contents_many to p q cs es s.took m.0 s.sealed m.1)
 
-all_of_it : (rest salt more : List ℕ) → rest ≡ salt ++ more → length rest ≡ 8 → length salt ≡ 8 → rest ≡ salt
-all_of_it rest salt more e l k = e ∙ ap (λ t. salt ++ t) (none more (omega (arith, ap length e, length-append salt more, l, k))) ∙ append-nil salt
+all_of_it : (n : ℕ) (rest salt more : List ℕ) → rest ≡ salt ++ more → length rest ≡ n → length salt ≡ n → rest ≡ salt
+all_of_it n rest salt more e l k = e ∙ ap (λ t. salt ++ t) (none more (omega (arith, ap length e, length-append salt more, l, k))) ∙ append-nil salt
   where
     none : (t : List ℕ) → length t ≡ 0 → t ≡ []
     none [] h = refl
     none (x ∷ t) h = absurd (omega (arith, h))
 
-pub text_sealed : (p q : List ℕ) (version : ℕ) (m : MacData) (cs es : List ContentInfo) (gss : List (List SafeBag)) (keys : List (List ℕ)) (drawn rest salt more b : List ℕ)
-    → ((p : List ℕ) (k : List (List ℕ)) → Each (HoldsBags p) cs gss → SuppliesAll p gss keys k → ContentsSealed p q cs drawn rest es) → length rest ≡ 8 → rest ≡ salt ++ more → length salt ≡ 8
-    → (b ≡ store_canon (store_anew version m q salt es)) × (length b ≤ store_limit) → HeldOpen p cs gss keys → TextSealed p q version m cs drawn b
-text_sealed p q version m cs es gss keys drawn rest salt more b all left e long is h =
+pub text_sealed : (to : Kinds) (p q : List ℕ) (version : ℕ) (m : MacData) (cs es : List ContentInfo) (gss : List (List SafeBag)) (keys : List (List ℕ)) (drawn rest salt more b : List ℕ)
+    → ((p : List ℕ) (k : List (List ℕ)) → Each (HoldsBags p) cs gss → SuppliesAll p gss keys k → ContentsSealed to p q cs drawn rest es) → length rest ≡ mac_salt to → rest ≡ salt ++ more → length salt ≡ mac_salt to
+    → (b ≡ store_canon (store_anew to version m q salt es)) × (length b ≤ store_limit) → HeldOpen p cs gss keys → TextSealed to p q version m cs drawn b
+text_sealed to p q version m cs es gss keys drawn rest salt more b all left e long is h =
     let s = all p [] h.bags (supply_of p cs gss keys h) in
     record {
       contents = es;
       taken = s.took;
       salt = salt;
-      order = s.splits ∙ ap (λ t. s.took ++ t) (all_of_it rest salt more e left long);
-      of_8 = long;
+      order = s.splits ∙ ap (λ t. s.took ++ t) (all_of_it (mac_salt to) rest salt more e left long);
+      salt_drawn = long;
       sealed = s.sealed;
       is = is.0;
       short = is.1;
     }
 
-pub long_contents : (version : ℕ) (m : MacData) (cs : List ContentInfo) (gss : List (List SafeBag)) (keys : List (List ℕ)) (f : TransferError)
-    → LongOnly ((p : List ℕ) (more : List (List ℕ)) → Each (HoldsBags p) cs gss → SuppliesAll p gss keys more → 2 ^ 32 ≤ length (contents_canon (blank_contents p cs gss))) f
-    → LongOnly ((p : List ℕ) → HeldOpen p cs gss keys → store_limit < changed_size version m p cs gss) f
-long_contents version m cs gss keys f h = long_map _ _ f (λ all p o. omega (arith, all p [] o.bags (supply_of p cs gss keys o), contents_in version m p cs gss)) h
+pub long_contents : (to : Kinds) (version : ℕ) (m : MacData) (cs : List ContentInfo) (gss : List (List SafeBag)) (keys : List (List ℕ)) (f : TransferError)
+    → LongOnly ((p : List ℕ) (more : List (List ℕ)) → Each (HoldsBags p) cs gss → SuppliesAll p gss keys more → 2 ^ 32 ≤ length (contents_canon (blank_contents to p cs gss))) f
+    → LongOnly ((p : List ℕ) → HeldOpen p cs gss keys → store_limit < changed_size to version m p cs gss) f
+long_contents to version m cs gss keys f h = long_map _ _ f (λ all p o. omega (arith, all p [] o.bags (supply_of p cs gss keys o), contents_in to version m p cs gss)) h
 
-pub long_store : (q : List ℕ) (version : ℕ) (m : MacData) (cs es : List ContentInfo) (gss : List (List SafeBag)) (keys : List (List ℕ)) (drawn rest salt : List ℕ) (f : TransferError)
-    → ((p : List ℕ) (k : List (List ℕ)) → Each (HoldsBags p) cs gss → SuppliesAll p gss keys k → ContentsSealed p q cs drawn rest es) → length salt ≡ 8 → is_mac_digest m.mac.digest_algorithm ≡ true
-    → LongOnly (store_limit < length (store_canon (store_anew version m q salt es))) f → LongOnly ((p : List ℕ) → HeldOpen p cs gss keys → store_limit < changed_size version m p cs gss) f
-long_store q version m cs es gss keys drawn rest salt f all long known h = long_map _ _ f (λ l p o. (
+pub long_store : (to : Kinds) (q : List ℕ) (version : ℕ) (m : MacData) (cs es : List ContentInfo) (gss : List (List SafeBag)) (keys : List (List ℕ)) (drawn rest salt : List ℕ) (f : TransferError)
+    → ((p : List ℕ) (k : List (List ℕ)) → Each (HoldsBags p) cs gss → SuppliesAll p gss keys k → ContentsSealed to p q cs drawn rest es) → length salt ≡ mac_salt to → is_mac_digest m.mac.digest_algorithm ≡ true
+    → LongOnly (store_limit < length (store_canon (store_anew to version m q salt es))) f → LongOnly ((p : List ℕ) → HeldOpen p cs gss keys → store_limit < changed_size to version m p cs gss) f
+long_store to q version m cs es gss keys drawn rest salt f all long known h = long_map _ _ f (λ l p o. (
     let s = all p [] o.bags (supply_of p cs gss keys o) in
-    omega (arith, l, store_size p q version m cs es gss s.took salt known s.sealed o.bags long)
+    omega (arith, l, store_size to p q version m cs es gss s.took salt known s.sealed o.bags long)
     )) h
 
 -- ---- the parts around the contents

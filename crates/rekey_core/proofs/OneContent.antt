@@ -20,14 +20,16 @@ use Rattle.rekey_core.specs.Size.{blank_content, blank_text, sealed_size}
 use Rattle.rekey_core.proofs.Sizes.{bags_same, plain_in, sealed_in, text_in_sealed}
 use Rattle.rekey_core.proofs.Supplying.{long_map}
 use Rattle.rekey_core.proofs.Texts.{bags_sealed, bags_write}
+use Rattle.rekey_core.specs.Kinds.{kind_for}
+use Rattle.rekey_core.specs.declared.kinds.Kinds.{Kinds}
 
 -- what is asked of a content that is sealed anew
 abbrev pub Asked : ContentInfo → List SafeBag → List (List ℕ) → Type 0
 Asked c gs keys = (p : List ℕ) × (more : List (List ℕ)) × HoldsBags p c gs × Supplies p gs keys more
 
 -- what is said of its bags, that were sealed
-abbrev pub Said : List ℕ → List SafeBag → List (List ℕ) → List (List ℕ) → List ℕ → List ℕ → List SafeBag → Type 0
-Said q gs keys keys_after drawn drawn_after hs = (p : List ℕ) (more : List (List ℕ)) → Supplies p gs keys more → (keys_after ≡ more) × BagsSealed p q gs drawn drawn_after hs
+abbrev pub Said : Kinds → List ℕ → List SafeBag → List (List ℕ) → List (List ℕ) → List ℕ → List ℕ → List SafeBag → Type 0
+Said to q gs keys keys_after drawn drawn_after hs = (p : List ℕ) (more : List (List ℕ)) → Supplies p gs keys more → (keys_after ≡ more) × BagsSealed to p q gs drawn drawn_after hs
 
 pub asked_bags : (c : ContentInfo) (gs : List SafeBag) (keys now : List (List ℕ)) → now ≡ keys → Asked c gs keys → (p : List ℕ) × (more : List (List ℕ)) × Supplies p gs now more
 asked_bags c gs keys now e (p, more, h, s) = (p, more, subst (λ (k : List (List ℕ)). Supplies p gs k more) (sym e) s)
@@ -36,11 +38,11 @@ many_of : (m : List ℕ) (gs : List SafeBag) → IsBags m gs → IsRead (Many Ba
 unfolding IsBags
 many_of m gs ((w, r, e), short) = (w, r)
 
-pub can_write : (q : List ℕ) (c : ContentInfo) (gs hs : List SafeBag) (keys now after : List (List ℕ)) (drawn drawn_after : List ℕ) → now ≡ keys → Asked c gs keys → Said q gs now after drawn drawn_after hs → All WritableBag hs
-can_write q c gs hs keys now after drawn drawn_after e (p, more, h, s) all =
+pub can_write : (to : Kinds) (q : List ℕ) (c : ContentInfo) (gs hs : List SafeBag) (keys now after : List (List ℕ)) (drawn drawn_after : List ℕ) → now ≡ keys → Asked c gs keys → Said to q gs now after drawn drawn_after hs → All WritableBag hs
+can_write to q c gs hs keys now after drawn drawn_after e (p, more, h, s) all =
     let b = (all p more (subst (λ (k : List (List ℕ)). Supplies p gs k more) (sym e) s)).1 in
     let m = many_of h.0 gs h.2 in
-    let r = bags_sealed p q gs hs b.took m.0 b.sealed m.1 in
+    let r = bags_sealed to p q gs hs b.took m.0 b.sealed m.1 in
     bags_write hs r.0 r.1
 
 pub content_opens : (c : ContentInfo) (d : EncryptedData) (gs : List SafeBag) (keys : List (List ℕ)) → c ≡ content.EncryptedData d → Asked c gs keys
@@ -53,48 +55,48 @@ content_opens c d gs keys e (p, more, h, s) =
 
 -- ---- too long
 
-abbrev pub IsLong : ContentInfo → List SafeBag → List (List ℕ) → Type 0
-IsLong c gs keys = (p : List ℕ) (more : List (List ℕ)) → HoldsBags p c gs → Supplies p gs keys more → 2 ^ 32 ≤ length (content_canon (blank_content p c gs))
+abbrev pub IsLong : Kinds → ContentInfo → List SafeBag → List (List ℕ) → Type 0
+IsLong to c gs keys = (p : List ℕ) (more : List (List ℕ)) → HoldsBags p c gs → Supplies p gs keys more → 2 ^ 32 ≤ length (content_canon (blank_content to p c gs))
 
-text_fits : (p : List ℕ) (c : ContentInfo) (gs : List SafeBag) → HoldsBags p c gs → length (blank_text p gs) ≤ length (content_canon (blank_content p c gs))
-text_fits p (content.Data v) gs h = plain_in p v gs
-text_fits p (content.EncryptedData d) gs h =
+text_fits : (to : Kinds) (p : List ℕ) (c : ContentInfo) (gs : List SafeBag) → HoldsBags p c gs → length (blank_text to p gs) ≤ length (content_canon (blank_content to p c gs))
+text_fits to p (content.Data v) gs h = plain_in to p v gs
+text_fits to p (content.EncryptedData d) gs h =
     let i = d.encrypted_content_info in
-    text_in_sealed p d gs (unlock_opened i.content_encryption_algorithm p i.encrypted_content h.0 h.1).openable
-text_fits p (content.OtherContext o) gs h = absurd (none_some h.0 h.1)
+    text_in_sealed to p d gs (unlock_opened i.content_encryption_algorithm p i.encrypted_content h.0 h.1).openable
+text_fits to p (content.OtherContext o) gs h = absurd (none_some h.0 h.1)
   where
     none_some : (m : List ℕ) → None ≡ Some m → ⊥
     none_some m e = cc
 
-pub long_bags : (c : ContentInfo) (gs : List SafeBag) (keys now : List (List ℕ)) (f : TransferError) → now ≡ keys
-    → LongOnly ((p : List ℕ) (more : List (List ℕ)) → Supplies p gs now more → 2 ^ 32 ≤ length (blank_text p gs)) f → LongOnly (IsLong c gs keys) f
-long_bags c gs keys now f e h = long_map _ _ f (λ all p more k s. omega (arith, all p more (subst (λ (x : List (List ℕ)). Supplies p gs x more) (sym e) s), text_fits p c gs k)) h
+pub long_bags : (to : Kinds) (c : ContentInfo) (gs : List SafeBag) (keys now : List (List ℕ)) (f : TransferError) → now ≡ keys
+    → LongOnly ((p : List ℕ) (more : List (List ℕ)) → Supplies p gs now more → 2 ^ 32 ≤ length (blank_text to p gs)) f → LongOnly (IsLong to c gs keys) f
+long_bags to c gs keys now f e h = long_map _ _ f (λ all p more k s. omega (arith, all p more (subst (λ (x : List (List ℕ)). Supplies p gs x more) (sym e) s), text_fits to p c gs k)) h
 
-pub long_text : (q : List ℕ) (c : ContentInfo) (gs hs : List SafeBag) (keys now after : List (List ℕ)) (drawn drawn_after : List ℕ) (f : TransferError) → now ≡ keys → Said q gs now after drawn drawn_after hs
-    → LongOnly (2 ^ 32 ≤ length (bags_canon hs)) f → LongOnly (IsLong c gs keys) f
-long_text q c gs hs keys now after drawn drawn_after f e all h = long_map _ _ f (λ l p more k s. (
+pub long_text : (to : Kinds) (q : List ℕ) (c : ContentInfo) (gs hs : List SafeBag) (keys now after : List (List ℕ)) (drawn drawn_after : List ℕ) (f : TransferError) → now ≡ keys → Said to q gs now after drawn drawn_after hs
+    → LongOnly (2 ^ 32 ≤ length (bags_canon hs)) f → LongOnly (IsLong to c gs keys) f
+long_text to q c gs hs keys now after drawn drawn_after f e all h = long_map _ _ f (λ l p more k s. (
     let b = (all p more (subst (λ (x : List (List ℕ)). Supplies p gs x more) (sym e) s)).1 in
-    omega (arith, l, bags_same p q gs hs b.took b.sealed, text_fits p c gs k)
+    omega (arith, l, bags_same to p q gs hs b.took b.sealed, text_fits to p c gs k)
     )) h
 
-pub long_sealed : (q : List ℕ) (c : ContentInfo) (d : EncryptedData) (gs hs : List SafeBag) (keys now after : List (List ℕ)) (drawn drawn_after t : List ℕ) (f : TransferError) → c ≡ content.EncryptedData d → now ≡ keys
-    → Said q gs now after drawn drawn_after hs → t ≡ bags_canon hs → LongOnly (2 ^ 32 ≤ sealed_size d.encrypted_content_info.content_encryption_algorithm (length t)) f → LongOnly (IsLong c gs keys) f
-long_sealed q c d gs hs keys now after drawn drawn_after t f is e all same h = long_map _ _ f (λ l p more k s. (
+pub long_sealed : (to : Kinds) (q : List ℕ) (c : ContentInfo) (d : EncryptedData) (gs hs : List SafeBag) (keys now after : List (List ℕ)) (drawn drawn_after t : List ℕ) (f : TransferError) → c ≡ content.EncryptedData d → now ≡ keys
+    → Said to q gs now after drawn drawn_after hs → t ≡ bags_canon hs → LongOnly (2 ^ 32 ≤ sealed_size (kind_for to d.encrypted_content_info.content_encryption_algorithm) (length t)) f → LongOnly (IsLong to c gs keys) f
+long_sealed to q c d gs hs keys now after drawn drawn_after t f is e all same h = long_map _ _ f (λ l p more k s. (
     let b = (all p more (subst (λ (x : List (List ℕ)). Supplies p gs x more) (sym e) s)).1 in
-    let a = d.encrypted_content_info.content_encryption_algorithm in
-    let size : sealed_size a (length t) ≡ sealed_size a (length (blank_text p gs)) = ap (sealed_size a) (ap length same ∙ bags_same p q gs hs b.took b.sealed) in
-    let whole : length (content_canon (blank_content p c gs)) ≡ length (content_canon (blank_content p (content.EncryptedData d) gs)) = ap (λ (x : ContentInfo). length (content_canon (blank_content p x gs))) is in
-    omega (arith, l, size, whole, sealed_in p d gs)
+    let a = kind_for to d.encrypted_content_info.content_encryption_algorithm in
+    let size : sealed_size a (length t) ≡ sealed_size a (length (blank_text to p gs)) = ap (sealed_size a) (ap length same ∙ bags_same to p q gs hs b.took b.sealed) in
+    let whole : length (content_canon (blank_content to p c gs)) ≡ length (content_canon (blank_content to p (content.EncryptedData d) gs)) = ap (λ (x : ContentInfo). length (content_canon (blank_content to p x gs))) is in
+    omega (arith, l, size, whole, sealed_in to p d gs)
     )) h
 
 -- ---- sealed
 
-abbrev pub Sealed : List ℕ → ContentInfo → List SafeBag → List (List ℕ) → List (List ℕ) → List ℕ → List ℕ → ContentInfo → Type 0
-Sealed q c gs keys after drawn drawn_after e = (p : List ℕ) (more : List (List ℕ)) → HoldsBags p c gs → Supplies p gs keys more → (after ≡ more) × (z : List ℕ) × (drawn ≡ z ++ drawn_after) × ContentSealed p q z c e
+abbrev pub Sealed : Kinds → List ℕ → ContentInfo → List SafeBag → List (List ℕ) → List (List ℕ) → List ℕ → List ℕ → ContentInfo → Type 0
+Sealed to q c gs keys after drawn drawn_after e = (p : List ℕ) (more : List (List ℕ)) → HoldsBags p c gs → Supplies p gs keys more → (after ≡ more) × (z : List ℕ) × (drawn ≡ z ++ drawn_after) × ContentSealed to p q z c e
 
-pub plain_sealed : (q : List ℕ) (c : ContentInfo) (v : List ℕ) (gs hs : List SafeBag) (keys after : List (List ℕ)) (drawn drawn_after t : List ℕ) → c ≡ content.Data v → Said q gs keys after drawn drawn_after hs
-    → (t ≡ bags_canon hs) × (length t < 2 ^ 32) → Sealed q c gs keys after drawn drawn_after (content.Data t)
-plain_sealed q c v gs hs keys after drawn drawn_after t is all text p more h s =
+pub plain_sealed : (to : Kinds) (q : List ℕ) (c : ContentInfo) (v : List ℕ) (gs hs : List SafeBag) (keys after : List (List ℕ)) (drawn drawn_after t : List ℕ) → c ≡ content.Data v → Said to q gs keys after drawn drawn_after hs
+    → (t ≡ bags_canon hs) × (length t < 2 ^ 32) → Sealed to q c gs keys after drawn drawn_after (content.Data t)
+plain_sealed to q c v gs hs keys after drawn drawn_after t is all text p more h s =
     let b = all p more s in (
       b.0,
       b.1.took,
@@ -103,7 +105,7 @@ plain_sealed q c v gs hs keys after drawn drawn_after t is all text p more h s =
         own = [];
         of_keys = b.1.took;
         order = refl;
-        form = subst (λ (x : ContentInfo). FormLike [] x (content.Data t)) (sym is) refl;
+        form = subst (λ (x : ContentInfo). FormLike to [] x (content.Data t)) (sym is) refl;
         bags = gs;
         bags_anew = hs;
         holds = h;
@@ -113,11 +115,11 @@ plain_sealed q c v gs hs keys after drawn drawn_after t is all text p more h s =
       },
     )
 
-pub encrypted_sealed : (q : List ℕ) (c : ContentInfo) (d e : EncryptedData) (gs hs : List SafeBag) (keys now after : List (List ℕ)) (drawn own mid drawn_after t : List ℕ) → c ≡ content.EncryptedData d → now ≡ keys
-    → drawn ≡ own ++ mid → Said q gs now after mid drawn_after hs → (t ≡ bags_canon hs) × (length t < 2 ^ 32)
-    → IsAnew own d.encrypted_content_info.content_encryption_algorithm e.encrypted_content_info.content_encryption_algorithm
-    → unlock e.encrypted_content_info.content_encryption_algorithm q e.encrypted_content_info.encrypted_content ≡ Some t → Sealed q c gs keys after drawn drawn_after (content.EncryptedData e)
-encrypted_sealed q c d e gs hs keys now after drawn own mid drawn_after t is same front all text n o p more h s =
+pub encrypted_sealed : (to : Kinds) (q : List ℕ) (c : ContentInfo) (d e : EncryptedData) (gs hs : List SafeBag) (keys now after : List (List ℕ)) (drawn own mid drawn_after t : List ℕ) → c ≡ content.EncryptedData d → now ≡ keys
+    → drawn ≡ own ++ mid → Said to q gs now after mid drawn_after hs → (t ≡ bags_canon hs) × (length t < 2 ^ 32)
+    → IsAnew to own d.encrypted_content_info.content_encryption_algorithm e.encrypted_content_info.content_encryption_algorithm
+    → unlock e.encrypted_content_info.content_encryption_algorithm q e.encrypted_content_info.encrypted_content ≡ Some t → Sealed to q c gs keys after drawn drawn_after (content.EncryptedData e)
+encrypted_sealed to q c d e gs hs keys now after drawn own mid drawn_after t is same front all text n o p more h s =
     let b = all p more (subst (λ (x : List (List ℕ)). Supplies p gs x more) (sym same) s) in (
       b.0,
       own ++ b.1.took,
@@ -126,7 +128,7 @@ encrypted_sealed q c d e gs hs keys now after drawn own mid drawn_after t is sam
         own = own;
         of_keys = b.1.took;
         order = refl;
-        form = subst (λ (x : ContentInfo). FormLike own x (content.EncryptedData e)) (sym is) n;
+        form = subst (λ (x : ContentInfo). FormLike to own x (content.EncryptedData e)) (sym is) n;
         bags = gs;
         bags_anew = hs;
         holds = h;

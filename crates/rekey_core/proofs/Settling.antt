@@ -25,22 +25,18 @@ use Rattle.transfer.specs.declared.store.error.TransferError.TheVariants.{TooLon
 use Rattle.transfer.proofs.Sole.{each_sole, verdict_sole}
 use Rattle.transfer.proofs.Valid.{not_refused, opened_exactly}
 use Rattle.rekey_core.specs.Anew.{change_draws}
-use Rattle.rekey_core.specs.Change.{Changes}
+use Rattle.rekey_core.specs.Change.{ChangesTo}
 use Rattle.rekey_core.specs.Making.{HeldOpen, IsMacked, TextSealed, store_anew}
-use Rattle.rekey_core.specs.Rekeyed.{GrowsTooLong, IsAllowed, IsSettled, IsUndrawn, RefusedFor, Rekeys, RunsShort, draws, size}
+use Rattle.rekey_core.specs.Rekeyed.{GrowsTooLongTo, IsAllowed, IsSettledTo, IsUndrawn, RefusedFor, RekeysTo, RunsShortTo, draws_to, size_to}
 use Rattle.rekey_core.specs.Sealing.{LongOnly}
 use Rattle.rekey_core.specs.Size.{changed_size}
+use Rattle.rekey_core.proofs.OuterParts.{data_is, mac_is}
 use Rattle.rekey_core.proofs.Likeness.{store_changes}
 use Rattle.rekey_core.proofs.Sizes.{contents_same, holds_sole, contents_in, store_size}
+use Rattle.rekey_core.specs.declared.kinds.Kinds.{Kinds}
 
 pub is_macked : (b p : List ℕ) (gss : List (List SafeBag)) (ks : List (List ℕ)) (n : ℕ) → StoreOpens b p gss ks n → IsMacked b
 is_macked b p gss ks n o = (o.store, o.text, o.mac, o.is, o.is_data, o.has)
-
-data_is : (v w : List ℕ) → content.Data v ≡ content.Data w → v ≡ w
-data_is v w e = cc
-
-mac_is : (m n : MacData) → Some m ≡ Some n → m ≡ n
-mac_is m n e = cc
 
 -- what a parsed store shows of one that opens
 pub record Seen (b p : List ℕ) (gss : List (List SafeBag)) (ks : List (List ℕ)) (n : ℕ) (o : StoreOpens b p gss ks n) (v : ℕ) (t : List ℕ) (m : MacData) (cs : List ContentInfo) : Type 0 where
@@ -83,16 +79,16 @@ opens_once b p gss hss ks js n m o r =
       store = store;
     }
 
-pub draws_once : (b p : List ℕ) (limit : ℕ) (a d : IsAllowed b p limit) → draws b p limit a ≡ draws b p limit d
-draws_once b p limit a d =
+pub draws_once : (to : Kinds) (b p : List ℕ) (limit : ℕ) (a d : IsAllowed b p limit) → draws_to to b p limit a ≡ draws_to to b p limit d
+draws_once to b p limit a d =
     let s = opens_once b p a.bags d.bags a.keys d.keys a.work d.work a.opens d.opens in
-    ap (λ (x : List ContentInfo). change_draws x a.bags) s.parts ∙ ap (λ (x : List (List SafeBag)). change_draws d.opens.parts x) s.bags
+    ap (λ (x : List ContentInfo). change_draws to x a.bags) s.parts ∙ ap (λ (x : List (List SafeBag)). change_draws to d.opens.parts x) s.bags
 
-pub size_once : (b p : List ℕ) (limit : ℕ) (a d : IsAllowed b p limit) → size b p limit a ≡ size b p limit d
-size_once b p limit a d =
+pub size_once : (to : Kinds) (b p : List ℕ) (limit : ℕ) (a d : IsAllowed b p limit) → size_to to b p limit a ≡ size_to to b p limit d
+size_once to b p limit a d =
     let s = opens_once b p a.bags d.bags a.keys d.keys a.work d.work a.opens d.opens in
-    ap (λ (x : PFX). changed_size x.version a.opens.mac p a.opens.parts a.bags) s.store ∙ ap (λ (x : MacData). changed_size d.opens.store.version x p a.opens.parts a.bags) s.mac
-    ∙ ap (λ (x : List ContentInfo). changed_size d.opens.store.version d.opens.mac p x a.bags) s.parts ∙ ap (λ (x : List (List SafeBag)). changed_size d.opens.store.version d.opens.mac p d.opens.parts x) s.bags
+    ap (λ (x : PFX). changed_size to x.version a.opens.mac p a.opens.parts a.bags) s.store ∙ ap (λ (x : MacData). changed_size to d.opens.store.version x p a.opens.parts a.bags) s.mac
+    ∙ ap (λ (x : List ContentInfo). changed_size to d.opens.store.version d.opens.mac p x a.bags) s.parts ∙ ap (λ (x : List (List SafeBag)). changed_size to d.opens.store.version d.opens.mac p d.opens.parts x) s.bags
 
 -- ---- causes
 
@@ -127,8 +123,8 @@ pub told_all : (left : Option (List ℕ)) (Q : List ℕ → Type 0) → ((d : Li
 told_all None Q f = tt
 told_all (Some d) Q f = f d
 
-pub settled_memory : (b p : List ℕ) (limit : ℕ) (left : Option (List ℕ)) → IsSettled b p limit left (Err Memory)
-settled_memory b p limit left = record {
+pub settled_memory : (to : Kinds) (b p : List ℕ) (limit : ℕ) (left : Option (List ℕ)) → IsSettledTo to b p limit left (Err Memory)
+settled_memory to b p limit left = record {
   refuses = λ e f. inl refl;
   fits = λ a h. inr (inl refl);
   grows = λ a h. inl (inl refl);
@@ -145,8 +141,8 @@ refusal_as : {T : Type 0} (e f : TransferError) (r : Result T TransferError) →
 refusal_as e f r is (inl h) = let k : e ≡ Memory = cc in inl (ap err k)
 refusal_as e f r is (inr h) = let k : e ≡ f = cc in inr (ap err k)
 
-pub settled_refused : {T : Type 0} (b p : List ℕ) (limit : ℕ) (left : Option (List ℕ)) (e : TransferError) (r : Result T TransferError) → r ≡ Err e → IsDecided b p limit r → IsSettled b p limit left (Err e)
-settled_refused b p limit left e r is d = record {
+pub settled_refused : (to : Kinds) {T : Type 0} (b p : List ℕ) (limit : ℕ) (left : Option (List ℕ)) (e : TransferError) (r : Result T TransferError) → r ≡ Err e → IsDecided b p limit r → IsSettledTo to b p limit left (Err e)
+settled_refused to b p limit left e r is d = record {
   refuses = λ f h. refusal_as e f r is (d.refuses f h);
   fits = λ a h. inr (inl (ap err (is_memory e r is (d.completes (no_cause b p limit a)))));
   grows = λ a h. inl (inl (ap err (is_memory e r is (d.completes (no_cause b p limit a)))));
@@ -154,13 +150,13 @@ settled_refused b p limit left e r is d = record {
   suffices = λ a. told_all left _ (λ l h f. memory_rng (sym (ap err (is_memory e r is (d.completes (no_cause b p limit a)))) ∙ f));
 }
 
-pub settled_short : (b p : List ℕ) (limit : ℕ) (left : Option (List ℕ)) (before now : ℕ) (o : IsAllowed b p limit) → Lacks before now left (draws b p limit o) → IsSettled b p limit left (Err Rng)
-settled_short b p limit left before now o l = record {
+pub settled_short : (to : Kinds) (b p : List ℕ) (limit : ℕ) (left : Option (List ℕ)) (before now : ℕ) (o : IsAllowed b p limit) → Lacks before now left (draws_to to b p limit o) → IsSettledTo to b p limit left (Err Rng)
+settled_short to b p limit left before now o l = record {
   refuses = λ f h. absurd (no_refusal b p limit f o h);
   fits = λ a h. inr (inr refl);
   grows = λ a h. inr refl;
   lacks = λ a. told_all left _ (λ d h. inr refl);
-  suffices = λ a. if_told left _ _ (λ d short enough e. omega (arith, short, enough, draws_once b p limit a o)) l.1;
+  suffices = λ a. if_told left _ _ (λ d short enough e. omega (arith, short, enough, draws_once to b p limit a o)) l.1;
 }
 
 enough_in : (left after : Option (List ℕ)) (drawn : List ℕ) → Consumes left after drawn → IfSome left (λ d. length drawn ≤ length d)
@@ -168,61 +164,61 @@ enough_in None after drawn h = tt
 enough_in (Some d) None drawn h = absurd h
 enough_in (Some d) (Some e) drawn h = omega (arith, ap length h, length-append drawn e)
 
-pub settled_long : (b p : List ℕ) (limit : ℕ) (left after : Option (List ℕ)) (drawn : List ℕ) (o : IsAllowed b p limit) → length drawn ≡ draws b p limit o → Consumes left after drawn → store_limit < size b p limit o
-    → IsSettled b p limit left (Err TooLong)
-settled_long b p limit left after drawn o l c long = record {
+pub settled_long : (to : Kinds) (b p : List ℕ) (limit : ℕ) (left after : Option (List ℕ)) (drawn : List ℕ) (o : IsAllowed b p limit) → length drawn ≡ draws_to to b p limit o → Consumes left after drawn → store_limit < size_to to b p limit o
+    → IsSettledTo to b p limit left (Err TooLong)
+settled_long to b p limit left after drawn o l c long = record {
   refuses = λ f h. absurd (no_refusal b p limit f o h);
-  fits = λ a h. absurd (omega (arith, h, long, size_once b p limit a o));
+  fits = λ a h. absurd (omega (arith, h, long, size_once to b p limit a o));
   grows = λ a h. inl (inr refl);
-  lacks = λ a. if_told left _ _ (λ d enough h. absurd (omega (arith, enough, h, l, draws_once b p limit a o))) (enough_in left after drawn c);
+  lacks = λ a. if_told left _ _ (λ d enough h. absurd (omega (arith, enough, h, l, draws_once to b p limit a o))) (enough_in left after drawn c);
   suffices = λ a. told_all left _ (λ d h e. long_rng e);
 }
 
-pub settled_done : (b p : List ℕ) (limit : ℕ) (left after : Option (List ℕ)) (drawn c : List ℕ) (o : IsAllowed b p limit) → length drawn ≡ draws b p limit o → Consumes left after drawn
-    → length c ≡ size b p limit o → length c ≤ store_limit → IsSettled b p limit left (Ok c)
-settled_done b p limit left after drawn c o l k sized short = record {
+pub settled_done : (to : Kinds) (b p : List ℕ) (limit : ℕ) (left after : Option (List ℕ)) (drawn c : List ℕ) (o : IsAllowed b p limit) → length drawn ≡ draws_to to b p limit o → Consumes left after drawn
+    → length c ≡ size_to to b p limit o → length c ≤ store_limit → IsSettledTo to b p limit left (Ok c)
+settled_done to b p limit left after drawn c o l k sized short = record {
   refuses = λ f h. absurd (no_refusal b p limit f o h);
   fits = λ a h. inl refl;
-  grows = λ a h. absurd (omega (arith, h, sized, short, size_once b p limit a o));
-  lacks = λ a. if_told left _ _ (λ d enough h. absurd (omega (arith, enough, h, l, draws_once b p limit a o))) (enough_in left after drawn k);
+  grows = λ a h. absurd (omega (arith, h, sized, short, size_once to b p limit a o));
+  lacks = λ a. if_told left _ _ (λ d enough h. absurd (omega (arith, enough, h, l, draws_once to b p limit a o))) (enough_in left after drawn k);
   suffices = λ a. told_all left _ (λ d h e. ok_rng c e);
 }
 
 -- ---- a change
 
-pub draws_seen : (b p : List ℕ) (gss : List (List SafeBag)) (ks : List (List ℕ)) (n version : ℕ) (text : List ℕ) (m : MacData) (cs : List ContentInfo) (o : StoreOpens b p gss ks n) → Seen b p gss ks n o version text m cs
-    → change_draws cs gss ≡ change_draws o.parts gss
-draws_seen b p gss ks n version text m cs o s = ap (λ (x : List ContentInfo). change_draws x gss) (sym s.parts)
+pub draws_seen : (to : Kinds) (b p : List ℕ) (gss : List (List SafeBag)) (ks : List (List ℕ)) (n version : ℕ) (text : List ℕ) (m : MacData) (cs : List ContentInfo) (o : StoreOpens b p gss ks n) → Seen b p gss ks n o version text m cs
+    → change_draws to cs gss ≡ change_draws to o.parts gss
+draws_seen to b p gss ks n version text m cs o s = ap (λ (x : List ContentInfo). change_draws to x gss) (sym s.parts)
 
-pub size_seen : (b p : List ℕ) (gss : List (List SafeBag)) (ks : List (List ℕ)) (n version : ℕ) (text : List ℕ) (m : MacData) (cs : List ContentInfo) (o : StoreOpens b p gss ks n) → Seen b p gss ks n o version text m cs
-    → changed_size version m p cs gss ≡ changed_size o.store.version o.mac p o.parts gss
-size_seen b p gss ks n version text m cs o s =
-    ap (λ (x : ℕ). changed_size x m p cs gss) (sym s.version) ∙ ap (λ (x : MacData). changed_size o.store.version x p cs gss) (sym s.mac) ∙ ap (λ (x : List ContentInfo). changed_size o.store.version o.mac p x gss) (sym s.parts)
+pub size_seen : (to : Kinds) (b p : List ℕ) (gss : List (List SafeBag)) (ks : List (List ℕ)) (n version : ℕ) (text : List ℕ) (m : MacData) (cs : List ContentInfo) (o : StoreOpens b p gss ks n) → Seen b p gss ks n o version text m cs
+    → changed_size to version m p cs gss ≡ changed_size to o.store.version o.mac p o.parts gss
+size_seen to b p gss ks n version text m cs o s =
+    ap (λ (x : ℕ). changed_size to x m p cs gss) (sym s.version) ∙ ap (λ (x : MacData). changed_size to o.store.version x p cs gss) (sym s.mac) ∙ ap (λ (x : List ContentInfo). changed_size to o.store.version o.mac p x gss) (sym s.parts)
 
-pub rekeyed : (b p q : List ℕ) (limit : ℕ) (left after : Option (List ℕ)) (steps steps_after : ℕ) (gss : List (List SafeBag)) (ks : List (List ℕ)) (n version : ℕ) (text : List ℕ) (m : MacData) (cs : List ContentInfo) (drawn c : List ℕ)
-    (o : StoreOpens b p gss ks n) → n ≤ limit → Seen b p gss ks n o version text m cs → length drawn ≡ change_draws cs gss → Consumes left after drawn → steps_after ≡ steps + n
-    → TextSealed p q version m cs drawn c → Rekeys b p q limit left after steps steps_after c
-rekeyed b p q limit left after steps steps_after gss ks n version text m cs drawn c o within s l k counted t =
+pub rekeyed : (to : Kinds) (b p q : List ℕ) (limit : ℕ) (left after : Option (List ℕ)) (steps steps_after : ℕ) (gss : List (List SafeBag)) (ks : List (List ℕ)) (n version : ℕ) (text : List ℕ) (m : MacData) (cs : List ContentInfo) (drawn c : List ℕ)
+    (o : StoreOpens b p gss ks n) → n ≤ limit → Seen b p gss ks n o version text m cs → length drawn ≡ change_draws to cs gss → Consumes left after drawn → steps_after ≡ steps + n
+    → TextSealed to p q version m cs drawn c → RekeysTo to b p q limit left after steps steps_after c
+rekeyed to b p q limit left after steps steps_after gss ks n version text m cs drawn c o within s l k counted t =
     let a : IsAllowed b p limit = record { bags = gss; keys = ks; work = n; opens = o; within = within } in
-    let made = store_anew o.store.version o.mac q t.salt t.contents in
-    let is : c ≡ store_canon made = t.is ∙ ap (λ (x : ℕ). store_canon (store_anew x m q t.salt t.contents)) (sym s.version) ∙ ap (λ (x : MacData). store_canon (store_anew o.store.version x q t.salt t.contents)) (sym s.mac) in
+    let made = store_anew to o.store.version o.mac q t.salt t.contents in
+    let is : c ≡ store_canon made = t.is ∙ ap (λ (x : ℕ). store_canon (store_anew to x m q t.salt t.contents)) (sym s.version) ∙ ap (λ (x : MacData). store_canon (store_anew to o.store.version x q t.salt t.contents)) (sym s.mac) in
     let bags = subst (λ (x : List ContentInfo). Each (HoldsBags p) x gss) s.parts o.opening.bags in
-    let sized : length c ≡ size b p limit a = ap length is ∙ store_size p q o.store.version o.mac cs t.contents gss t.taken t.salt o.mac_ok.known t.sealed bags t.of_8
-    ∙ ap (λ (x : List ContentInfo). changed_size o.store.version o.mac p x gss) (sym s.parts) in
-    let outer : length (contents_canon t.contents) ≤ size b p limit a = omega (
+    let sized : length c ≡ size_to to b p limit a = ap length is ∙ store_size to p q o.store.version o.mac cs t.contents gss t.taken t.salt o.mac_ok.known t.sealed bags t.salt_drawn
+    ∙ ap (λ (x : List ContentInfo). changed_size to o.store.version o.mac p x gss) (sym s.parts) in
+    let outer : length (contents_canon t.contents) ≤ size_to to b p limit a = omega (
       arith,
-      contents_same p q cs t.contents gss t.taken t.sealed bags,
-      contents_in o.store.version o.mac p cs gss,
-      ap (λ (x : List ContentInfo). changed_size o.store.version o.mac p x gss) (sym s.parts),
+      contents_same to p q cs t.contents gss t.taken t.sealed bags,
+      contents_in to o.store.version o.mac p cs gss,
+      ap (λ (x : List ContentInfo). changed_size to o.store.version o.mac p x gss) (sym s.parts),
     ) in
     let lists = subst (λ (x : List ContentInfo). IsContents o.text x) s.parts o.opening.contents in
-    let ch = store_changes b o.text p q o.store o.mac cs t.contents t.taken t.salt o.is o.is_data o.has o.mac_ok.known o.mac_ok.some_rounds lists t.sealed t.of_8 (omega (arith, outer, sized, t.short)) (omega (arith, ap length is, t.short)) in
+    let ch = store_changes to b o.text p q o.store o.mac cs t.contents t.taken t.salt o.is o.is_data o.has o.mac_ok.known o.mac_ok.some_rounds lists t.sealed t.salt_drawn (omega (arith, outer, sized, t.short)) (omega (arith, ap length is, t.short)) in
     record {
       allowed = a;
       drawn = drawn;
-      exactly = l ∙ draws_seen b p gss ks n version text m cs o s;
+      exactly = l ∙ draws_seen to b p gss ks n version text m cs o s;
       took = k;
-      changes = subst (λ (x : List ℕ). Changes b p x q drawn) (sym is) (subst (λ (x : List ℕ). Changes b p (store_canon made) q x) (sym t.order) ch);
+      changes = subst (λ (x : List ℕ). ChangesTo to b p x q drawn) (sym is) (subst (λ (x : List ℕ). ChangesTo to b p (store_canon made) q x) (sym t.order) ch);
       sized = sized;
       short = t.short;
       counted = counted;
@@ -260,72 +256,72 @@ refused_long F P R T ContentMalformed f h = absurd h
 refused_long F P R T DecryptFailed f h = absurd h
 refused_long F P R T KeyMalformed f h = absurd h
 
-pub settled_drawn : (R : Type 0) (b p : List ℕ) (limit : ℕ) (left : Option (List ℕ)) (e : TransferError) → (R → IsSettled b p limit left (Err Rng)) → RefusedBy (λ e. ⊥) R e → IsSettled b p limit left (Err e)
-settled_drawn R b p limit left Memory f h = settled_memory b p limit left
-settled_drawn R b p limit left Rng f h = f h
-settled_drawn R b p limit left TooLong f h = absurd h
-settled_drawn R b p limit left Malformed f h = absurd h
-settled_drawn R b p limit left Unsupported f h = absurd h
-settled_drawn R b p limit left MacMissing f h = absurd h
-settled_drawn R b p limit left MacUnsupported f h = absurd h
-settled_drawn R b p limit left ZeroIterations f h = absurd h
-settled_drawn R b p limit left WorkLimit f h = absurd h
-settled_drawn R b p limit left MacMismatch f h = absurd h
-settled_drawn R b p limit left ContentMalformed f h = absurd h
-settled_drawn R b p limit left DecryptFailed f h = absurd h
-settled_drawn R b p limit left KeyMalformed f h = absurd h
+pub settled_drawn : (to : Kinds) (R : Type 0) (b p : List ℕ) (limit : ℕ) (left : Option (List ℕ)) (e : TransferError) → (R → IsSettledTo to b p limit left (Err Rng)) → RefusedBy (λ e. ⊥) R e → IsSettledTo to b p limit left (Err e)
+settled_drawn to R b p limit left Memory f h = settled_memory to b p limit left
+settled_drawn to R b p limit left Rng f h = f h
+settled_drawn to R b p limit left TooLong f h = absurd h
+settled_drawn to R b p limit left Malformed f h = absurd h
+settled_drawn to R b p limit left Unsupported f h = absurd h
+settled_drawn to R b p limit left MacMissing f h = absurd h
+settled_drawn to R b p limit left MacUnsupported f h = absurd h
+settled_drawn to R b p limit left ZeroIterations f h = absurd h
+settled_drawn to R b p limit left WorkLimit f h = absurd h
+settled_drawn to R b p limit left MacMismatch f h = absurd h
+settled_drawn to R b p limit left ContentMalformed f h = absurd h
+settled_drawn to R b p limit left DecryptFailed f h = absurd h
+settled_drawn to R b p limit left KeyMalformed f h = absurd h
 
-pub settled_text : (P : Type 0) (b p : List ℕ) (limit : ℕ) (left : Option (List ℕ)) (e : TransferError) → (P → IsSettled b p limit left (Err TooLong)) → LongOnly P e → IsSettled b p limit left (Err e)
-settled_text P b p limit left Memory f h = settled_memory b p limit left
-settled_text P b p limit left TooLong f h = f h
-settled_text P b p limit left Rng f h = absurd h
-settled_text P b p limit left Malformed f h = absurd h
-settled_text P b p limit left Unsupported f h = absurd h
-settled_text P b p limit left MacMissing f h = absurd h
-settled_text P b p limit left MacUnsupported f h = absurd h
-settled_text P b p limit left ZeroIterations f h = absurd h
-settled_text P b p limit left WorkLimit f h = absurd h
-settled_text P b p limit left MacMismatch f h = absurd h
-settled_text P b p limit left ContentMalformed f h = absurd h
-settled_text P b p limit left DecryptFailed f h = absurd h
-settled_text P b p limit left KeyMalformed f h = absurd h
+pub settled_text : (to : Kinds) (P : Type 0) (b p : List ℕ) (limit : ℕ) (left : Option (List ℕ)) (e : TransferError) → (P → IsSettledTo to b p limit left (Err TooLong)) → LongOnly P e → IsSettledTo to b p limit left (Err e)
+settled_text to P b p limit left Memory f h = settled_memory to b p limit left
+settled_text to P b p limit left TooLong f h = f h
+settled_text to P b p limit left Rng f h = absurd h
+settled_text to P b p limit left Malformed f h = absurd h
+settled_text to P b p limit left Unsupported f h = absurd h
+settled_text to P b p limit left MacMissing f h = absurd h
+settled_text to P b p limit left MacUnsupported f h = absurd h
+settled_text to P b p limit left ZeroIterations f h = absurd h
+settled_text to P b p limit left WorkLimit f h = absurd h
+settled_text to P b p limit left MacMismatch f h = absurd h
+settled_text to P b p limit left ContentMalformed f h = absurd h
+settled_text to P b p limit left DecryptFailed f h = absurd h
+settled_text to P b p limit left KeyMalformed f h = absurd h
 
--- what is known back the opening: the store is allowed, and this is what it draws and how long it becomes
-pub record Known (b p : List ℕ) (limit steps steps_after : ℕ) (gss : List (List SafeBag)) (ks : List (List ℕ)) (version : ℕ) (m : MacData) (cs : List ContentInfo) : Type 0 where
+-- what is known back the opening: the store is allowed, and this is what it draws_to and how long it becomes
+pub record Known (to : Kinds) (b p : List ℕ) (limit steps steps_after : ℕ) (gss : List (List SafeBag)) (ks : List (List ℕ)) (version : ℕ) (m : MacData) (cs : List ContentInfo) : Type 0 where
   pub allowed : IsAllowed b p limit
   pub counted : steps_after ≡ steps + allowed.work
-  pub draws_are : change_draws cs gss ≡ draws b p limit allowed
-  pub size_is : changed_size version m p cs gss ≡ size b p limit allowed
+  pub draws_are : change_draws to cs gss ≡ draws_to to b p limit allowed
+  pub size_is : changed_size to version m p cs gss ≡ size_to to b p limit allowed
   pub held : HeldOpen p cs gss ks
-  pub rekeys : (q : List ℕ) (left after : Option (List ℕ)) (drawn c : List ℕ) → length drawn ≡ change_draws cs gss → Consumes left after drawn → TextSealed p q version m cs drawn c
-      → Rekeys b p q limit left after steps steps_after c
+  pub rekeys : (q : List ℕ) (left after : Option (List ℕ)) (drawn c : List ℕ) → length drawn ≡ change_draws to cs gss → Consumes left after drawn → TextSealed to p q version m cs drawn c
+      → RekeysTo to b p q limit left after steps steps_after c
 
-pub known_of : (b p : List ℕ) (limit steps steps_after : ℕ) (gss : List (List SafeBag)) (ks : List (List ℕ)) (version : ℕ) (text : List ℕ) (m : MacData) (cs : List ContentInfo)
+pub known_of : (to : Kinds) (b p : List ℕ) (limit steps steps_after : ℕ) (gss : List (List SafeBag)) (ks : List (List ℕ)) (version : ℕ) (text : List ℕ) (m : MacData) (cs : List ContentInfo)
     → (n : ℕ) × StoreOpens b p gss ks n × (n ≤ limit) × (steps_after ≡ steps + n)
-    → ((s : PFX) → IsStore b s → (s.version ≡ version) × (s.auth_safe ≡ content.Data text) × (s.mac_data ≡ Some m)) → IsContents text cs → Known b p limit steps steps_after gss ks version m cs
-known_of b p limit steps steps_after gss ks version text m cs (n, o, within, counted) outer lists =
+    → ((s : PFX) → IsStore b s → (s.version ≡ version) × (s.auth_safe ≡ content.Data text) × (s.mac_data ≡ Some m)) → IsContents text cs → Known to b p limit steps steps_after gss ks version m cs
+known_of to b p limit steps steps_after gss ks version text m cs (n, o, within, counted) outer lists =
     let s = seen_of b p gss ks n o version text m cs outer lists in
     record {
       allowed = record { bags = gss; keys = ks; work = n; opens = o; within = within };
       counted = counted;
-      draws_are = draws_seen b p gss ks n version text m cs o s;
-      size_is = size_seen b p gss ks n version text m cs o s;
+      draws_are = draws_seen to b p gss ks n version text m cs o s;
+      size_is = size_seen to b p gss ks n version text m cs o s;
       held = s.held;
-      rekeys = λ q left after drawn c l k t. rekeyed b p q limit left after steps steps_after gss ks n version text m cs drawn c o within s l k counted t;
+      rekeys = λ q left after drawn c l k t. rekeyed to b p q limit left after steps steps_after gss ks n version text m cs drawn c o within s l k counted t;
     }
 
-pub runs_short : (b p : List ℕ) (limit steps steps_after : ℕ) (gss : List (List SafeBag)) (ks : List (List ℕ)) (version : ℕ) (m : MacData) (cs : List ContentInfo) (left : Option (List ℕ)) (before now k : ℕ)
-    → Known b p limit steps steps_after gss ks version m cs → k ≡ change_draws cs gss → Lacks before now left k → RunsShort b p limit left before now steps steps_after
-runs_short b p limit steps steps_after gss ks version m cs left before now k w e l = record {
+pub runs_short : (to : Kinds) (b p : List ℕ) (limit steps steps_after : ℕ) (gss : List (List SafeBag)) (ks : List (List ℕ)) (version : ℕ) (m : MacData) (cs : List ContentInfo) (left : Option (List ℕ)) (before now k : ℕ)
+    → Known to b p limit steps steps_after gss ks version m cs → k ≡ change_draws to cs gss → Lacks before now left k → RunsShortTo to b p limit left before now steps steps_after
+runs_short to b p limit steps steps_after gss ks version m cs left before now k w e l = record {
   allowed = w.allowed;
   short = subst (λ (x : ℕ). Lacks before now left x) (e ∙ w.draws_are) l;
   counted = w.counted;
 }
 
-pub grows_long : (b p : List ℕ) (limit steps steps_after : ℕ) (gss : List (List SafeBag)) (ks : List (List ℕ)) (version : ℕ) (m : MacData) (cs : List ContentInfo) (left after : Option (List ℕ)) (drawn : List ℕ)
-    → Known b p limit steps steps_after gss ks version m cs → length drawn ≡ change_draws cs gss → Consumes left after drawn → ((p : List ℕ) → HeldOpen p cs gss ks → store_limit < changed_size version m p cs gss)
-    → GrowsTooLong b p limit left after steps steps_after
-grows_long b p limit steps steps_after gss ks version m cs left after drawn w l k f = record {
+pub grows_long : (to : Kinds) (b p : List ℕ) (limit steps steps_after : ℕ) (gss : List (List SafeBag)) (ks : List (List ℕ)) (version : ℕ) (m : MacData) (cs : List ContentInfo) (left after : Option (List ℕ)) (drawn : List ℕ)
+    → Known to b p limit steps steps_after gss ks version m cs → length drawn ≡ change_draws to cs gss → Consumes left after drawn → ((p : List ℕ) → HeldOpen p cs gss ks → store_limit < changed_size to version m p cs gss)
+    → GrowsTooLongTo to b p limit left after steps steps_after
+grows_long to b p limit steps steps_after gss ks version m cs left after drawn w l k f = record {
   allowed = w.allowed;
   drawn = drawn;
   exactly = l ∙ w.draws_are;
@@ -334,14 +330,14 @@ grows_long b p limit steps steps_after gss ks version m cs left after drawn w l 
   counted = w.counted;
 }
 
-pub short_settles : (b p : List ℕ) (limit steps steps_after : ℕ) (left : Option (List ℕ)) (before now : ℕ) → RunsShort b p limit left before now steps steps_after → IsSettled b p limit left (Err Rng)
-short_settles b p limit steps steps_after left before now r = settled_short b p limit left before now r.allowed r.short
+pub short_settles : (to : Kinds) (b p : List ℕ) (limit steps steps_after : ℕ) (left : Option (List ℕ)) (before now : ℕ) → RunsShortTo to b p limit left before now steps steps_after → IsSettledTo to b p limit left (Err Rng)
+short_settles to b p limit steps steps_after left before now r = settled_short to b p limit left before now r.allowed r.short
 
-pub long_settles : (b p : List ℕ) (limit steps steps_after : ℕ) (left after : Option (List ℕ)) → GrowsTooLong b p limit left after steps steps_after → IsSettled b p limit left (Err TooLong)
-long_settles b p limit steps steps_after left after r = settled_long b p limit left after r.drawn r.allowed r.exactly r.took r.long
+pub long_settles : (to : Kinds) (b p : List ℕ) (limit steps steps_after : ℕ) (left after : Option (List ℕ)) → GrowsTooLongTo to b p limit left after steps steps_after → IsSettledTo to b p limit left (Err TooLong)
+long_settles to b p limit steps steps_after left after r = settled_long to b p limit left after r.drawn r.allowed r.exactly r.took r.long
 
-pub done_settles : (b p q : List ℕ) (limit steps steps_after : ℕ) (left after : Option (List ℕ)) (c : List ℕ) → Rekeys b p q limit left after steps steps_after c → IsSettled b p limit left (Ok c)
-done_settles b p q limit steps steps_after left after c r = settled_done b p limit left after r.drawn c r.allowed r.exactly r.took r.sized r.short
+pub done_settles : (to : Kinds) (b p q : List ℕ) (limit steps steps_after : ℕ) (left after : Option (List ℕ)) (c : List ℕ) → RekeysTo to b p q limit left after steps steps_after c → IsSettledTo to b p limit left (Ok c)
+done_settles to b p q limit steps steps_after left after c r = settled_done to b p limit left after r.drawn c r.allowed r.exactly r.took r.sized r.short
 
 -- ---- refusals on which nothing was drawn
 

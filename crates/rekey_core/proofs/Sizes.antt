@@ -16,19 +16,20 @@ use Rattle.mac_modes.specs.Padding.{pad_count}
 use Rattle.pkcs5.specs.Kinds.{rounds_of}
 use Rattle.pkcs5.specs.Pbkdf2Prf.{prf_content}
 use Rattle.pkcs5.specs.declared.pbes2.pbkdf2_prf.Pbkdf2Prf.TheVariants.{HmacWithSha256}
+use Rattle.pkcs5.specs.Opening.{unpadded}
 use Rattle.pkcs5.specs.OpeningLaws.{opened_is}
 use Rattle.pkcs5.specs.Generation.{pbkdf2_sha256}
 use Rattle.pkcs5.specs.Identifiers.{aes_256_cbc_oid, pbes2_oid, pbkdf2_oid}
 use Rattle.pkcs5.specs.declared.pbes2.encryption_scheme.EncryptionScheme.TheVariants.{Aes256Cbc}
 use Rattle.pkcs5.proofs.Openings.{length_opens}
 use Rattle.pkcs12_kdf.specs.Password.{bmp_password}
-use Rattle.p12.specs.AlgorithmIdentifier.{is_blocks, openable, triple_des_text, unlock, unlock_pbe, unlock_pbes2, unpadded}
+use Rattle.p12.specs.AlgorithmIdentifier.{is_blocks, openable, triple_des_text, unlock, unlock_pbe, unlock_pbes2}
 use Rattle.p12.specs.Canonical.{algorithm_canon, attributes_canon, bag_canon, bags_canon, content_canon, contents_canon, encrypted_key_canon, kind_canon, store_canon}
 use Rattle.p12.specs.Collected.{HoldsBags}
 use Rattle.p12.specs.Identifiers.{data_oid, encrypted_data_oid, shrouded_key_bag_oid, triple_des_scheme_oid}
 use Rattle.p12.specs.MacData.{is_mac_digest, mac_of, mac_value}
 use Rattle.p12.specs.SafeBag.{IsBags, kind_oid}
-use Rattle.pkcs12_kdf.specs.Mac.{mac_under}
+use Rattle.pkcs12_kdf.specs.Mac.{mac_under_in}
 use Rattle.mac_modes.specs.HmacLaws.{length-hmac}
 use Rattle.mac_modes.specs.Sha1Laws.{length-sha1}
 use Rattle.sha1.specs.Sha1.{sha1}
@@ -49,12 +50,16 @@ use Rattle.p12.specs.declared.safe_bag.SafeBagKind.TheVariants as kind
 use Rattle.p12.proofs.DefinitionLaws.{bags_sole, unlock_opened}
 use Rattle.p12.proofs.Fits.{Fits, left_fits, right_fits, through, value_fits}
 use Rattle.p12.proofs.Paddings.{unpadded_is}
+use Rattle.p12.proofs.Pbes2.{unlock_pbes2-is}
 use Rattle.rekey_core.specs.Anew.{anew, drawn_for}
 use Rattle.rekey_core.specs.Like.{IsAnew, KindLike, OpensAlike}
 use Rattle.rekey_core.specs.Resealing.{EachDrawn}
 use Rattle.rekey_core.specs.Making.{store_anew}
 use Rattle.rekey_core.specs.Sealing.{BagSealed, ContentSealed}
 use Rattle.rekey_core.specs.Size.{blank, blank_algorithm, blank_bag, blank_content, blank_contents, blank_key, blank_kind, blank_store, blank_text, changed_size, digest_size, sealed_size, size_in}
+use Rattle.rekey_core.specs.Kinds.{count_for, digest_for, kind_for, mac_salt}
+use Rattle.rekey_core.specs.declared.kinds.Kinds.{Kinds}
+use Rattle.rekey_core.proofs.KindFacts.{digest_known, kind_opens}
 
 -- ---- ciphertexts (the lemmas of `pkcs5` on CBC, for Triple DES under a key that is given)
 
@@ -88,10 +93,9 @@ triple_des_length p q c m e =
     ∙ length-append m (replicate (pad_count 8 (length m)) (pad_count 8 (length m))) ∙ ap (λ (n : ℕ). length m + n) (length-replicate (pad_count 8 (length m)) (pad_count 8 (length m)))
 
 pbes2_length : (rounds : ℕ) (salt iv q c m : List ℕ) → unlock_pbes2 (pbkdf2_sha256 rounds salt (Aes256Cbc iv)) q c ≡ Some m → length c ≡ length m + pad_count 16 (length m)
-unfolding unlock_pbes2
 pbes2_length rounds salt iv q c m e =
     let par = pbkdf2_sha256 rounds salt (Aes256Cbc iv) in
-    length_opens par q c m (opened_is par q c m (if_value _ _ m e).1)
+    length_opens par q c m (opened_is par q c m (if_value _ _ m (sym (unlock_pbes2-is par q c) ∙ e)).1)
 
 -- A text that is sealed anew is as long as it is stated.
 pub sealed_length : (a : AlgorithmIdentifier) (z q c m : List ℕ) → openable a ≡ true → unlock (anew a z) q c ≡ Some m → length c ≡ sealed_size a (length m)
@@ -142,46 +146,49 @@ algorithm_same (Pbes2 par) y z e =
     let cipher = el_same 0x30 _ _ (tail_same (oid aes_256_cbc_oid) _ _ (el_same 0x04 _ _ iv)) in
     el_same 0x30 _ _ (tail_same (oid pbes2_oid) _ _ (el_same 0x30 _ _ (join_same _ _ _ _ kdf cipher)))
 
-anew_same : (a b : AlgorithmIdentifier) (z : List ℕ) → IsAnew z a b → Same (algorithm_canon b) (algorithm_canon (blank_algorithm a))
-anew_same a b z n = ap (λ (x : AlgorithmIdentifier). length (algorithm_canon x)) n.algorithm ∙ algorithm_same a z (blank (drawn_for a)) (n.drawn ∙ sym (blank_size (drawn_for a)))
+anew_same : (to : Kinds) (a b : AlgorithmIdentifier) (z : List ℕ) → IsAnew to z a b → Same (algorithm_canon b) (algorithm_canon (blank_algorithm (kind_for to a)))
+anew_same to a b z n =
+    let k = kind_for to a in
+    ap (λ (x : AlgorithmIdentifier). length (algorithm_canon x)) n.algorithm ∙ algorithm_same k z (blank (drawn_for k)) (n.drawn ∙ sym (blank_size (drawn_for k)))
 
-text_same : (p q z c d : List ℕ) (a b : AlgorithmIdentifier) (m : List ℕ) → openable a ≡ true → IsAnew z a b → unlock b q d ≡ Some m → Same d (blank (sealed_size a (length m)))
-text_same p q z c d a b m o n e = sealed_length a z q d m o (subst (λ (x : AlgorithmIdentifier). unlock x q d ≡ Some m) n.algorithm e) ∙ sym (blank_size (sealed_size a (length m)))
+text_same : (to : Kinds) (p q z c d : List ℕ) (a b : AlgorithmIdentifier) (m : List ℕ) → openable a ≡ true → IsAnew to z a b → unlock b q d ≡ Some m → Same d (blank (sealed_size (kind_for to a) (length m)))
+text_same to p q z c d a b m o n e = sealed_length (kind_for to a) z q d m (kind_opens to a o) (subst (λ (x : AlgorithmIdentifier). unlock x q d ≡ Some m) n.algorithm e) ∙ sym (blank_size (sealed_size (kind_for to a) (length m)))
 
 -- ---- bags
 
-key_same : (p q z : List ℕ) (k l : EncryptedPrivateKeyInfo) → IsAnew z k.encryption_algorithm l.encryption_algorithm
-    → OpensAlike p q k.encryption_algorithm k.encrypted_data l.encryption_algorithm l.encrypted_data → Same (encrypted_key_canon l) (encrypted_key_canon (blank_key p k))
-key_same p q z k l n o =
+key_same : (to : Kinds) (p q z : List ℕ) (k l : EncryptedPrivateKeyInfo) → IsAnew to z k.encryption_algorithm l.encryption_algorithm
+    → OpensAlike to p q k.encryption_algorithm k.encrypted_data l.encryption_algorithm l.encrypted_data → Same (encrypted_key_canon l) (encrypted_key_canon (blank_key to p k))
+key_same to p q z k l n o =
     let a = k.encryption_algorithm in
-    let size : blank (sealed_size a (size_in (unlock a p k.encrypted_data))) ≡ blank (sealed_size a (length o.text)) = ap (λ (x : Option (List ℕ)). blank (sealed_size a (size_in x))) o.opens in
-    let text = text_same p q z k.encrypted_data l.encrypted_data a l.encryption_algorithm o.text (unlock_opened a p k.encrypted_data o.text o.opens).openable n o.opens_anew ∙ ap length (sym size) in
-    el_same 0x30 _ _ (join_same _ _ _ _ (anew_same a l.encryption_algorithm z n) (el_same 0x04 _ _ text))
+    let b = kind_for to a in
+    let size : blank (sealed_size b (size_in (unlock a p k.encrypted_data))) ≡ blank (sealed_size b (length o.text)) = ap (λ (x : Option (List ℕ)). blank (sealed_size b (size_in x))) o.opens in
+    let text = text_same to p q z k.encrypted_data l.encrypted_data a l.encryption_algorithm o.text (unlock_opened a p k.encrypted_data o.text o.opens).openable n o.opens_anew ∙ ap length (sym size) in
+    el_same 0x30 _ _ (join_same _ _ _ _ (anew_same to a l.encryption_algorithm z n) (el_same 0x04 _ _ text))
 
-kind_same : (p q z : List ℕ) (k l : SafeBagKind) → KindLike p q z k l → Same (oid (kind_oid l) ++ ctx 0 (kind_canon l)) (oid (kind_oid (blank_kind p k)) ++ ctx 0 (kind_canon (blank_kind p k)))
-kind_same p q z (kind.CertBag c) l v = ap (λ (x : SafeBagKind). length (oid (kind_oid x) ++ ctx 0 (kind_canon x))) v.1
-kind_same p q z (kind.OtherBagKind o) l v = ap (λ (x : SafeBagKind). length (oid (kind_oid x) ++ ctx 0 (kind_canon x))) v.1
-kind_same p q z (kind.Pkcs8ShroudedKeyBag k) (kind.CertBag c) v = absurd v
-kind_same p q z (kind.Pkcs8ShroudedKeyBag k) (kind.OtherBagKind o) v = absurd v
-kind_same p q z (kind.Pkcs8ShroudedKeyBag k) (kind.Pkcs8ShroudedKeyBag l) v = tail_same (oid shrouded_key_bag_oid) _ _ (el_same 0xa0 _ _ (key_same p q z k l v.0 v.1))
+kind_same : (to : Kinds) (p q z : List ℕ) (k l : SafeBagKind) → KindLike to p q z k l → Same (oid (kind_oid l) ++ ctx 0 (kind_canon l)) (oid (kind_oid (blank_kind to p k)) ++ ctx 0 (kind_canon (blank_kind to p k)))
+kind_same to p q z (kind.CertBag c) l v = ap (λ (x : SafeBagKind). length (oid (kind_oid x) ++ ctx 0 (kind_canon x))) v.1
+kind_same to p q z (kind.OtherBagKind o) l v = ap (λ (x : SafeBagKind). length (oid (kind_oid x) ++ ctx 0 (kind_canon x))) v.1
+kind_same to p q z (kind.Pkcs8ShroudedKeyBag k) (kind.CertBag c) v = absurd v
+kind_same to p q z (kind.Pkcs8ShroudedKeyBag k) (kind.OtherBagKind o) v = absurd v
+kind_same to p q z (kind.Pkcs8ShroudedKeyBag k) (kind.Pkcs8ShroudedKeyBag l) v = tail_same (oid shrouded_key_bag_oid) _ _ (el_same 0xa0 _ _ (key_same to p q z k l v.0 v.1))
 
 regroup : (a b c : List ℕ) → length (a ++ (b ++ c)) ≡ length (a ++ b) + length c
 regroup a b c = omega (arith, length-append a (b ++ c), length-append b c, length-append a b)
 
-pub bag_same : (p q z : List ℕ) (g h : SafeBag) → BagSealed p q z g h → Same (bag_canon h) (bag_canon (blank_bag p g))
-bag_same p q z g h b =
-    let k = kind_same p q z g.bag h.bag b.value in
+pub bag_same : (to : Kinds) (p q z : List ℕ) (g h : SafeBag) → BagSealed to p q z g h → Same (bag_canon h) (bag_canon (blank_bag to p g))
+bag_same to p q z g h b =
+    let k = kind_same to p q z g.bag h.bag b.value in
     let s : Same (attributes_canon h.attributes) (attributes_canon g.attributes) = ap (λ (vs : List PKCS12Attribute). length (attributes_canon vs)) b.attributes in
-    el_same 0x30 _ _ (regroup (oid (kind_oid h.bag)) (ctx 0 (kind_canon h.bag)) (attributes_canon h.attributes) ∙ omega (arith, k, s) ∙ sym (regroup (oid (kind_oid (blank_kind p g.bag))) (ctx 0 (kind_canon (blank_kind p g.bag))) (attributes_canon g.attributes)))
+    el_same 0x30 _ _ (regroup (oid (kind_oid h.bag)) (ctx 0 (kind_canon h.bag)) (attributes_canon h.attributes) ∙ omega (arith, k, s) ∙ sym (regroup (oid (kind_oid (blank_kind to p g.bag))) (ctx 0 (kind_canon (blank_kind to p g.bag))) (attributes_canon g.attributes)))
 
-bags_joined : (p q : List ℕ) (gs hs : List SafeBag) (d : List ℕ) → EachDrawn (BagSealed p q) gs hs d → Same (joined (map bag_canon hs)) (joined (map bag_canon (map (blank_bag p) gs)))
-bags_joined p q [] [] d s = refl
-bags_joined p q [] (h ∷ hs) d s = absurd s
-bags_joined p q (g ∷ gs) [] d s = absurd s
-bags_joined p q (g ∷ gs) (h ∷ hs) d (z, rest, e, b, s) = join_same _ _ _ _ (bag_same p q z g h b) (bags_joined p q gs hs rest s)
+bags_joined : (to : Kinds) (p q : List ℕ) (gs hs : List SafeBag) (d : List ℕ) → EachDrawn (BagSealed to p q) gs hs d → Same (joined (map bag_canon hs)) (joined (map bag_canon (map (blank_bag to p) gs)))
+bags_joined to p q [] [] d s = refl
+bags_joined to p q [] (h ∷ hs) d s = absurd s
+bags_joined to p q (g ∷ gs) [] d s = absurd s
+bags_joined to p q (g ∷ gs) (h ∷ hs) d (z, rest, e, b, s) = join_same _ _ _ _ (bag_same to p q z g h b) (bags_joined to p q gs hs rest s)
 
-pub bags_same : (p q : List ℕ) (gs hs : List SafeBag) (d : List ℕ) → EachDrawn (BagSealed p q) gs hs d → Same (bags_canon hs) (blank_text p gs)
-bags_same p q gs hs d s = el_same 0x30 _ _ (bags_joined p q gs hs d s)
+pub bags_same : (to : Kinds) (p q : List ℕ) (gs hs : List SafeBag) (d : List ℕ) → EachDrawn (BagSealed to p q) gs hs d → Same (bags_canon hs) (blank_text to p gs)
+bags_same to p q gs hs d s = el_same 0x30 _ _ (bags_joined to p q gs hs d s)
 
 -- ---- contents
 
@@ -192,44 +199,44 @@ some_is x y e = cc
 pub holds_sole : (p : List ℕ) (c : ContentInfo) (gs hs : List SafeBag) → HoldsBags p c gs → HoldsBags p c hs → gs ≡ hs
 holds_sole p c gs hs (m, e, b) (n, f, d) = bags_sole m gs hs b (subst (λ (x : List ℕ). IsBags x hs) (some_is n m (sym f ∙ e)) d)
 
-content_same_of : (p q d : List ℕ) (c e : ContentInfo) → (s : ContentSealed p q d c e) → Same (content_canon e) (content_canon (blank_content p c s.bags))
-content_same_of p q d (content.Data v) (content.Data w) s =
-    let text : Same w (blank_text p s.bags) = ap length (some_is w (bags_canon s.bags_anew) s.opens) ∙ bags_same p q s.bags s.bags_anew s.of_keys s.sealed in
+content_same_of : (to : Kinds) (p q d : List ℕ) (c e : ContentInfo) → (s : ContentSealed to p q d c e) → Same (content_canon e) (content_canon (blank_content to p c s.bags))
+content_same_of to p q d (content.Data v) (content.Data w) s =
+    let text : Same w (blank_text to p s.bags) = ap length (some_is w (bags_canon s.bags_anew) s.opens) ∙ bags_same to p q s.bags s.bags_anew s.of_keys s.sealed in
     el_same 0x30 _ _ (tail_same (oid data_oid) _ _ (el_same 0xa0 _ _ (el_same 0x04 _ _ text)))
-content_same_of p q d (content.EncryptedData v) (content.EncryptedData w) s =
+content_same_of to p q d (content.EncryptedData v) (content.EncryptedData w) s =
     let i = v.encrypted_content_info in
     let j = w.encrypted_content_info in
     let a = i.content_encryption_algorithm in
     let o = (unlock_opened a p i.encrypted_content s.holds.0 s.holds.1).openable in
-    let text = text_same p q s.own i.encrypted_content j.encrypted_content a j.content_encryption_algorithm (bags_canon s.bags_anew) o s.form s.opens
-    ∙ ap (λ (n : ℕ). length (blank (sealed_size a n))) (bags_same p q s.bags s.bags_anew s.of_keys s.sealed) in
-    let info = el_same 0x30 _ _ (tail_same (oid data_oid) _ _ (join_same _ _ _ _ (anew_same a j.content_encryption_algorithm s.own s.form) (el_same 0x80 _ _ text))) in
+    let text = text_same to p q s.own i.encrypted_content j.encrypted_content a j.content_encryption_algorithm (bags_canon s.bags_anew) o s.form s.opens
+    ∙ ap (λ (n : ℕ). length (blank (sealed_size (kind_for to a) n))) (bags_same to p q s.bags s.bags_anew s.of_keys s.sealed) in
+    let info = el_same 0x30 _ _ (tail_same (oid data_oid) _ _ (join_same _ _ _ _ (anew_same to a j.content_encryption_algorithm s.own s.form) (el_same 0x80 _ _ text))) in
     el_same 0x30 _ _ (tail_same (oid encrypted_data_oid) _ _ (el_same 0xa0 _ _ (el_same 0x30 _ _ (tail_same (uint 0) _ _ info))))
-content_same_of p q d (content.Data v) (content.EncryptedData w) s = absurd s.form
-content_same_of p q d (content.Data v) (content.OtherContext o) s = absurd s.form
-content_same_of p q d (content.EncryptedData v) (content.Data w) s = absurd s.form
-content_same_of p q d (content.EncryptedData v) (content.OtherContext o) s = absurd s.form
-content_same_of p q d (content.OtherContext o) e s = absurd s.form
+content_same_of to p q d (content.Data v) (content.EncryptedData w) s = absurd s.form
+content_same_of to p q d (content.Data v) (content.OtherContext o) s = absurd s.form
+content_same_of to p q d (content.EncryptedData v) (content.Data w) s = absurd s.form
+content_same_of to p q d (content.EncryptedData v) (content.OtherContext o) s = absurd s.form
+content_same_of to p q d (content.OtherContext o) e s = absurd s.form
 
-pub content_same : (p q d : List ℕ) (c e : ContentInfo) (gs : List SafeBag) → ContentSealed p q d c e → HoldsBags p c gs → Same (content_canon e) (content_canon (blank_content p c gs))
-content_same p q d c e gs s h = content_same_of p q d c e s ∙ ap (λ (x : List SafeBag). length (content_canon (blank_content p c x))) (holds_sole p c s.bags gs s.holds h)
+pub content_same : (to : Kinds) (p q d : List ℕ) (c e : ContentInfo) (gs : List SafeBag) → ContentSealed to p q d c e → HoldsBags p c gs → Same (content_canon e) (content_canon (blank_content to p c gs))
+content_same to p q d c e gs s h = content_same_of to p q d c e s ∙ ap (λ (x : List SafeBag). length (content_canon (blank_content to p c x))) (holds_sole p c s.bags gs s.holds h)
 
-contents_joined : (p q : List ℕ) (cs es : List ContentInfo) (gss : List (List SafeBag)) (d : List ℕ) → EachDrawn (ContentSealed p q) cs es d → Each (HoldsBags p) cs gss
-    → Same (joined (map content_canon es)) (joined (map content_canon (blank_contents p cs gss)))
-contents_joined p q [] [] gss d s h = refl
-contents_joined p q [] (e ∷ es) gss d s h = absurd s
-contents_joined p q (c ∷ cs) [] gss d s h = absurd s
-contents_joined p q (c ∷ cs) (e ∷ es) [] d s h = absurd h
-contents_joined p q (c ∷ cs) (e ∷ es) (gs ∷ gss) d (z, rest, f, b, s) h = join_same _ _ _ _ (content_same p q z c e gs b h.0) (contents_joined p q cs es gss rest s h.1)
+contents_joined : (to : Kinds) (p q : List ℕ) (cs es : List ContentInfo) (gss : List (List SafeBag)) (d : List ℕ) → EachDrawn (ContentSealed to p q) cs es d → Each (HoldsBags p) cs gss
+    → Same (joined (map content_canon es)) (joined (map content_canon (blank_contents to p cs gss)))
+contents_joined to p q [] [] gss d s h = refl
+contents_joined to p q [] (e ∷ es) gss d s h = absurd s
+contents_joined to p q (c ∷ cs) [] gss d s h = absurd s
+contents_joined to p q (c ∷ cs) (e ∷ es) [] d s h = absurd h
+contents_joined to p q (c ∷ cs) (e ∷ es) (gs ∷ gss) d (z, rest, f, b, s) h = join_same _ _ _ _ (content_same to p q z c e gs b h.0) (contents_joined to p q cs es gss rest s h.1)
 
-pub contents_same : (p q : List ℕ) (cs es : List ContentInfo) (gss : List (List SafeBag)) (d : List ℕ) → EachDrawn (ContentSealed p q) cs es d → Each (HoldsBags p) cs gss
-    → Same (contents_canon es) (contents_canon (blank_contents p cs gss))
-contents_same p q cs es gss d s h = el_same 0x30 _ _ (contents_joined p q cs es gss d s h)
+pub contents_same : (to : Kinds) (p q : List ℕ) (cs es : List ContentInfo) (gss : List (List SafeBag)) (d : List ℕ) → EachDrawn (ContentSealed to p q) cs es d → Each (HoldsBags p) cs gss
+    → Same (contents_canon es) (contents_canon (blank_contents to p cs gss))
+contents_same to p q cs es gss d s h = el_same 0x30 _ _ (contents_joined to p q cs es gss d s h)
 
 -- ---- stores
 
 digest_length : (a : AlgorithmIdentifier) (q salt v : List ℕ) (r : ℕ) → is_mac_digest a ≡ true → length (mac_value a q salt r v) ≡ digest_size a
-unfolding mac_value mac_under
+unfolding mac_value mac_under_in
 digest_length Sha1 q salt v r e = length-hmac sha1 64 20 length-sha1 _ v
 digest_length Sha256 q salt v r e = length-hmac sha256 64 32 length-sha256 _ v
 digest_length (PbewithSHAAnd40BitRC2CBC p) q salt v r e = absurd cc
@@ -238,16 +245,17 @@ digest_length (Pbes2 par) q salt v r e = absurd cc
 digest_length (OtherAlg o) q salt v r e = absurd cc
 
 -- The text of a store that is made of contents that are sealed anew is as long as it is stated.
-pub store_size : (p q : List ℕ) (version : ℕ) (m : MacData) (cs es : List ContentInfo) (gss : List (List SafeBag)) (d salt : List ℕ) → is_mac_digest m.mac.digest_algorithm ≡ true
-    → EachDrawn (ContentSealed p q) cs es d → Each (HoldsBags p) cs gss → length salt ≡ 8 → length (store_canon (store_anew version m q salt es)) ≡ changed_size version m p cs gss
+pub store_size : (to : Kinds) (p q : List ℕ) (version : ℕ) (m : MacData) (cs es : List ContentInfo) (gss : List (List SafeBag)) (d salt : List ℕ) → is_mac_digest m.mac.digest_algorithm ≡ true
+    → EachDrawn (ContentSealed to p q) cs es d → Each (HoldsBags p) cs gss → length salt ≡ mac_salt to → length (store_canon (store_anew to version m q salt es)) ≡ changed_size to version m p cs gss
 unfolding changed_size mac_of
-store_size p q version m cs es gss d salt known s h long =
-    let a = m.mac.digest_algorithm in
-    let text = contents_same p q cs es gss d s h in
-    let digest : Same (mac_value a (bmp_password q) salt m.iterations (contents_canon es)) (blank (digest_size a)) = digest_length a (bmp_password q) salt (contents_canon es) m.iterations known ∙ sym (blank_size (digest_size a)) in
+store_size to p q version m cs es gss d salt known s h long =
+    let a = digest_for to m in
+    let n = count_for to m in
+    let text = contents_same to p q cs es gss d s h in
+    let digest : Same (mac_value a (bmp_password q) salt n (contents_canon es)) (blank (digest_size a)) = digest_length a (bmp_password q) salt (contents_canon es) n (digest_known to m known) ∙ sym (blank_size (digest_size a)) in
     let outer = el_same 0x30 _ _ (tail_same (oid data_oid) _ _ (el_same 0xa0 _ _ (el_same 0x04 _ _ text))) in
     let info = el_same 0x30 _ _ (tail_same (algorithm_canon a) _ _ (el_same 0x04 _ _ digest)) in
-    let mac = el_same 0x30 _ _ (join_same _ _ _ _ info (front_same _ _ (uint m.iterations) (el_same 0x04 salt (blank 8) (long ∙ sym (blank_size 8))))) in
+    let mac = el_same 0x30 _ _ (join_same _ _ _ _ info (front_same _ _ (uint n) (el_same 0x04 salt (blank (mac_salt to)) (long ∙ sym (blank_size (mac_salt to)))))) in
     el_same 0x30 _ _ (tail_same (uint version) _ _ (join_same _ _ _ _ outer mac))
 
 -- ---- what is too long in a part is too long in the whole
@@ -269,40 +277,40 @@ in_front x y = left_fits x y (x ++ y) refl
 in_back : (x y : List ℕ) → Fits y (x ++ y)
 in_back x y = right_fits x y (x ++ y) refl
 
-pub blank_data_size : (p : List ℕ) (k : EncryptedPrivateKeyInfo) (key : List ℕ) → unlock k.encryption_algorithm p k.encrypted_data ≡ Some key
-    → length (blank_key p k).encrypted_data ≡ sealed_size k.encryption_algorithm (length key)
-blank_data_size p k key e = blank_size _ ∙ ap (λ (x : Option (List ℕ)). sealed_size k.encryption_algorithm (size_in x)) e
+pub blank_data_size : (to : Kinds) (p : List ℕ) (k : EncryptedPrivateKeyInfo) (key : List ℕ) → unlock k.encryption_algorithm p k.encrypted_data ≡ Some key
+    → length (blank_key to p k).encrypted_data ≡ sealed_size (kind_for to k.encryption_algorithm) (length key)
+blank_data_size to p k key e = blank_size _ ∙ ap (λ (x : Option (List ℕ)). sealed_size (kind_for to k.encryption_algorithm) (size_in x)) e
 
 -- what is sealed of a key stands in its bag
-pub key_in : (p : List ℕ) (g : SafeBag) (k : EncryptedPrivateKeyInfo) → g.bag ≡ kind.Pkcs8ShroudedKeyBag k → length (blank_key p k).encrypted_data ≤ length (bag_canon (blank_bag p g))
-key_in p g k is =
-    let v = (blank_key p k).encrypted_data in
-    let e = encrypted_key_canon (blank_key p k) in
+pub key_in : (to : Kinds) (p : List ℕ) (g : SafeBag) (k : EncryptedPrivateKeyInfo) → g.bag ≡ kind.Pkcs8ShroudedKeyBag k → length (blank_key to p k).encrypted_data ≤ length (bag_canon (blank_bag to p g))
+key_in to p g k is =
+    let v = (blank_key to p k).encrypted_data in
+    let e = encrypted_key_canon (blank_key to p k) in
     let inner = ctx 0 e ++ attributes_canon g.attributes in
-    let whole : bag_canon (blank_bag p g) ≡ seq (oid shrouded_key_bag_oid ++ inner) = ap (λ (x : SafeBagKind). bag_canon (record { bag = blank_kind p x; attributes = g.attributes })) is in
-    let one = through v (octets v) _ (in_el 0x04 v) (in_back (algorithm_canon (blank_algorithm k.encryption_algorithm)) (octets v)) in
+    let whole : bag_canon (blank_bag to p g) ≡ seq (oid shrouded_key_bag_oid ++ inner) = ap (λ (x : SafeBagKind). bag_canon (record { bag = blank_kind to p x; attributes = g.attributes })) is in
+    let one = through v (octets v) _ (in_el 0x04 v) (in_back (algorithm_canon (blank_algorithm (kind_for to k.encryption_algorithm))) (octets v)) in
     let two = through v _ (ctx 0 e) (through v _ e one (in_el 0x30 _)) (in_el 0xa0 e) in
     let three = through v _ (oid shrouded_key_bag_oid ++ inner) (through v _ inner two (in_front (ctx 0 e) (attributes_canon g.attributes))) (in_back (oid shrouded_key_bag_oid) inner) in
     omega (arith, ap length whole, through v _ (seq (oid shrouded_key_bag_oid ++ inner)) three (in_el 0x30 _))
 
-bag_joined : (p : List ℕ) (before : List SafeBag) (g : SafeBag) (back : List SafeBag) → Fits (bag_canon (blank_bag p g)) (joined (map bag_canon (map (blank_bag p) (before ++ g ∷ back))))
-bag_joined p [] g back = in_front _ _
-bag_joined p (h ∷ before) g back = through _ _ _ (bag_joined p before g back) (in_back _ _)
+bag_joined : (to : Kinds) (p : List ℕ) (before : List SafeBag) (g : SafeBag) (back : List SafeBag) → Fits (bag_canon (blank_bag to p g)) (joined (map bag_canon (map (blank_bag to p) (before ++ g ∷ back))))
+bag_joined to p [] g back = in_front _ _
+bag_joined to p (h ∷ before) g back = through _ _ _ (bag_joined to p before g back) (in_back _ _)
 
-pub bag_in : (p : List ℕ) (before : List SafeBag) (g : SafeBag) (back gs : List SafeBag) → gs ≡ before ++ g ∷ back → length (bag_canon (blank_bag p g)) ≤ length (blank_text p gs)
-bag_in p before g back gs e = let k = through _ _ _ (bag_joined p before g back) (in_el 0x30 _) in subst (λ (l : List SafeBag). length (bag_canon (blank_bag p g)) ≤ length (blank_text p l)) (sym e) k
+pub bag_in : (to : Kinds) (p : List ℕ) (before : List SafeBag) (g : SafeBag) (back gs : List SafeBag) → gs ≡ before ++ g ∷ back → length (bag_canon (blank_bag to p g)) ≤ length (blank_text to p gs)
+bag_in to p before g back gs e = let k = through _ _ _ (bag_joined to p before g back) (in_el 0x30 _) in subst (λ (l : List SafeBag). length (bag_canon (blank_bag to p g)) ≤ length (blank_text to p l)) (sym e) k
 
 -- the text of bags stands in their content, and so does what is sealed of it
-pub plain_in : (p v : List ℕ) (gs : List SafeBag) → length (blank_text p gs) ≤ length (content_canon (blank_content p (content.Data v) gs))
-plain_in p v gs =
-    let t = blank_text p gs in
+pub plain_in : (to : Kinds) (p v : List ℕ) (gs : List SafeBag) → length (blank_text to p gs) ≤ length (content_canon (blank_content to p (content.Data v) gs))
+plain_in to p v gs =
+    let t = blank_text to p gs in
     through t _ _ (through t _ (oid data_oid ++ ctx 0 (octets t)) (through t _ (ctx 0 (octets t)) (in_el 0x04 t) (in_el 0xa0 _)) (in_back (oid data_oid) _)) (in_el 0x30 _)
 
-pub sealed_in : (p : List ℕ) (d : EncryptedData) (gs : List SafeBag)
-    → sealed_size d.encrypted_content_info.content_encryption_algorithm (length (blank_text p gs)) ≤ length (content_canon (blank_content p (content.EncryptedData d) gs))
-sealed_in p d gs =
-    let a = d.encrypted_content_info.content_encryption_algorithm in
-    let n = sealed_size a (length (blank_text p gs)) in
+pub sealed_in : (to : Kinds) (p : List ℕ) (d : EncryptedData) (gs : List SafeBag)
+    → sealed_size (kind_for to d.encrypted_content_info.content_encryption_algorithm) (length (blank_text to p gs)) ≤ length (content_canon (blank_content to p (content.EncryptedData d) gs))
+sealed_in to p d gs =
+    let a = kind_for to d.encrypted_content_info.content_encryption_algorithm in
+    let n = sealed_size a (length (blank_text to p gs)) in
     let t = blank n in
     let i = oid data_oid ++ (algorithm_canon (blank_algorithm a) ++ pctx 0 t) in
     let one = through t _ i (through t _ (algorithm_canon (blank_algorithm a) ++ pctx 0 t) (in_el 0x80 t) (in_back (algorithm_canon (blank_algorithm a)) _)) (in_back (oid data_oid) _) in
@@ -310,28 +318,30 @@ sealed_in p d gs =
     let three = through t _ (seq (oid encrypted_data_oid ++ ctx 0 (seq (uint 0 ++ seq i)))) (through t _ (oid encrypted_data_oid ++ ctx 0 (seq (uint 0 ++ seq i))) (through t _ _ two (in_el 0xa0 _)) (in_back (oid encrypted_data_oid) _)) (in_el 0x30 _) in
     omega (arith, blank_size n, three)
 
-pub text_in_sealed : (p : List ℕ) (d : EncryptedData) (gs : List SafeBag) → openable d.encrypted_content_info.content_encryption_algorithm ≡ true
-    → length (blank_text p gs) ≤ length (content_canon (blank_content p (content.EncryptedData d) gs))
-text_in_sealed p d gs o = omega (arith, sealed_most d.encrypted_content_info.content_encryption_algorithm (length (blank_text p gs)) o, sealed_in p d gs)
+pub text_in_sealed : (to : Kinds) (p : List ℕ) (d : EncryptedData) (gs : List SafeBag) → openable d.encrypted_content_info.content_encryption_algorithm ≡ true
+    → length (blank_text to p gs) ≤ length (content_canon (blank_content to p (content.EncryptedData d) gs))
+text_in_sealed to p d gs o =
+    let a = d.encrypted_content_info.content_encryption_algorithm in
+    omega (arith, sealed_most (kind_for to a) (length (blank_text to p gs)) (kind_opens to a o), sealed_in to p d gs)
 
-content_joined : (p : List ℕ) (before : List ContentInfo) (c : ContentInfo) (back : List ContentInfo) (first : List (List SafeBag)) (gs : List SafeBag) (more : List (List SafeBag))
-    → Each (HoldsBags p) before first → Fits (content_canon (blank_content p c gs)) (joined (map content_canon (blank_contents p (before ++ c ∷ back) (first ++ gs ∷ more))))
-content_joined p [] c back [] gs more h = in_front _ _
-content_joined p [] c back (f ∷ first) gs more h = absurd h
-content_joined p (b ∷ before) c back [] gs more h = absurd h
-content_joined p (b ∷ before) c back (f ∷ first) gs more h = through _ _ _ (content_joined p before c back first gs more h.1) (in_back _ _)
+content_joined : (to : Kinds) (p : List ℕ) (before : List ContentInfo) (c : ContentInfo) (back : List ContentInfo) (first : List (List SafeBag)) (gs : List SafeBag) (more : List (List SafeBag))
+    → Each (HoldsBags p) before first → Fits (content_canon (blank_content to p c gs)) (joined (map content_canon (blank_contents to p (before ++ c ∷ back) (first ++ gs ∷ more))))
+content_joined to p [] c back [] gs more h = in_front _ _
+content_joined to p [] c back (f ∷ first) gs more h = absurd h
+content_joined to p (b ∷ before) c back [] gs more h = absurd h
+content_joined to p (b ∷ before) c back (f ∷ first) gs more h = through _ _ _ (content_joined to p before c back first gs more h.1) (in_back _ _)
 
-pub content_in : (p : List ℕ) (before : List ContentInfo) (c : ContentInfo) (back cs : List ContentInfo) (first : List (List SafeBag)) (gs : List SafeBag) (more gss : List (List SafeBag))
-    → Each (HoldsBags p) before first → cs ≡ before ++ c ∷ back → gss ≡ first ++ gs ∷ more → length (content_canon (blank_content p c gs)) ≤ length (contents_canon (blank_contents p cs gss))
-content_in p before c back cs first gs more gss h e f =
-    let k = through _ _ _ (content_joined p before c back first gs more h) (in_el 0x30 _) in
-    subst (λ (l : List ContentInfo). length (content_canon (blank_content p c gs)) ≤ length (contents_canon (blank_contents p l gss))) (sym e)
-    (subst (λ (l : List (List SafeBag)). length (content_canon (blank_content p c gs)) ≤ length (contents_canon (blank_contents p (before ++ c ∷ back) l))) (sym f) k)
+pub content_in : (to : Kinds) (p : List ℕ) (before : List ContentInfo) (c : ContentInfo) (back cs : List ContentInfo) (first : List (List SafeBag)) (gs : List SafeBag) (more gss : List (List SafeBag))
+    → Each (HoldsBags p) before first → cs ≡ before ++ c ∷ back → gss ≡ first ++ gs ∷ more → length (content_canon (blank_content to p c gs)) ≤ length (contents_canon (blank_contents to p cs gss))
+content_in to p before c back cs first gs more gss h e f =
+    let k = through _ _ _ (content_joined to p before c back first gs more h) (in_el 0x30 _) in
+    subst (λ (l : List ContentInfo). length (content_canon (blank_content to p c gs)) ≤ length (contents_canon (blank_contents to p l gss))) (sym e)
+    (subst (λ (l : List (List SafeBag)). length (content_canon (blank_content to p c gs)) ≤ length (contents_canon (blank_contents to p (before ++ c ∷ back) l))) (sym f) k)
 
-pub contents_in : (version : ℕ) (m : MacData) (p : List ℕ) (cs : List ContentInfo) (gss : List (List SafeBag)) → length (contents_canon (blank_contents p cs gss)) ≤ changed_size version m p cs gss
+pub contents_in : (to : Kinds) (version : ℕ) (m : MacData) (p : List ℕ) (cs : List ContentInfo) (gss : List (List SafeBag)) → length (contents_canon (blank_contents to p cs gss)) ≤ changed_size to version m p cs gss
 unfolding changed_size
-contents_in version m p cs gss =
-    let t = contents_canon (blank_contents p cs gss) in
+contents_in to version m p cs gss =
+    let t = contents_canon (blank_contents to p cs gss) in
     let c = content_canon (content.Data t) in
     let one = through t _ c (through t _ (oid data_oid ++ ctx 0 (octets t)) (through t _ (ctx 0 (octets t)) (in_el 0x04 t) (in_el 0xa0 _)) (in_back (oid data_oid) _)) (in_el 0x30 _) in
-    through t _ (store_canon (blank_store version m p cs gss)) (through t _ _ (through t c _ one (in_front c _)) (in_back (uint version) _)) (in_el 0x30 _)
+    through t _ (store_canon (blank_store to version m p cs gss)) (through t _ _ (through t c _ one (in_front c _)) (in_back (uint version) _)) (in_el 0x30 _)

@@ -22,6 +22,8 @@ use Rattle.rekey_core.specs.Resealing.{EachDrawn}
 use Rattle.rekey_core.specs.Sealing.{BagSealed, BagsSealed, ContentSealed, ContentsSealed, LongOnly, Supplies, SuppliesAll, bag_draws, bags_draw}
 use Rattle.rekey_core.specs.Size.{blank_bag, blank_content, blank_contents, blank_text, sealed_size}
 use Rattle.rekey_core.proofs.Sizes.{bag_in, blank_data_size, content_in, key_in}
+use Rattle.rekey_core.specs.Kinds.{kind_for, mac_salt}
+use Rattle.rekey_core.specs.declared.kinds.Kinds.{Kinds}
 
 pub long_map : (P Q : Type 0) (e : TransferError) → (P → Q) → LongOnly P e → LongOnly Q e
 long_map P Q TooLong f h = f h
@@ -40,26 +42,26 @@ long_map P Q Rng f h = absurd h
 
 -- ---- how many octets are drawn
 
-pub bags_draw_cons : (g : SafeBag) (gs : List SafeBag) → bags_draw (g ∷ gs) ≡ bag_draws g + bags_draw gs
-bags_draw_cons g gs = sum_by-cons bag_draws g gs
+pub bags_draw_cons : (to : Kinds) (g : SafeBag) (gs : List SafeBag) → bags_draw to (g ∷ gs) ≡ bag_draws to g + bags_draw to gs
+bags_draw_cons to g gs = sum_by-cons (bag_draws to) g gs
 
-pub key_draw : (g : SafeBag) (k : EncryptedPrivateKeyInfo) → g.bag ≡ kind.Pkcs8ShroudedKeyBag k → bag_draws g ≡ drawn_for k.encryption_algorithm
-key_draw g k e = let zero_more : 0 + drawn_for k.encryption_algorithm ≡ drawn_for k.encryption_algorithm = omega arith in ap (λ (x : SafeBagKind). sum_by key_draws (shrouded_in x)) e ∙ zero_more
+pub key_draw : (to : Kinds) (g : SafeBag) (k : EncryptedPrivateKeyInfo) → g.bag ≡ kind.Pkcs8ShroudedKeyBag k → bag_draws to g ≡ drawn_for (kind_for to k.encryption_algorithm)
+key_draw to g k e = let zero_more : 0 + drawn_for (kind_for to k.encryption_algorithm) ≡ drawn_for (kind_for to k.encryption_algorithm) = omega arith in ap (λ (x : SafeBagKind). sum_by (key_draws to) (shrouded_in x)) e ∙ zero_more
 
-pub bags_keys : (gs : List SafeBag) → bags_draw gs ≡ sum_by key_draws (shrouded_among gs)
-bags_keys [] = refl
-bags_keys (g ∷ gs) = bags_draw_cons g gs ∙ ap (λ (n : ℕ). bag_draws g + n) (bags_keys gs) ∙ sym (sum_by-append key_draws (shrouded_in g.bag) (shrouded_among gs))
+pub bags_keys : (to : Kinds) (gs : List SafeBag) → bags_draw to gs ≡ sum_by (key_draws to) (shrouded_among gs)
+bags_keys to [] = refl
+bags_keys to (g ∷ gs) = bags_draw_cons to g gs ∙ ap (λ (n : ℕ). bag_draws to g + n) (bags_keys to gs) ∙ sym (sum_by-append (key_draws to) (shrouded_in g.bag) (shrouded_among gs))
 
-pub all_keys : (gss : List (List SafeBag)) → sum_by bags_draw gss ≡ sum_by key_draws (all_shrouded gss)
-all_keys [] = refl
-all_keys (gs ∷ gss) = sum_by-cons bags_draw gs gss ∙ ap (λ (n : ℕ). n + sum_by bags_draw gss) (bags_keys gs) ∙ ap (λ (n : ℕ). sum_by key_draws (shrouded_among gs) + n) (all_keys gss)
-    ∙ sym (sum_by-append key_draws (shrouded_among gs) (all_shrouded gss))
+pub all_keys : (to : Kinds) (gss : List (List SafeBag)) → sum_by (bags_draw to) gss ≡ sum_by (key_draws to) (all_shrouded gss)
+all_keys to [] = refl
+all_keys to (gs ∷ gss) = sum_by-cons (bags_draw to) gs gss ∙ ap (λ (n : ℕ). n + sum_by (bags_draw to) gss) (bags_keys to gs) ∙ ap (λ (n : ℕ). sum_by (key_draws to) (shrouded_among gs) + n) (all_keys to gss)
+    ∙ sym (sum_by-append (key_draws to) (shrouded_among gs) (all_shrouded gss))
 
-pub draws_cons : (c : ContentInfo) (cs : List ContentInfo) → sum_by content_draws (c ∷ cs) ≡ content_draws c + sum_by content_draws cs
-draws_cons c cs = sum_by-cons content_draws c cs
+pub draws_cons : (to : Kinds) (c : ContentInfo) (cs : List ContentInfo) → sum_by (content_draws to) (c ∷ cs) ≡ content_draws to c + sum_by (content_draws to) cs
+draws_cons to c cs = sum_by-cons (content_draws to) c cs
 
-pub all_draws_cons : (gs : List SafeBag) (gss : List (List SafeBag)) → sum_by bags_draw (gs ∷ gss) ≡ bags_draw gs + sum_by bags_draw gss
-all_draws_cons gs gss = sum_by-cons bags_draw gs gss
+pub all_draws_cons : (to : Kinds) (gs : List SafeBag) (gss : List (List SafeBag)) → sum_by (bags_draw to) (gs ∷ gss) ≡ bags_draw to gs + sum_by (bags_draw to) gss
+all_draws_cons to gs gss = sum_by-cons (bags_draw to) gs gss
 
 -- ---- the supply of keys
 
@@ -118,18 +120,18 @@ supplies_none p keys more front e o = e ∙ ap (λ l. l ++ more) (none_left p fr
 
 -- ---- one bag
 
-pub plain_bag : (p q : List ℕ) (g : SafeBag) (keys more : List (List ℕ)) → shrouded_in g.bag ≡ [] → Supplies p (g ∷ []) keys more → (keys ≡ more) × BagSealed p q [] g g
-plain_bag p q g keys more none s = plain g.bag refl
+pub plain_bag : (to : Kinds) (p q : List ℕ) (g : SafeBag) (keys more : List (List ℕ)) → shrouded_in g.bag ≡ [] → Supplies p (g ∷ []) keys more → (keys ≡ more) × BagSealed to p q [] g g
+plain_bag to p q g keys more none s = plain g.bag refl
   where
     first : Each (KeyOpens p) [] s.front
     first = subst (λ (l : List EncryptedPrivateKeyInfo). Each (KeyOpens p) l s.front) (append-nil (shrouded_in g.bag) ∙ none) s.are_opened
 
-    value : (k : SafeBagKind) → shrouded_in k ≡ [] → KindLike p q [] k k
+    value : (k : SafeBagKind) → shrouded_in k ≡ [] → KindLike to p q [] k k
     value (kind.CertBag c) e = (refl, refl)
     value (kind.OtherBagKind o) e = (refl, refl)
     value (kind.Pkcs8ShroudedKeyBag k) e = absurd cc
 
-    plain : (k : SafeBagKind) → g.bag ≡ k → (keys ≡ more) × BagSealed p q [] g g
+    plain : (k : SafeBagKind) → g.bag ≡ k → (keys ≡ more) × BagSealed to p q [] g g
     plain k e = (supplies_none p keys more s.front s.splits first, record { attributes = refl; value = value g.bag none })
 
 pub record FirstKey (p : List ℕ) (k : EncryptedPrivateKeyInfo) (keys more : List (List ℕ)) : Type 0 where
@@ -160,47 +162,47 @@ heads x y xs ys e = cc
 tails : (x y : List ℕ) (xs ys : List (List ℕ)) → x ∷ xs ≡ y ∷ ys → xs ≡ ys
 tails x y xs ys e = cc
 
-pub key_bag : (p q z : List ℕ) (g h : SafeBag) (k l : EncryptedPrivateKeyInfo) (key : List ℕ) (keys rest more : List (List ℕ)) → g.bag ≡ kind.Pkcs8ShroudedKeyBag k → h.bag ≡ kind.Pkcs8ShroudedKeyBag l
-    → h.attributes ≡ g.attributes → keys ≡ key ∷ rest → Supplies p (g ∷ []) keys more → IsAnew z k.encryption_algorithm l.encryption_algorithm → unlock l.encryption_algorithm q l.encrypted_data ≡ Some key
-    → (rest ≡ more) × BagSealed p q z g h
-key_bag p q z g h k l key keys rest more is il same e s n o =
+pub key_bag : (to : Kinds) (p q z : List ℕ) (g h : SafeBag) (k l : EncryptedPrivateKeyInfo) (key : List ℕ) (keys rest more : List (List ℕ)) → g.bag ≡ kind.Pkcs8ShroudedKeyBag k → h.bag ≡ kind.Pkcs8ShroudedKeyBag l
+    → h.attributes ≡ g.attributes → keys ≡ key ∷ rest → Supplies p (g ∷ []) keys more → IsAnew to z k.encryption_algorithm l.encryption_algorithm → unlock l.encryption_algorithm q l.encrypted_data ≡ Some key
+    → (rest ≡ more) × BagSealed to p q z g h
+key_bag to p q z g h k l key keys rest more is il same e s n o =
     let f = first_key p g k keys more is s in
     let eq = sym e ∙ f.is in
     let opens = subst (λ (x : List ℕ). unlock k.encryption_algorithm p k.encrypted_data ≡ Some x) (sym (heads key f.key rest more eq)) f.opens.0 in
-    let v : KindLike p q z (kind.Pkcs8ShroudedKeyBag k) (kind.Pkcs8ShroudedKeyBag l) = (n, record { text = key; opens = opens; opens_anew = o }) in (
+    let v : KindLike to p q z (kind.Pkcs8ShroudedKeyBag k) (kind.Pkcs8ShroudedKeyBag l) = (n, record { text = key; opens = opens; opens_anew = o }) in (
       tails key f.key rest more eq,
       record {
         attributes = same;
-        value = subst (λ (x : SafeBagKind). KindLike p q z x h.bag) (sym is) (subst (λ (x : SafeBagKind). KindLike p q z (kind.Pkcs8ShroudedKeyBag k) x) (sym il) v);
+        value = subst (λ (x : SafeBagKind). KindLike to p q z x h.bag) (sym is) (subst (λ (x : SafeBagKind). KindLike to p q z (kind.Pkcs8ShroudedKeyBag k) x) (sym il) v);
       },
     )
 
-pub key_long : (p : List ℕ) (g : SafeBag) (k : EncryptedPrivateKeyInfo) (key : List ℕ) (keys rest more : List (List ℕ)) → g.bag ≡ kind.Pkcs8ShroudedKeyBag k → keys ≡ key ∷ rest → Supplies p (g ∷ []) keys more
-    → 2 ^ 32 ≤ sealed_size k.encryption_algorithm (length key) → 2 ^ 32 ≤ length (bag_canon (blank_bag p g))
-key_long p g k key keys rest more is e s h =
+pub key_long : (to : Kinds) (p : List ℕ) (g : SafeBag) (k : EncryptedPrivateKeyInfo) (key : List ℕ) (keys rest more : List (List ℕ)) → g.bag ≡ kind.Pkcs8ShroudedKeyBag k → keys ≡ key ∷ rest → Supplies p (g ∷ []) keys more
+    → 2 ^ 32 ≤ sealed_size (kind_for to k.encryption_algorithm) (length key) → 2 ^ 32 ≤ length (bag_canon (blank_bag to p g))
+key_long to p g k key keys rest more is e s h =
     let f = first_key p g k keys more is s in
     let opens = subst (λ (x : List ℕ). unlock k.encryption_algorithm p k.encrypted_data ≡ Some x) (sym (heads key f.key rest more (sym e ∙ f.is))) f.opens.0 in
-    omega (arith, h, blank_data_size p k key opens, key_in p g k is)
+    omega (arith, h, blank_data_size to p k key opens, key_in to p g k is)
 
 -- ---- bags, one after the other
 
-pub record BagsOn (q : List ℕ) (gs rest : List SafeBag) (keys keys_now : List (List ℕ)) (drawn drawn_now : List ℕ) (made : List SafeBag) : Type 0 where
+pub record BagsOn (to : Kinds) (q : List ℕ) (gs rest : List SafeBag) (keys keys_now : List (List ℕ)) (drawn drawn_now : List ℕ) (made : List SafeBag) : Type 0 where
   pub before : List SafeBag
   pub split : gs ≡ before ++ rest
-  pub room : bags_draw rest ≤ length drawn_now
-  pub used : length drawn + bags_draw rest ≡ bags_draw gs + length drawn_now
+  pub room : bags_draw to rest ≤ length drawn_now
+  pub used : length drawn + bags_draw to rest ≡ bags_draw to gs + length drawn_now
   pub goes : (p : List ℕ) (more : List (List ℕ)) → Supplies p gs keys more → Supplies p rest keys_now more
-      × ((hs : List SafeBag) (d tail : List ℕ) → drawn_now ≡ d ++ tail → EachDrawn (BagSealed p q) rest hs d → (z : List ℕ) × (drawn ≡ z ++ tail) × EachDrawn (BagSealed p q) gs (made ++ hs) z)
+      × ((hs : List SafeBag) (d tail : List ℕ) → drawn_now ≡ d ++ tail → EachDrawn (BagSealed to p q) rest hs d → (z : List ℕ) × (drawn ≡ z ++ tail) × EachDrawn (BagSealed to p q) gs (made ++ hs) z)
 
-pub bags_start : (q : List ℕ) (gs : List SafeBag) (keys : List (List ℕ)) (drawn : List ℕ) → bags_draw gs ≤ length drawn → BagsOn q gs gs keys keys drawn drawn []
-bags_start q gs keys drawn room = record { before = []; split = refl; room = room; used = omega arith; goes = λ p more s. (s, λ hs d tail e t. (d, e, t)) }
+pub bags_start : (to : Kinds) (q : List ℕ) (gs : List SafeBag) (keys : List (List ℕ)) (drawn : List ℕ) → bags_draw to gs ≤ length drawn → BagsOn to q gs gs keys keys drawn drawn []
+bags_start to q gs keys drawn room = record { before = []; split = refl; room = room; used = omega arith; goes = λ p more s. (s, λ hs d tail e t. (d, e, t)) }
 
-pub bags_step : (q : List ℕ) (gs rest : List SafeBag) (g : SafeBag) (back : List SafeBag) (keys keys_now keys_after : List (List ℕ)) (drawn drawn_now drawn_after : List ℕ) (made : List SafeBag) (h : SafeBag)
-    → BagsOn q gs rest keys keys_now drawn drawn_now made → rest ≡ g ∷ back
-    → ((p : List ℕ) (more : List (List ℕ)) → Supplies p (g ∷ []) keys_now more → (keys_after ≡ more) × (z : List ℕ) × (drawn_now ≡ z ++ drawn_after) × BagSealed p q z g h)
-    → length drawn_now ≡ bag_draws g + length drawn_after → BagsOn q gs back keys keys_after drawn drawn_after (made ++ h ∷ [])
-bags_step q gs rest g back keys keys_now keys_after drawn drawn_now drawn_after made h i e sealed used =
-    let draws : bags_draw rest ≡ bag_draws g + bags_draw back = ap bags_draw e ∙ bags_draw_cons g back in
+pub bags_step : (to : Kinds) (q : List ℕ) (gs rest : List SafeBag) (g : SafeBag) (back : List SafeBag) (keys keys_now keys_after : List (List ℕ)) (drawn drawn_now drawn_after : List ℕ) (made : List SafeBag) (h : SafeBag)
+    → BagsOn to q gs rest keys keys_now drawn drawn_now made → rest ≡ g ∷ back
+    → ((p : List ℕ) (more : List (List ℕ)) → Supplies p (g ∷ []) keys_now more → (keys_after ≡ more) × (z : List ℕ) × (drawn_now ≡ z ++ drawn_after) × BagSealed to p q z g h)
+    → length drawn_now ≡ bag_draws to g + length drawn_after → BagsOn to q gs back keys keys_after drawn drawn_after (made ++ h ∷ [])
+bags_step to q gs rest g back keys keys_now keys_after drawn drawn_now drawn_after made h i e sealed used =
+    let draws : bags_draw to rest ≡ bag_draws to g + bags_draw to back = ap (bags_draw to) e ∙ bags_draw_cons to g back in
     record {
       before = i.before ++ g ∷ [];
       split = i.split ∙ ap (λ l. i.before ++ l) e ∙ sym (append_assoc i.before (g ∷ []) back);
@@ -213,61 +215,61 @@ bags_step q gs rest g back keys keys_now keys_after drawn drawn_now drawn_after 
             subst (λ (l : List (List ℕ)). Supplies p back l more) (sym one.0) b.rest,
             λ hs d tail f t. (
                 let all = r.1 (h ∷ hs) (one.1 ++ d) tail (one.2 ∙ ap (λ l. one.1 ++ l) f ∙ sym (append_assoc one.1 d tail))
-                (subst (λ (l : List SafeBag). EachDrawn (BagSealed p q) l (h ∷ hs) (one.1 ++ d)) (sym e) (one.1, d, refl, one.3, t)) in
-                (all.0, all.1, subst (λ (l : List SafeBag). EachDrawn (BagSealed p q) gs l all.0) (sym (append_assoc made (h ∷ []) hs)) all.2)
+                (subst (λ (l : List SafeBag). EachDrawn (BagSealed to p q) l (h ∷ hs) (one.1 ++ d)) (sym e) (one.1, d, refl, one.3, t)) in
+                (all.0, all.1, subst (λ (l : List SafeBag). EachDrawn (BagSealed to p q) gs l all.0) (sym (append_assoc made (h ∷ []) hs)) all.2)
                 ),
           )
           );
     }
 
-pub bags_end : (q : List ℕ) (gs rest : List SafeBag) (keys keys_now : List (List ℕ)) (drawn drawn_now : List ℕ) (made : List SafeBag) → BagsOn q gs rest keys keys_now drawn drawn_now made → rest ≡ []
-    → (p : List ℕ) (more : List (List ℕ)) → Supplies p gs keys more → (keys_now ≡ more) × BagsSealed p q gs drawn drawn_now made
-bags_end q gs rest keys keys_now drawn drawn_now made i e p more s =
+pub bags_end : (to : Kinds) (q : List ℕ) (gs rest : List SafeBag) (keys keys_now : List (List ℕ)) (drawn drawn_now : List ℕ) (made : List SafeBag) → BagsOn to q gs rest keys keys_now drawn drawn_now made → rest ≡ []
+    → (p : List ℕ) (more : List (List ℕ)) → Supplies p gs keys more → (keys_now ≡ more) × BagsSealed to p q gs drawn drawn_now made
+bags_end to q gs rest keys keys_now drawn drawn_now made i e p more s =
     let r = i.goes p more s in
     let o = subst (λ (l : List SafeBag). Supplies p l keys_now more) e r.0 in
-    let all = r.1 [] [] drawn_now refl (subst (λ (l : List SafeBag). EachDrawn (BagSealed p q) l [] []) (sym e) refl) in
-    (supplies_none p keys_now more o.front o.splits o.are_opened, record { took = all.0; splits = all.1; sealed = subst (λ (l : List SafeBag). EachDrawn (BagSealed p q) gs l all.0) (append-nil made) all.2 })
+    let all = r.1 [] [] drawn_now refl (subst (λ (l : List SafeBag). EachDrawn (BagSealed to p q) l [] []) (sym e) refl) in
+    (supplies_none p keys_now more o.front o.splits o.are_opened, record { took = all.0; splits = all.1; sealed = subst (λ (l : List SafeBag). EachDrawn (BagSealed to p q) gs l all.0) (append-nil made) all.2 })
 
-pub bags_used : (q : List ℕ) (gs rest : List SafeBag) (keys keys_now : List (List ℕ)) (drawn drawn_now : List ℕ) (made : List SafeBag) → BagsOn q gs rest keys keys_now drawn drawn_now made → rest ≡ []
-    → length drawn ≡ bags_draw gs + length drawn_now
-bags_used q gs rest keys keys_now drawn drawn_now made i e = omega (arith, i.used, ap bags_draw e)
+pub bags_used : (to : Kinds) (q : List ℕ) (gs rest : List SafeBag) (keys keys_now : List (List ℕ)) (drawn drawn_now : List ℕ) (made : List SafeBag) → BagsOn to q gs rest keys keys_now drawn drawn_now made → rest ≡ []
+    → length drawn ≡ bags_draw to gs + length drawn_now
+bags_used to q gs rest keys keys_now drawn drawn_now made i e = omega (arith, i.used, ap (bags_draw to) e)
 
-pub bags_next : (q : List ℕ) (gs rest : List SafeBag) (g : SafeBag) (back : List SafeBag) (keys keys_now : List (List ℕ)) (drawn drawn_now : List ℕ) (made : List SafeBag)
-    → BagsOn q gs rest keys keys_now drawn drawn_now made → rest ≡ g ∷ back → (p : List ℕ) × (more : List (List ℕ)) × Supplies p gs keys more → (p : List ℕ) × (more : List (List ℕ)) × Supplies p (g ∷ []) keys_now more
-bags_next q gs rest g back keys keys_now drawn drawn_now made i e (p, more, s) =
+pub bags_next : (to : Kinds) (q : List ℕ) (gs rest : List SafeBag) (g : SafeBag) (back : List SafeBag) (keys keys_now : List (List ℕ)) (drawn drawn_now : List ℕ) (made : List SafeBag)
+    → BagsOn to q gs rest keys keys_now drawn drawn_now made → rest ≡ g ∷ back → (p : List ℕ) × (more : List (List ℕ)) × Supplies p gs keys more → (p : List ℕ) × (more : List (List ℕ)) × Supplies p (g ∷ []) keys_now more
+bags_next to q gs rest g back keys keys_now drawn drawn_now made i e (p, more, s) =
     let b = supplies_split p g back keys_now more (subst (λ (l : List SafeBag). Supplies p l keys_now more) e (i.goes p more s).0) in
     (p, b.mid, b.one)
 
-pub bags_room : (q : List ℕ) (gs rest : List SafeBag) (g : SafeBag) (back : List SafeBag) (keys keys_now : List (List ℕ)) (drawn drawn_now : List ℕ) (made : List SafeBag)
-    → BagsOn q gs rest keys keys_now drawn drawn_now made → rest ≡ g ∷ back → bag_draws g ≤ length drawn_now
-bags_room q gs rest g back keys keys_now drawn drawn_now made i e = omega (arith, i.room, ap bags_draw e ∙ bags_draw_cons g back)
+pub bags_room : (to : Kinds) (q : List ℕ) (gs rest : List SafeBag) (g : SafeBag) (back : List SafeBag) (keys keys_now : List (List ℕ)) (drawn drawn_now : List ℕ) (made : List SafeBag)
+    → BagsOn to q gs rest keys keys_now drawn drawn_now made → rest ≡ g ∷ back → bag_draws to g ≤ length drawn_now
+bags_room to q gs rest g back keys keys_now drawn drawn_now made i e = omega (arith, i.room, ap (bags_draw to) e ∙ bags_draw_cons to g back)
 
-pub bags_long : (q : List ℕ) (gs rest : List SafeBag) (g : SafeBag) (back : List SafeBag) (keys keys_now : List (List ℕ)) (drawn drawn_now : List ℕ) (made : List SafeBag) (f : TransferError)
-    → BagsOn q gs rest keys keys_now drawn drawn_now made → rest ≡ g ∷ back
-    → LongOnly ((p : List ℕ) (more : List (List ℕ)) → Supplies p (g ∷ []) keys_now more → 2 ^ 32 ≤ length (bag_canon (blank_bag p g))) f
-    → LongOnly ((p : List ℕ) (more : List (List ℕ)) → Supplies p gs keys more → 2 ^ 32 ≤ length (blank_text p gs)) f
-bags_long q gs rest g back keys keys_now drawn drawn_now made f i e h =
+pub bags_long : (to : Kinds) (q : List ℕ) (gs rest : List SafeBag) (g : SafeBag) (back : List SafeBag) (keys keys_now : List (List ℕ)) (drawn drawn_now : List ℕ) (made : List SafeBag) (f : TransferError)
+    → BagsOn to q gs rest keys keys_now drawn drawn_now made → rest ≡ g ∷ back
+    → LongOnly ((p : List ℕ) (more : List (List ℕ)) → Supplies p (g ∷ []) keys_now more → 2 ^ 32 ≤ length (bag_canon (blank_bag to p g))) f
+    → LongOnly ((p : List ℕ) (more : List (List ℕ)) → Supplies p gs keys more → 2 ^ 32 ≤ length (blank_text to p gs)) f
+bags_long to q gs rest g back keys keys_now drawn drawn_now made f i e h =
     long_map _ _ f (λ all p more s. (
     let b = supplies_split p g back keys_now more (subst (λ (l : List SafeBag). Supplies p l keys_now more) e (i.goes p more s).0) in
-    omega (arith, all p b.mid b.one, bag_in p i.before g back gs (i.split ∙ ap (λ l. i.before ++ l) e))
+    omega (arith, all p b.mid b.one, bag_in to p i.before g back gs (i.split ∙ ap (λ l. i.before ++ l) e))
     )) h
 
 -- ---- contents, one after the other
 
-pub record ContentsOn (q : List ℕ) (cs rest : List ContentInfo) (gss rest_bags : List (List SafeBag)) (keys keys_now : List (List ℕ)) (drawn drawn_now : List ℕ) (made : List ContentInfo) : Type 0 where
+pub record ContentsOn (to : Kinds) (q : List ℕ) (cs rest : List ContentInfo) (gss rest_bags : List (List SafeBag)) (keys keys_now : List (List ℕ)) (drawn drawn_now : List ℕ) (made : List ContentInfo) : Type 0 where
   pub before : List ContentInfo
   pub bags_before : List (List SafeBag)
   pub split : cs ≡ before ++ rest
   pub bags_split : gss ≡ bags_before ++ rest_bags
-  pub room : sum_by content_draws rest + sum_by bags_draw rest_bags ≤ length drawn_now
-  pub used : length drawn + (sum_by content_draws rest + sum_by bags_draw rest_bags) ≡ sum_by content_draws cs + sum_by bags_draw gss + length drawn_now
+  pub room : sum_by (content_draws to) rest + sum_by (bags_draw to) rest_bags ≤ length drawn_now
+  pub used : length drawn + (sum_by (content_draws to) rest + sum_by (bags_draw to) rest_bags) ≡ sum_by (content_draws to) cs + sum_by (bags_draw to) gss + length drawn_now
   pub holds : (p : List ℕ) → Each (HoldsBags p) cs gss → Each (HoldsBags p) before bags_before × Each (HoldsBags p) rest rest_bags
   pub goes : (p : List ℕ) (more : List (List ℕ)) → Each (HoldsBags p) cs gss → SuppliesAll p gss keys more → SuppliesAll p rest_bags keys_now more
-      × ((es : List ContentInfo) (d tail : List ℕ) → drawn_now ≡ d ++ tail → EachDrawn (ContentSealed p q) rest es d → (z : List ℕ) × (drawn ≡ z ++ tail) × EachDrawn (ContentSealed p q) cs (made ++ es) z)
+      × ((es : List ContentInfo) (d tail : List ℕ) → drawn_now ≡ d ++ tail → EachDrawn (ContentSealed to p q) rest es d → (z : List ℕ) × (drawn ≡ z ++ tail) × EachDrawn (ContentSealed to p q) cs (made ++ es) z)
 
-pub contents_start : (q : List ℕ) (cs : List ContentInfo) (gss : List (List SafeBag)) (keys : List (List ℕ)) (drawn : List ℕ) → sum_by content_draws cs + sum_by bags_draw gss ≤ length drawn
-    → ContentsOn q cs cs gss gss keys keys drawn drawn []
-contents_start q cs gss keys drawn room = record {
+pub contents_start : (to : Kinds) (q : List ℕ) (cs : List ContentInfo) (gss : List (List SafeBag)) (keys : List (List ℕ)) (drawn : List ℕ) → sum_by (content_draws to) cs + sum_by (bags_draw to) gss ≤ length drawn
+    → ContentsOn to q cs cs gss gss keys keys drawn drawn []
+contents_start to q cs gss keys drawn room = record {
   before = [];
   bags_before = [];
   split = refl;
@@ -284,14 +286,14 @@ each_more R [] x (z ∷ ys) y e r = absurd e
 each_more R (w ∷ xs) x [] y e r = absurd e
 each_more R (w ∷ xs) x (z ∷ ys) y e r = (e.0, each_more R xs x ys y e.1 r)
 
-pub contents_step : (q : List ℕ) (cs rest : List ContentInfo) (c : ContentInfo) (back : List ContentInfo) (gss rest_bags : List (List SafeBag)) (gs : List SafeBag) (bags_after : List (List SafeBag))
+pub contents_step : (to : Kinds) (q : List ℕ) (cs rest : List ContentInfo) (c : ContentInfo) (back : List ContentInfo) (gss rest_bags : List (List SafeBag)) (gs : List SafeBag) (bags_after : List (List SafeBag))
     (keys keys_now keys_after : List (List ℕ)) (drawn drawn_now drawn_after : List ℕ) (made : List ContentInfo) (e : ContentInfo)
-    → ContentsOn q cs rest gss rest_bags keys keys_now drawn drawn_now made → rest ≡ c ∷ back → rest_bags ≡ gs ∷ bags_after
-    → ((p : List ℕ) (more : List (List ℕ)) → HoldsBags p c gs → Supplies p gs keys_now more → (keys_after ≡ more) × (z : List ℕ) × (drawn_now ≡ z ++ drawn_after) × ContentSealed p q z c e)
-    → length drawn_now ≡ content_draws c + bags_draw gs + length drawn_after → ContentsOn q cs back gss bags_after keys keys_after drawn drawn_after (made ++ e ∷ [])
-contents_step q cs rest c back gss rest_bags gs bags_after keys keys_now keys_after drawn drawn_now drawn_after made e i is are sealed used =
-    let draws : sum_by content_draws rest ≡ content_draws c + sum_by content_draws back = ap (sum_by content_draws) is ∙ draws_cons c back in
-    let bag_draws : sum_by bags_draw rest_bags ≡ bags_draw gs + sum_by bags_draw bags_after = ap (sum_by bags_draw) are ∙ all_draws_cons gs bags_after in
+    → ContentsOn to q cs rest gss rest_bags keys keys_now drawn drawn_now made → rest ≡ c ∷ back → rest_bags ≡ gs ∷ bags_after
+    → ((p : List ℕ) (more : List (List ℕ)) → HoldsBags p c gs → Supplies p gs keys_now more → (keys_after ≡ more) × (z : List ℕ) × (drawn_now ≡ z ++ drawn_after) × ContentSealed to p q z c e)
+    → length drawn_now ≡ content_draws to c + bags_draw to gs + length drawn_after → ContentsOn to q cs back gss bags_after keys keys_after drawn drawn_after (made ++ e ∷ [])
+contents_step to q cs rest c back gss rest_bags gs bags_after keys keys_now keys_after drawn drawn_now drawn_after made e i is are sealed used =
+    let draws : sum_by (content_draws to) rest ≡ content_draws to c + sum_by (content_draws to) back = ap (sum_by (content_draws to)) is ∙ draws_cons to c back in
+    let drawn_back : sum_by (bags_draw to) rest_bags ≡ bags_draw to gs + sum_by (bags_draw to) bags_after = ap (sum_by (bags_draw to)) are ∙ all_draws_cons to gs bags_after in
     let both : (p : List ℕ) → Each (HoldsBags p) cs gss → Each (HoldsBags p) (c ∷ back) (gs ∷ bags_after) =
     λ p h. subst (λ (l : List ContentInfo). Each (HoldsBags p) l (gs ∷ bags_after)) is (subst (λ (l : List (List SafeBag)). Each (HoldsBags p) rest l) are (i.holds p h).1) in
     record {
@@ -299,8 +301,8 @@ contents_step q cs rest c back gss rest_bags gs bags_after keys keys_now keys_af
       bags_before = i.bags_before ++ gs ∷ [];
       split = i.split ∙ ap (λ l. i.before ++ l) is ∙ sym (append_assoc i.before (c ∷ []) back);
       bags_split = i.bags_split ∙ ap (λ l. i.bags_before ++ l) are ∙ sym (append_assoc i.bags_before (gs ∷ []) bags_after);
-      room = omega (arith, i.room, draws, bag_draws, used);
-      used = omega (arith, i.used, draws, bag_draws, used);
+      room = omega (arith, i.room, draws, drawn_back, used);
+      used = omega (arith, i.used, draws, drawn_back, used);
       holds = λ p h. (each_more (HoldsBags p) i.before c i.bags_before gs (i.holds p h).0 (both p h).0, (both p h).1);
       goes = λ p more h s. (
           let r = i.goes p more h s in
@@ -309,68 +311,68 @@ contents_step q cs rest c back gss rest_bags gs bags_after keys keys_now keys_af
             subst (λ (l : List (List ℕ)). SuppliesAll p bags_after l more) (sym one.0) b.rest,
             λ es d tail f t. (
                 let all = r.1 (e ∷ es) (one.1 ++ d) tail (one.2 ∙ ap (λ l. one.1 ++ l) f ∙ sym (append_assoc one.1 d tail))
-                (subst (λ (l : List ContentInfo). EachDrawn (ContentSealed p q) l (e ∷ es) (one.1 ++ d)) (sym is) (one.1, d, refl, one.3, t)) in
-                (all.0, all.1, subst (λ (l : List ContentInfo). EachDrawn (ContentSealed p q) cs l all.0) (sym (append_assoc made (e ∷ []) es)) all.2)
+                (subst (λ (l : List ContentInfo). EachDrawn (ContentSealed to p q) l (e ∷ es) (one.1 ++ d)) (sym is) (one.1, d, refl, one.3, t)) in
+                (all.0, all.1, subst (λ (l : List ContentInfo). EachDrawn (ContentSealed to p q) cs l all.0) (sym (append_assoc made (e ∷ []) es)) all.2)
                 ),
           )
           );
     }
 
-pub contents_end : (q : List ℕ) (cs rest : List ContentInfo) (gss rest_bags : List (List SafeBag)) (keys keys_now : List (List ℕ)) (drawn drawn_now : List ℕ) (made : List ContentInfo)
-    → ContentsOn q cs rest gss rest_bags keys keys_now drawn drawn_now made → rest ≡ [] → (p : List ℕ) (more : List (List ℕ)) → Each (HoldsBags p) cs gss → SuppliesAll p gss keys more
-    → ContentsSealed p q cs drawn drawn_now made
-contents_end q cs rest gss rest_bags keys keys_now drawn drawn_now made i e p more h s =
-    let all = (i.goes p more h s).1 [] [] drawn_now refl (subst (λ (l : List ContentInfo). EachDrawn (ContentSealed p q) l [] []) (sym e) refl) in
-    record { took = all.0; splits = all.1; sealed = subst (λ (l : List ContentInfo). EachDrawn (ContentSealed p q) cs l all.0) (append-nil made) all.2 }
+pub contents_end : (to : Kinds) (q : List ℕ) (cs rest : List ContentInfo) (gss rest_bags : List (List SafeBag)) (keys keys_now : List (List ℕ)) (drawn drawn_now : List ℕ) (made : List ContentInfo)
+    → ContentsOn to q cs rest gss rest_bags keys keys_now drawn drawn_now made → rest ≡ [] → (p : List ℕ) (more : List (List ℕ)) → Each (HoldsBags p) cs gss → SuppliesAll p gss keys more
+    → ContentsSealed to p q cs drawn drawn_now made
+contents_end to q cs rest gss rest_bags keys keys_now drawn drawn_now made i e p more h s =
+    let all = (i.goes p more h s).1 [] [] drawn_now refl (subst (λ (l : List ContentInfo). EachDrawn (ContentSealed to p q) l [] []) (sym e) refl) in
+    record { took = all.0; splits = all.1; sealed = subst (λ (l : List ContentInfo). EachDrawn (ContentSealed to p q) cs l all.0) (append-nil made) all.2 }
 
 both_done : (p : List ℕ) (rest_bags : List (List SafeBag)) → Each (HoldsBags p) [] rest_bags → rest_bags ≡ []
 both_done p [] h = refl
 both_done p (gs ∷ gss) h = absurd h
 
-pub contents_used : (q : List ℕ) (cs rest : List ContentInfo) (gss rest_bags : List (List SafeBag)) (keys keys_now : List (List ℕ)) (drawn drawn_now : List ℕ) (made : List ContentInfo)
-    → ContentsOn q cs rest gss rest_bags keys keys_now drawn drawn_now made → rest ≡ [] → (p : List ℕ) × (more : List (List ℕ)) × Each (HoldsBags p) cs gss × SuppliesAll p gss keys more
-    → length drawn ≡ sum_by content_draws cs + sum_by bags_draw gss + length drawn_now
-contents_used q cs rest gss rest_bags keys keys_now drawn drawn_now made i e (p, more, h, s) =
+pub contents_used : (to : Kinds) (q : List ℕ) (cs rest : List ContentInfo) (gss rest_bags : List (List SafeBag)) (keys keys_now : List (List ℕ)) (drawn drawn_now : List ℕ) (made : List ContentInfo)
+    → ContentsOn to q cs rest gss rest_bags keys keys_now drawn drawn_now made → rest ≡ [] → (p : List ℕ) × (more : List (List ℕ)) × Each (HoldsBags p) cs gss × SuppliesAll p gss keys more
+    → length drawn ≡ sum_by (content_draws to) cs + sum_by (bags_draw to) gss + length drawn_now
+contents_used to q cs rest gss rest_bags keys keys_now drawn drawn_now made i e (p, more, h, s) =
     let none = both_done p rest_bags (subst (λ (l : List ContentInfo). Each (HoldsBags p) l rest_bags) e (i.holds p h).1) in
-    omega (arith, i.used, ap (sum_by content_draws) e, ap (sum_by bags_draw) none)
+    omega (arith, i.used, ap (sum_by (content_draws to)) e, ap (sum_by (bags_draw to)) none)
 
-pub contents_next : (q : List ℕ) (cs rest : List ContentInfo) (c : ContentInfo) (back : List ContentInfo) (gss rest_bags : List (List SafeBag)) (gs : List SafeBag) (bags_after : List (List SafeBag))
-    (keys keys_now : List (List ℕ)) (drawn drawn_now : List ℕ) (made : List ContentInfo) → ContentsOn q cs rest gss rest_bags keys keys_now drawn drawn_now made → rest ≡ c ∷ back → rest_bags ≡ gs ∷ bags_after
+pub contents_next : (to : Kinds) (q : List ℕ) (cs rest : List ContentInfo) (c : ContentInfo) (back : List ContentInfo) (gss rest_bags : List (List SafeBag)) (gs : List SafeBag) (bags_after : List (List SafeBag))
+    (keys keys_now : List (List ℕ)) (drawn drawn_now : List ℕ) (made : List ContentInfo) → ContentsOn to q cs rest gss rest_bags keys keys_now drawn drawn_now made → rest ≡ c ∷ back → rest_bags ≡ gs ∷ bags_after
     → (p : List ℕ) × (more : List (List ℕ)) × Each (HoldsBags p) cs gss × SuppliesAll p gss keys more → (p : List ℕ) × (more : List (List ℕ)) × HoldsBags p c gs × Supplies p gs keys_now more
-contents_next q cs rest c back gss rest_bags gs bags_after keys keys_now drawn drawn_now made i is are (p, more, h, s) =
+contents_next to q cs rest c back gss rest_bags gs bags_after keys keys_now drawn drawn_now made i is are (p, more, h, s) =
     let both = subst (λ (l : List ContentInfo). Each (HoldsBags p) l (gs ∷ bags_after)) is (subst (λ (l : List (List SafeBag)). Each (HoldsBags p) rest l) are (i.holds p h).1) in
     let b = supplies_all_split p gs bags_after keys_now more (subst (λ (l : List (List SafeBag)). SuppliesAll p l keys_now more) are (i.goes p more h s).0) in
     (p, b.mid, both.0, b.one)
 
-pub contents_room : (q : List ℕ) (cs rest : List ContentInfo) (c : ContentInfo) (back : List ContentInfo) (gss rest_bags : List (List SafeBag)) (gs : List SafeBag) (bags_after : List (List SafeBag))
-    (keys keys_now : List (List ℕ)) (drawn drawn_now : List ℕ) (made : List ContentInfo) → ContentsOn q cs rest gss rest_bags keys keys_now drawn drawn_now made → rest ≡ c ∷ back → rest_bags ≡ gs ∷ bags_after
-    → content_draws c + bags_draw gs ≤ length drawn_now
-contents_room q cs rest c back gss rest_bags gs bags_after keys keys_now drawn drawn_now made i is are =
-    omega (arith, i.room, ap (sum_by content_draws) is ∙ draws_cons c back, ap (sum_by bags_draw) are ∙ all_draws_cons gs bags_after)
+pub contents_room : (to : Kinds) (q : List ℕ) (cs rest : List ContentInfo) (c : ContentInfo) (back : List ContentInfo) (gss rest_bags : List (List SafeBag)) (gs : List SafeBag) (bags_after : List (List SafeBag))
+    (keys keys_now : List (List ℕ)) (drawn drawn_now : List ℕ) (made : List ContentInfo) → ContentsOn to q cs rest gss rest_bags keys keys_now drawn drawn_now made → rest ≡ c ∷ back → rest_bags ≡ gs ∷ bags_after
+    → content_draws to c + bags_draw to gs ≤ length drawn_now
+contents_room to q cs rest c back gss rest_bags gs bags_after keys keys_now drawn drawn_now made i is are =
+    omega (arith, i.room, ap (sum_by (content_draws to)) is ∙ draws_cons to c back, ap (sum_by (bags_draw to)) are ∙ all_draws_cons to gs bags_after)
 
 -- there are bags for each content
-pub contents_have : (q : List ℕ) (cs rest : List ContentInfo) (c : ContentInfo) (back : List ContentInfo) (gss rest_bags : List (List SafeBag)) (keys keys_now : List (List ℕ)) (drawn drawn_now : List ℕ)
-    (made : List ContentInfo) → ContentsOn q cs rest gss rest_bags keys keys_now drawn drawn_now made → rest ≡ c ∷ back → (p : List ℕ) × (more : List (List ℕ)) × Each (HoldsBags p) cs gss × SuppliesAll p gss keys more
+pub contents_have : (to : Kinds) (q : List ℕ) (cs rest : List ContentInfo) (c : ContentInfo) (back : List ContentInfo) (gss rest_bags : List (List SafeBag)) (keys keys_now : List (List ℕ)) (drawn drawn_now : List ℕ)
+    (made : List ContentInfo) → ContentsOn to q cs rest gss rest_bags keys keys_now drawn drawn_now made → rest ≡ c ∷ back → (p : List ℕ) × (more : List (List ℕ)) × Each (HoldsBags p) cs gss × SuppliesAll p gss keys more
     → rest_bags ≡ [] → ⊥
-contents_have q cs rest c back gss rest_bags keys keys_now drawn drawn_now made i is (p, more, h, s) none =
+contents_have to q cs rest c back gss rest_bags keys keys_now drawn drawn_now made i is (p, more, h, s) none =
     subst (λ (l : List ContentInfo). Each (HoldsBags p) l []) is (subst (λ (l : List (List SafeBag)). Each (HoldsBags p) rest l) none (i.holds p h).1)
 
-pub contents_long : (q : List ℕ) (cs rest : List ContentInfo) (c : ContentInfo) (back : List ContentInfo) (gss rest_bags : List (List SafeBag)) (gs : List SafeBag) (bags_after : List (List SafeBag))
-    (keys keys_now : List (List ℕ)) (drawn drawn_now : List ℕ) (made : List ContentInfo) (f : TransferError) → ContentsOn q cs rest gss rest_bags keys keys_now drawn drawn_now made → rest ≡ c ∷ back
+pub contents_long : (to : Kinds) (q : List ℕ) (cs rest : List ContentInfo) (c : ContentInfo) (back : List ContentInfo) (gss rest_bags : List (List SafeBag)) (gs : List SafeBag) (bags_after : List (List SafeBag))
+    (keys keys_now : List (List ℕ)) (drawn drawn_now : List ℕ) (made : List ContentInfo) (f : TransferError) → ContentsOn to q cs rest gss rest_bags keys keys_now drawn drawn_now made → rest ≡ c ∷ back
     → rest_bags ≡ gs ∷ bags_after
-    → LongOnly ((p : List ℕ) (more : List (List ℕ)) → HoldsBags p c gs → Supplies p gs keys_now more → 2 ^ 32 ≤ length (content_canon (blank_content p c gs))) f
-    → LongOnly ((p : List ℕ) (more : List (List ℕ)) → Each (HoldsBags p) cs gss → SuppliesAll p gss keys more → 2 ^ 32 ≤ length (contents_canon (blank_contents p cs gss))) f
-contents_long q cs rest c back gss rest_bags gs bags_after keys keys_now drawn drawn_now made f i is are h =
+    → LongOnly ((p : List ℕ) (more : List (List ℕ)) → HoldsBags p c gs → Supplies p gs keys_now more → 2 ^ 32 ≤ length (content_canon (blank_content to p c gs))) f
+    → LongOnly ((p : List ℕ) (more : List (List ℕ)) → Each (HoldsBags p) cs gss → SuppliesAll p gss keys more → 2 ^ 32 ≤ length (contents_canon (blank_contents to p cs gss))) f
+contents_long to q cs rest c back gss rest_bags gs bags_after keys keys_now drawn drawn_now made f i is are h =
     long_map _ _ f (λ all p more k s. (
-    let n = contents_next q cs rest c back gss rest_bags gs bags_after keys keys_now drawn drawn_now made i is are (p, more, k, s) in
+    let n = contents_next to q cs rest c back gss rest_bags gs bags_after keys keys_now drawn drawn_now made i is are (p, more, k, s) in
     let both = subst (λ (l : List ContentInfo). Each (HoldsBags p) l (gs ∷ bags_after)) is (subst (λ (l : List (List SafeBag)). Each (HoldsBags p) rest l) are (i.holds p k).1) in
     let b = supplies_all_split p gs bags_after keys_now more (subst (λ (l : List (List SafeBag)). SuppliesAll p l keys_now more) are (i.goes p more k s).0) in
-    omega (arith, all p b.mid both.0 b.one, content_in p i.before c back cs i.bags_before gs bags_after gss (i.holds p k).0 (i.split ∙ ap (λ l. i.before ++ l) is) (i.bags_split ∙ ap (λ l. i.bags_before ++ l) are))
+    omega (arith, all p b.mid both.0 b.one, content_in to p i.before c back cs i.bags_before gs bags_after gss (i.holds p k).0 (i.split ∙ ap (λ l. i.before ++ l) is) (i.bags_split ∙ ap (λ l. i.bags_before ++ l) are))
     )) h
 
-pub room_is : (n : ℕ) (rest : List (List SafeBag)) (cs : List ContentInfo) (gss : List (List SafeBag)) → rest ≡ [] → n + sum_by bags_draw rest ≡ 8 + sum_by content_draws cs + sum_by bags_draw gss
-    → n ≡ sum_by content_draws cs + sum_by key_draws (all_shrouded gss) + 8
-room_is n rest cs gss e h = omega (arith, h, ap (sum_by bags_draw) e, all_keys gss)
+pub room_is : (to : Kinds) (n : ℕ) (rest : List (List SafeBag)) (cs : List ContentInfo) (gss : List (List SafeBag)) → rest ≡ [] → n + sum_by (bags_draw to) rest ≡ mac_salt to + sum_by (content_draws to) cs + sum_by (bags_draw to) gss
+    → n ≡ sum_by (content_draws to) cs + sum_by (key_draws to) (all_shrouded gss) + mac_salt to
+room_is to n rest cs gss e h = omega (arith, h, ap (sum_by (bags_draw to)) e, all_keys to gss)
 
 pub empty_is : {A : Type 0} (xs : List A) → length xs ≡ 0 → xs ≡ []
 empty_is [] h = refl

@@ -13,8 +13,11 @@ use Rattle.transfer.specs.Limits.{store_limit}
 use Rattle.transfer.specs.Transferred.{IsRefusal}
 use Rattle.transfer.specs.Verdicts.{StoreOpens}
 use Rattle.transfer.specs.declared.store.error.TransferError.{TransferError}
-use Rattle.rekey_core.specs.Change.{Changes}
+use Rattle.rekey_core.specs.Change.{Changes, ChangesTo}
+use Rattle.rekey_core.specs.Work.{work_to}
+use Rattle.rekey_core.specs.declared.kinds.Kinds.{Kinds}
 use Rattle.transfer.specs.declared.store.error.TransferError.TheVariants.{Rng, TooLong}
+use Rattle.rekey_core.specs.declared.kinds.Kinds.TheVariants.{Kept}
 use Rattle.rekey_core.specs.Rekeyed.{GrowsTooLong, IsAllowed, IsRefused, RefusedFor, Rekeys, RunsShort, draws, size}
 
 -- c comes of b by a change from each password to the next, the draw and the steps running through
@@ -118,15 +121,29 @@ pub record BagKept (g h : SafeBag) : Type 0 where
   pub attributes : SameSet SameAttribute h.attributes g.attributes
   pub value : KindKept g.bag h.bag
 
+-- What a store opens to is kept by a change to these kinds: its private keys, its certificates, and
+-- its bags; and opening it takes no more work than is said.
+pub record IsKeptTo (to : Kinds) (b p c q : List ℕ) : Type 0 where
+  pub keeps : (gss : List (List SafeBag)) (ks : List (List ℕ)) (n : ℕ)
+      → (o : StoreOpens b p gss ks n)
+      → (hss : List (List SafeBag)) × (m : ℕ) × StoreOpens c q hss ks m
+      × (m ≤ work_to to o.mac o.parts gss)
+      × (all_certificates hss ≡ all_certificates gss) × Each (Each BagKept) gss hss
+
 -- What a store opens to is kept: its private keys, its certificates, and its bags.
 pub record IsKept (b p c q : List ℕ) : Type 0 where
   pub keeps : (gss : List (List SafeBag)) (ks : List (List ℕ)) (n : ℕ) → StoreOpens b p gss ks n
       → (hss : List (List SafeBag)) × (m : ℕ) × StoreOpens c q hss ks m × (m ≤ n)
       × (all_certificates hss ≡ all_certificates gss) × Each (Each BagKept) gss hss
 
+-- A change to any kinds keeps what a store opens to.
+abbrev pub ChangesKeepTo : Type 0
+ChangesKeepTo = (to : Kinds) (b p q c d : List ℕ) → length c ≤ store_limit
+    → ChangesTo to b p c q d → IsKeptTo to b p c q
+
 -- What is sealed anew costs no more steps than before.
 abbrev pub SealsWithin : Type 0
-SealsWithin = (a b : AlgorithmIdentifier) (z : List ℕ) → openable a ≡ true → IsAnew z a b
+SealsWithin = (a b : AlgorithmIdentifier) (z : List ℕ) → openable a ≡ true → IsAnew Kept z a b
     → cost b ≤ cost a
 
 -- One change keeps what a store opens to, for no more work.

@@ -10,27 +10,30 @@ use Rattle.p12.specs.declared.encrypted_private_key_info.EncryptedPrivateKeyInfo
 use Rattle.p12.specs.declared.safe_bag.SafeBag.{SafeBag}
 use Rattle.transfer.specs.Opening.{shrouded_among}
 use Rattle.rekey_core.specs.Anew.{drawn_for}
+use Rattle.rekey_core.specs.Kinds.{kind_for}
+use Rattle.rekey_core.specs.declared.kinds.Kinds.{Kinds}
 use Rattle.rekey_core.specs.declared.derived_keys.DerivedKeys.{DerivedKeys}
 use Rattle.rekey_core.specs.declared.key_derivation.RoundsAndSalt.{RoundsAndSalt}
 
--- the algorithm of a content itself
-abbrev pub own_algorithm : ContentInfo → List AlgorithmIdentifier
-own_algorithm (content.Data v) = []
-own_algorithm (content.EncryptedData d) =
-    d.encrypted_content_info.content_encryption_algorithm ∷ []
-own_algorithm (content.OtherContext o) = []
+-- the algorithm of whose kind a content itself is sealed anew
+abbrev pub own_algorithm : Kinds → ContentInfo → List AlgorithmIdentifier
+own_algorithm to (content.Data v) = []
+own_algorithm to (content.EncryptedData d) =
+    kind_for to d.encrypted_content_info.content_encryption_algorithm ∷ []
+own_algorithm to (content.OtherContext o) = []
 
 -- those of the encrypted keys among bags
-abbrev pub key_algorithms : List SafeBag → List AlgorithmIdentifier
-key_algorithms gs =
-    map (λ (k : EncryptedPrivateKeyInfo). k.encryption_algorithm) (shrouded_among gs)
+abbrev pub key_algorithms : Kinds → List SafeBag → List AlgorithmIdentifier
+key_algorithms to gs = map (λ (k : EncryptedPrivateKeyInfo). kind_for to k.encryption_algorithm)
+    (shrouded_among gs)
 
 -- those of the parts of contents that hold these bags, in the order in which their octets are drawn
-abbrev pub part_algorithms : List ContentInfo → List (List SafeBag) → List AlgorithmIdentifier
-part_algorithms [] gss = []
-part_algorithms (c ∷ cs) [] = []
-part_algorithms (c ∷ cs) (gs ∷ gss) =
-    own_algorithm c ++ (key_algorithms gs ++ part_algorithms cs gss)
+abbrev pub part_algorithms : Kinds → List ContentInfo → List (List SafeBag)
+    → List AlgorithmIdentifier
+part_algorithms to [] gss = []
+part_algorithms to (c ∷ cs) [] = []
+part_algorithms to (c ∷ cs) (gs ∷ gss) =
+    own_algorithm to c ++ (key_algorithms to gs ++ part_algorithms to cs gss)
 
 -- the rounds and the drawn salt of a part under PBES2; the salt was drawn after the IV
 abbrev pub rounds_and_salt : AlgorithmIdentifier → List ℕ → List (ℕ × List ℕ)

@@ -12,7 +12,9 @@ use Rattle.p12.specs.declared.error.Error.TheVariants as errors
 use Rattle.p12.specs.declared.mac_data.MacData.{MacData}
 use Rattle.p12.specs.declared.pfx.PFX.{PFX}
 use Rattle.pkcs12_kdf.specs.Password.{bmp_password}
-use Rattle.rekey_core.specs.Change.{Changes}
+use Rattle.rekey_core.specs.Change.{ChangesTo}
+use Rattle.rekey_core.specs.Kinds.{count_for, digest_for, mac_salt}
+use Rattle.rekey_core.specs.declared.kinds.Kinds.{Kinds}
 use Rattle.rekey_core.specs.Resealing.{EachDrawn}
 use Rattle.rekey_core.specs.Sealing.{ContentSealed}
 use Rattle.rekey_core.specs.Size.{changed_size}
@@ -30,45 +32,47 @@ IsWritingRefusal errors.Malformed = ⊥
 IsWritingRefusal errors.Invalid = ⊥
 IsWritingRefusal errors.Rng = ⊥
 
--- the store of these contents, with a MAC of this digest and count, under the password q and a salt
-abbrev pub store_anew : ℕ → MacData → List ℕ → List ℕ → List ContentInfo → PFX
-store_anew version m q salt es = record {
+-- the store of these contents, with a MAC of the digest and the count that are asked for, under the
+-- password q and a salt
+abbrev pub store_anew : Kinds → ℕ → MacData → List ℕ → List ℕ → List ContentInfo → PFX
+store_anew to version m q salt es = record {
   version = version;
   auth_safe = content.Data (contents_canon es);
-  mac_data = Some (mac_of m.mac.digest_algorithm (bmp_password q)
-      (contents_canon es) salt m.iterations);
+  mac_data = Some (mac_of (digest_for to m) (bmp_password q)
+      (contents_canon es) salt (count_for to m));
 }
 
 -- The store that is made of contents that are sealed anew is a change of the old one, and its text
 -- is read as it.
 abbrev pub MadeStoresAreChanges : Type 0
 MadeStoresAreChanges =
-    (b v p q : List ℕ) (s : PFX) (m : MacData) (cs es : List ContentInfo) (d salt : List ℕ)
+    (to : Kinds) (b v p q : List ℕ) (s : PFX) (m : MacData) (cs es : List ContentInfo) (d salt : List ℕ)
     → IsStore b s → s.auth_safe ≡ content.Data v → s.mac_data ≡ Some m
     → is_mac_digest m.mac.digest_algorithm ≡ true → 1 ≤ m.iterations → IsContents v cs
-    → EachDrawn (ContentSealed p q) cs es d → length salt ≡ 8
-    → IsShort (contents_canon es) → IsShort (store_canon (store_anew s.version m q salt es))
-    → Changes b p (store_canon (store_anew s.version m q salt es)) q (d ++ salt)
+    → EachDrawn (ContentSealed to p q) cs es d → length salt ≡ mac_salt to
+    → IsShort (contents_canon es) → IsShort (store_canon (store_anew to s.version m q salt es))
+    → ChangesTo to b p (store_canon (store_anew to s.version m q salt es)) q (d ++ salt)
 
 -- Its text is as long as it is stated.
 abbrev pub MadeStoresAreSized : Type 0
 MadeStoresAreSized =
-    (p q : List ℕ) (version : ℕ) (m : MacData) (cs es : List ContentInfo)
+    (to : Kinds) (p q : List ℕ) (version : ℕ) (m : MacData) (cs es : List ContentInfo)
     (gss : List (List SafeBag)) (d salt : List ℕ) → is_mac_digest m.mac.digest_algorithm ≡ true
-    → EachDrawn (ContentSealed p q) cs es d → Each (HoldsBags p) cs gss → length salt ≡ 8
-    → length (store_canon (store_anew version m q salt es)) ≡ changed_size version m p cs gss
+    → EachDrawn (ContentSealed to p q) cs es d → Each (HoldsBags p) cs gss
+    → length salt ≡ mac_salt to
+    → length (store_canon (store_anew to version m q salt es)) ≡ changed_size to version m p cs gss
 
 -- The text b is that of a store of this version and MAC, made of contents that are sealed anew, and
 -- it is short enough.
-pub record TextSealed (p q : List ℕ) (version : ℕ) (m : MacData) (cs : List ContentInfo)
+pub record TextSealed (to : Kinds) (p q : List ℕ) (version : ℕ) (m : MacData) (cs : List ContentInfo)
     (drawn b : List ℕ) : Type 0 where
   pub contents : List ContentInfo
   pub taken : List ℕ
   pub salt : List ℕ
   pub order : drawn ≡ taken ++ salt
-  pub of_8 : length salt ≡ 8
-  pub sealed : EachDrawn (ContentSealed p q) cs contents taken
-  pub is : b ≡ store_canon (store_anew version m q salt contents)
+  pub salt_drawn : length salt ≡ mac_salt to
+  pub sealed : EachDrawn (ContentSealed to p q) cs contents taken
+  pub is : b ≡ store_canon (store_anew to version m q salt contents)
   pub short : length b ≤ store_limit
 
 -- The contents hold these bags under the password p, and these are the keys among them.

@@ -28,6 +28,11 @@ pub record Resealing : Type 0 where
   pub drawn : AlgorithmIdentifier → ℕ
   -- the algorithm that takes its place, under these drawn octets
   pub target : AlgorithmIdentifier → List ℕ → AlgorithmIdentifier
+  -- the digest and the count of the MAC, where that of the old store is this one, and how many
+  -- octets are drawn for its salt
+  pub digest : MacData → AlgorithmIdentifier
+  pub count : MacData → ℕ
+  pub salt : ℕ
 
 -- R of the things one by one, each under the octets that were drawn for it; these follow each
 -- other, and are all of them
@@ -96,8 +101,8 @@ pub record ContentResealed (w : Resealing) (p q d : List ℕ) (c e : ContentInfo
   pub canonical : plain_text q e ≡ Some (bags_canon bags_anew)
 
 -- The store s under the password p was changed to the store t under q, by the octets d: the
--- versions are equal; the MAC of t agrees, under the digest and the count of that of s, and its
--- salt is the last 8 of the octets; and the contents of both are resealed, in their order, under
+-- versions are equal; the MAC of t agrees, under the digest and the count that are asked for, and
+-- its salt is the last of the octets; and the contents of both are resealed, in their order, under
 -- the octets before.
 pub record StoreResealed (w : Resealing) (p : List ℕ) (s : PFX) (q : List ℕ) (t : PFX) (d : List ℕ)
     : Type 0 where
@@ -110,8 +115,8 @@ pub record StoreResealed (w : Resealing) (p : List ℕ) (s : PFX) (q : List ℕ)
   pub mac_anew : MacData
   pub has_mac : s.mac_data ≡ Some mac
   pub has_mac_anew : t.mac_data ≡ Some mac_anew
-  pub digest : mac_anew.mac.digest_algorithm ≡ mac.mac.digest_algorithm
-  pub count : mac_anew.iterations ≡ mac.iterations
+  pub digest : mac_anew.mac.digest_algorithm ≡ w.digest mac
+  pub count : mac_anew.iterations ≡ w.count mac
   pub agrees : IsMacOk q text_anew mac_anew
   pub parts : List ContentInfo
   pub parts_anew : List ContentInfo
@@ -120,7 +125,7 @@ pub record StoreResealed (w : Resealing) (p : List ℕ) (s : PFX) (q : List ℕ)
   pub canonical : text_anew ≡ contents_canon parts_anew
   pub of_parts : List ℕ
   pub order : d ≡ of_parts ++ mac_anew.salt
-  pub of_8 : length mac_anew.salt ≡ 8
+  pub salt_drawn : length mac_anew.salt ≡ w.salt
   pub like : EachDrawn (ContentResealed w p q) parts parts_anew of_parts
 
 -- The text b of a store under p was changed to the text c of one under q, which is the canonical

@@ -15,6 +15,8 @@ use Rattle.p12.specs.declared.safe_bag.SafeBag.{SafeBag}
 use Rattle.p12.specs.declared.safe_bag.SafeBagKind.{SafeBagKind}
 use Rattle.p12.specs.declared.safe_bag.SafeBagKind.TheVariants as kind
 use Rattle.rekey_core.specs.Anew.{anew, drawn_for}
+use Rattle.rekey_core.specs.Kinds.{count_for, digest_for, kind_for, mac_salt}
+use Rattle.rekey_core.specs.declared.kinds.Kinds.{Kinds}
 
 -- n octets that are only counted
 abbrev pub blank : ℕ → List ℕ
@@ -23,8 +25,8 @@ blank n = replicate n 0
 abbrev pub blank_algorithm : AlgorithmIdentifier → AlgorithmIdentifier
 blank_algorithm a = anew a (blank (drawn_for a))
 
--- how many octets a text of n has once it is sealed anew under the algorithm that is stated for
--- this one: padded up to a multiple of 8 under Triple DES, of 16 under AES
+-- how many octets a text of n has once it is sealed under an algorithm of the kind of this one:
+-- padded up to a multiple of 8 under Triple DES, of 16 under AES
 abbrev pub sealed_size : AlgorithmIdentifier → ℕ → ℕ
 sealed_size Sha1 n = 0
 sealed_size Sha256 n = 0
@@ -38,45 +40,47 @@ abbrev pub size_in : Option (List ℕ) → ℕ
 size_in None = 0
 size_in (Some m) = length m
 
-abbrev pub blank_key : List ℕ → EncryptedPrivateKeyInfo → EncryptedPrivateKeyInfo
-blank_key p k = record {
-  encryption_algorithm = blank_algorithm k.encryption_algorithm;
+abbrev pub blank_key : Kinds → List ℕ → EncryptedPrivateKeyInfo → EncryptedPrivateKeyInfo
+blank_key to p k = record {
+  encryption_algorithm = blank_algorithm (kind_for to k.encryption_algorithm);
   encrypted_data = blank
-      (sealed_size k.encryption_algorithm
+      (sealed_size (kind_for to k.encryption_algorithm)
       (size_in (unlock k.encryption_algorithm p k.encrypted_data)));
 }
 
-abbrev pub blank_kind : List ℕ → SafeBagKind → SafeBagKind
-blank_kind p (kind.CertBag c) = kind.CertBag c
-blank_kind p (kind.OtherBagKind o) = kind.OtherBagKind o
-blank_kind p (kind.Pkcs8ShroudedKeyBag k) = kind.Pkcs8ShroudedKeyBag (blank_key p k)
+abbrev pub blank_kind : Kinds → List ℕ → SafeBagKind → SafeBagKind
+blank_kind to p (kind.CertBag c) = kind.CertBag c
+blank_kind to p (kind.OtherBagKind o) = kind.OtherBagKind o
+blank_kind to p (kind.Pkcs8ShroudedKeyBag k) = kind.Pkcs8ShroudedKeyBag (blank_key to p k)
 
-abbrev pub blank_bag : List ℕ → SafeBag → SafeBag
-blank_bag p g = record { bag = blank_kind p g.bag; attributes = g.attributes }
+abbrev pub blank_bag : Kinds → List ℕ → SafeBag → SafeBag
+blank_bag to p g = record { bag = blank_kind to p g.bag; attributes = g.attributes }
 
 -- the text of bags under the password p, once they are sealed anew
-abbrev pub blank_text : List ℕ → List SafeBag → List ℕ
-blank_text p gs = bags_canon (map (blank_bag p) gs)
+abbrev pub blank_text : Kinds → List ℕ → List SafeBag → List ℕ
+blank_text to p gs = bags_canon (map (blank_bag to p) gs)
 
 -- a content that holds these bags
-abbrev pub blank_content : List ℕ → ContentInfo → List SafeBag → ContentInfo
-blank_content p (content.Data v) gs = content.Data (blank_text p gs)
-blank_content p (content.EncryptedData d) gs =
-    let a = d.encrypted_content_info.content_encryption_algorithm in
+abbrev pub blank_content : Kinds → List ℕ → ContentInfo → List SafeBag → ContentInfo
+blank_content to p (content.Data v) gs = content.Data (blank_text to p gs)
+blank_content to p (content.EncryptedData d) gs =
+    let a = kind_for to d.encrypted_content_info.content_encryption_algorithm in
     content.EncryptedData
     (record {
       encrypted_content_info =
           record {
             content_encryption_algorithm = blank_algorithm a;
-            encrypted_content = blank (sealed_size a (length (blank_text p gs)));
+            encrypted_content = blank (sealed_size a (length (blank_text to p gs)));
           };
     })
-blank_content p (content.OtherContext o) gs = content.OtherContext o
+blank_content to p (content.OtherContext o) gs = content.OtherContext o
 
-abbrev pub blank_contents : List ℕ → List ContentInfo → List (List SafeBag) → List ContentInfo
-blank_contents p [] gss = []
-blank_contents p (c ∷ cs) [] = []
-blank_contents p (c ∷ cs) (gs ∷ gss) = blank_content p c gs ∷ blank_contents p cs gss
+abbrev pub blank_contents : Kinds → List ℕ → List ContentInfo → List (List SafeBag)
+    → List ContentInfo
+blank_contents to p [] gss = []
+blank_contents to p (c ∷ cs) [] = []
+blank_contents to p (c ∷ cs) (gs ∷ gss) =
+    blank_content to p c gs ∷ blank_contents to p cs gss
 
 -- how many octets a digest has
 abbrev pub digest_size : AlgorithmIdentifier → ℕ
@@ -87,26 +91,28 @@ digest_size (PbeWithSHAAnd3KeyTripleDESCBC p) = 0
 digest_size (Pbes2 par) = 0
 digest_size (OtherAlg o) = 0
 
-abbrev pub blank_mac : MacData → MacData
-blank_mac m = record {
+abbrev pub blank_mac : Kinds → MacData → MacData
+blank_mac to m = record {
   mac = record {
-    digest_algorithm = m.mac.digest_algorithm;
-    digest = blank (digest_size m.mac.digest_algorithm);
+    digest_algorithm = digest_for to m;
+    digest = blank (digest_size (digest_for to m));
   };
-  salt = blank 8;
-  iterations = m.iterations;
+  salt = blank (mac_salt to);
+  iterations = count_for to m;
 }
 
 -- a store of this version and MAC, whose contents hold these bags under the password p, once it is
 -- changed
-abbrev pub blank_store : ℕ → MacData → List ℕ → List ContentInfo → List (List SafeBag) → PFX
-blank_store version m p cs gss =
+abbrev pub blank_store : Kinds → ℕ → MacData → List ℕ → List ContentInfo → List (List SafeBag)
+    → PFX
+blank_store to version m p cs gss =
     record {
       version = version;
-      auth_safe = content.Data (contents_canon (blank_contents p cs gss));
-      mac_data = Some (blank_mac m);
+      auth_safe = content.Data (contents_canon (blank_contents to p cs gss));
+      mac_data = Some (blank_mac to m);
     }
 
 -- how many octets its text has
-unfoldable pub changed_size : ℕ → MacData → List ℕ → List ContentInfo → List (List SafeBag) → ℕ
-changed_size version m p cs gss = length (store_canon (blank_store version m p cs gss))
+unfoldable pub changed_size : Kinds → ℕ → MacData → List ℕ → List ContentInfo
+    → List (List SafeBag) → ℕ
+changed_size to version m p cs gss = length (store_canon (blank_store to version m p cs gss))

@@ -2,12 +2,14 @@
 ghost use Rattle.std.specs.Prelude.{◌≡◌, ◌≤◌, ◌<◌, ◌^◌, ◌+◌, List, ℕ, length, IfOk, IfErr, IfSome, Some, true, ⊤};
 ghost use Rattle.p12.specs.AlgorithmIdentifier.{count, openable, unlock};
 ghost use Rattle.pkcs5.specs.Kinds as kinds;
-ghost use Rattle.rekey_core.specs.Anew.{anew, drawn_for};
+ghost use Rattle.rekey_core.specs.Anew.{anew, drawn_for, pbes2_rounds, sha256_anew};
+ghost use Rattle.rekey_core.specs.Kinds.{kind_for, renewed};
 ghost use Rattle.rekey_core.specs.Like.{IsAnew};
 ghost use Rattle.rekey_core.specs.Sealing.{IsKeyAnew, LongOnly};
 ghost use Rattle.rekey_core.specs.Size.{sealed_size};
 ghost use Rattle.transfer.specs.declared.store.error.TransferError.TheVariants as refusal;
 
+use crate::kinds::Kinds;
 use crate::supply::PartSupply;
 use asn1_core::Octets;
 use p12::{AlgorithmIdentifier, Error, Pkcs12PbeParams};
@@ -18,31 +20,34 @@ use std::alloc::Global;
 use transfer::TransferError;
 
 /// The octets of a salt of Triple DES.
-pub(crate) const SALT: usize = 8;
+const SALT: usize = 8;
 
 /// The octets of the IV and the salt of PBES2.
-pub(crate) const IV_AND_SALT: usize = 32;
+const IV_AND_SALT: usize = 32;
 
 /// The octets of the IV of PBES2, which are drawn before those of the salt.
 pub(crate) const IV: usize = 16;
 
-/// How many octets are drawn for a part under this algorithm.
-pub(crate) fn drawn_for(algorithm: &AlgorithmIdentifier) -> usize
-    ensures value { result ≡ drawn_for algorithm.now }
+/// How many octets are drawn for a part that was under this algorithm.
+pub(crate) fn drawn_for(to: Kinds, algorithm: &AlgorithmIdentifier) -> usize
+    ensures value { result ≡ drawn_for (kind_for to algorithm.now) }
     ensures few { result ≤ 32 }
 {
-    match algorithm {
-        AlgorithmIdentifier::PbeWithSHAAnd3KeyTripleDESCBC(_) => SALT,
-        AlgorithmIdentifier::Pbes2(_) => IV_AND_SALT,
-        AlgorithmIdentifier::Sha1
-        | AlgorithmIdentifier::Sha256
-        | AlgorithmIdentifier::PbewithSHAAnd40BitRC2CBC(_)
-        | AlgorithmIdentifier::OtherAlg(_) => 0,
+    match to {
+        Kinds::Renewed(_) => IV_AND_SALT,
+        Kinds::Kept => match algorithm {
+            AlgorithmIdentifier::PbeWithSHAAnd3KeyTripleDESCBC(_) => SALT,
+            AlgorithmIdentifier::Pbes2(_) => IV_AND_SALT,
+            AlgorithmIdentifier::Sha1
+            | AlgorithmIdentifier::Sha256
+            | AlgorithmIdentifier::PbewithSHAAnd40BitRC2CBC(_)
+            | AlgorithmIdentifier::OtherAlg(_) => 0,
+        },
     }
 }
 
 /// How many rounds of PBKDF2 derive a key.
-pub(crate) fn rounds_of(kdf: &Kdf) -> u32
+fn rounds_of(kdf: &Kdf) -> u32
     ensures { result ≡ kinds.rounds_of kdf.now }
 {
     match kdf {
@@ -51,12 +56,28 @@ pub(crate) fn rounds_of(kdf: &Kdf) -> u32
     }
 }
 
-/// PBKDF2 over HMAC-SHA-256 and AES-256-CBC, in the rounds of these parameters.
+/// The rounds of PBKDF2 of a part that was under this algorithm, where it is sealed under PBES2.
+pub(crate) fn rounds_for(to: Kinds, algorithm: &AlgorithmIdentifier) -> Option<u32>
+    ensures { result ≡ pbes2_rounds (kind_for to algorithm.now) }
+{
+    match to {
+        Kinds::Renewed(rounds) => Some(rounds.count()),
+        Kinds::Kept => match algorithm {
+            AlgorithmIdentifier::Pbes2(parameters) => Some(rounds_of(&parameters.kdf)),
+            AlgorithmIdentifier::PbeWithSHAAnd3KeyTripleDESCBC(_)
+            | AlgorithmIdentifier::Sha1
+            | AlgorithmIdentifier::Sha256
+            | AlgorithmIdentifier::PbewithSHAAnd40BitRC2CBC(_)
+            | AlgorithmIdentifier::OtherAlg(_) => None,
+        },
+    }
+}
+
+/// PBKDF2 over HMAC-SHA-256 in so many rounds, and AES-256-CBC.
 #[tactic(auto, using(crate::proofs::Writing::params_are))]
-fn parameters_anew(parameters: &Parameters, drawn: &[u8]) -> Parameters
+fn parameters_anew(rounds: u32, drawn: &[u8]) -> Parameters
     requires { length drawn.now ≡ 32 }
-    ensures { AlgorithmIdentifier.Pbes2 result
-        ≡ anew (AlgorithmIdentifier.Pbes2 parameters.now) drawn.now }
+    ensures { result ≡ sha256_anew rounds drawn.now }
 {
     let mut iv = [0u8; 16];
     let (front, back) = drawn.split_at(IV);
@@ -64,11 +85,10 @@ fn parameters_anew(parameters: &Parameters, drawn: &[u8]) -> Parameters
     let Ok(salt) = Salt::new(back) else {
         unreachable!()
     };
-    let iteration_count = rounds_of(&parameters.kdf);
     Parameters {
         kdf: Kdf::Pbkdf2(Pbkdf2Params {
             salt,
-            iteration_count,
+            iteration_count: rounds,
             key_length: None,
             prf: Pbkdf2Prf::HmacWithSha256,
         }),
@@ -76,15 +96,15 @@ fn parameters_anew(parameters: &Parameters, drawn: &[u8]) -> Parameters
     }
 }
 
-/// The algorithm that takes the place of one, under these drawn octets. The only error is `Memory`.
-pub(crate) fn anew(
+/// An algorithm of the kind of one, under these drawn octets. The only error is `Memory`.
+fn kept_anew(
     alloc: Global,
     algorithm: &AlgorithmIdentifier,
     drawn: &[u8],
 ) -> Result<AlgorithmIdentifier, TransferError>
     requires opens { openable algorithm.now ≡ true }
     requires drawn { length drawn.now ≡ drawn_for algorithm.now }
-    ensures ok { IfOk result (λ a. IsAnew drawn.now algorithm.now a) }
+    ensures ok { IfOk result (λ a. a ≡ anew algorithm.now drawn.now) }
     ensures err { IfErr result (λ e. e ≡ refusal.Memory) }
 {
     match algorithm {
@@ -96,12 +116,33 @@ pub(crate) fn anew(
             }))
         }
         AlgorithmIdentifier::Pbes2(parameters) => {
-            Ok(AlgorithmIdentifier::Pbes2(parameters_anew(parameters, drawn)))
+            let rounds = rounds_of(&parameters.kdf);
+            Ok(AlgorithmIdentifier::Pbes2(parameters_anew(rounds, drawn)))
         }
         AlgorithmIdentifier::Sha1
         | AlgorithmIdentifier::Sha256
         | AlgorithmIdentifier::PbewithSHAAnd40BitRC2CBC(_)
         | AlgorithmIdentifier::OtherAlg(_) => unreachable!(),
+    }
+}
+
+/// The algorithm that takes the place of one, under these drawn octets. The only error is `Memory`.
+fn anew(
+    alloc: Global,
+    to: Kinds,
+    algorithm: &AlgorithmIdentifier,
+    drawn: &[u8],
+) -> Result<AlgorithmIdentifier, TransferError>
+    requires opens { openable algorithm.now ≡ true }
+    requires drawn { length drawn.now ≡ drawn_for (kind_for to algorithm.now) }
+    ensures ok { IfOk result (λ a. IsAnew to drawn.now algorithm.now a) }
+    ensures err { IfErr result (λ e. e ≡ refusal.Memory) }
+{
+    match to {
+        Kinds::Renewed(rounds) => {
+            Ok(AlgorithmIdentifier::Pbes2(parameters_anew(rounds.count(), drawn)))
+        }
+        Kinds::Kept => kept_anew(alloc, algorithm, drawn),
     }
 }
 
@@ -116,6 +157,7 @@ pub(crate) struct Sealed {
 /// `TooLong` only where it would have 2^32 octets or more; the only other error is `Memory`.
 fn seal_by_password(
     alloc: Global,
+    to: Kinds,
     algorithm: &AlgorithmIdentifier,
     drawn: &[u8],
     text: &[u8],
@@ -123,14 +165,16 @@ fn seal_by_password(
 ) -> Result<Sealed, TransferError>
     requires opens { openable algorithm.now ≡ true }
     requires rounds { 0 < count algorithm.now }
-    requires drawn { length drawn.now ≡ drawn_for algorithm.now }
+    requires drawn { length drawn.now ≡ drawn_for (kind_for to algorithm.now) }
     requires password { length new.now < 2 ^ 57 }
-    ensures anew { IfOk result (λ s. IsAnew drawn.now algorithm.now s.algorithm) }
+    ensures anew { IfOk result (λ s. IsAnew to drawn.now algorithm.now s.algorithm) }
     ensures opens { IfOk result (λ s. unlock s.algorithm new.now s.text ≡ Some text.now) }
-    ensures size { IfOk result (λ s. length s.text ≡ sealed_size algorithm.now (length text.now)) }
-    ensures err { IfErr result (LongOnly (2 ^ 32 ≤ sealed_size algorithm.now (length text.now))) }
+    ensures size { IfOk result (λ s. length s.text
+        ≡ sealed_size (kind_for to algorithm.now) (length text.now)) }
+    ensures err { IfErr result (LongOnly
+        (2 ^ 32 ≤ sealed_size (kind_for to algorithm.now) (length text.now))) }
 {
-    let algorithm = anew(alloc, algorithm, drawn)?;
+    let algorithm = anew(alloc, to, algorithm, drawn)?;
     match algorithm.encrypt_text(alloc, text, new) {
         Ok(text) => Ok(Sealed { algorithm, text }),
         Err(Error::TooLong) => Err(TransferError::TooLong),
@@ -139,27 +183,26 @@ fn seal_by_password(
     }
 }
 
-/// A text, sealed under the parameters that take the place of these and a key that was derived for them. The only error
-/// is `Memory`.
+/// A text, sealed under PBES2 in so many rounds and a key that was derived for it. The only error is `Memory`.
 fn seal_by_key(
     alloc: Global,
-    parameters: &Parameters,
+    rounds: u32,
     drawn: &[u8],
     key: &EncryptionKey,
     text: &[u8],
 ) -> Result<Sealed, TransferError>
-    requires rounds { 0 < kinds.rounds_of parameters.now.kdf }
+    requires rounds { 0 < rounds }
     requires drawn { length drawn.now ≡ 32 }
-    requires key { (q : List ℕ) × IsKeyAnew parameters.now drawn.now q key.now }
+    requires key { (q : List ℕ) × IsKeyAnew rounds drawn.now q key.now }
     ensures anew { IfOk result (λ s. s.algorithm
-        ≡ anew (AlgorithmIdentifier.Pbes2 parameters.now) drawn.now) }
-    ensures opens { IfOk result (λ s. (q : List ℕ) → IsKeyAnew parameters.now drawn.now q key.now
+        ≡ AlgorithmIdentifier.Pbes2 (sha256_anew rounds drawn.now)) }
+    ensures opens { IfOk result (λ s. (q : List ℕ) → IsKeyAnew rounds drawn.now q key.now
         → unlock s.algorithm q s.text ≡ Some text.now) }
     ensures size { IfOk result (λ s. length s.text
-        ≡ sealed_size (AlgorithmIdentifier.Pbes2 parameters.now) (length text.now)) }
+        ≡ sealed_size (renewed rounds) (length text.now)) }
     ensures err { IfErr result (λ e. e ≡ refusal.Memory) }
 {
-    let parameters = parameters_anew(parameters, drawn);
+    let parameters = parameters_anew(rounds, drawn);
     match parameters.encrypt_under_key(alloc, key, text) {
         Ok(text) => Ok(Sealed {
             algorithm: AlgorithmIdentifier::Pbes2(parameters),
@@ -169,18 +212,14 @@ fn seal_by_key(
     }
 }
 
-/// The key that was derived for a part under these parameters, where it is the one that is supplied.
-fn derived_for<'a>(
-    parameters: &Parameters,
-    part: &PartSupply<'a>,
-    new: &str,
-) -> Option<&'a EncryptionKey>
+/// The key that was derived for a part in so many rounds, where it is the one that is supplied.
+fn derived_for<'a>(rounds: u32, part: &PartSupply<'a>, new: &str) -> Option<&'a EncryptionKey>
     requires { length part.now.drawn.now ≡ 32 }
     ensures { IfSome result
-        (λ key. IsKeyAnew parameters.now part.now.drawn.now new.now key.now) }
+        (λ key. IsKeyAnew rounds part.now.drawn.now new.now key.now) }
 {
     match part.derived {
-        Some(derived) => derived.key_from(new, rounds_of(&parameters.kdf), &part.drawn[IV..]),
+        Some(derived) => derived.key_from(new, rounds, &part.drawn[IV..]),
         None => None,
     }
 }
@@ -189,6 +228,7 @@ fn derived_for<'a>(
 /// have 2^32 octets or more; the only other error is `Memory`.
 pub(crate) fn seal(
     alloc: Global,
+    to: Kinds,
     algorithm: &AlgorithmIdentifier,
     part: &PartSupply<'_>,
     text: &[u8],
@@ -196,17 +236,19 @@ pub(crate) fn seal(
 ) -> Result<Sealed, TransferError>
     requires opens { openable algorithm.now ≡ true }
     requires rounds { 0 < count algorithm.now }
-    requires drawn { length part.now.drawn.now ≡ drawn_for algorithm.now }
+    requires drawn { length part.now.drawn.now ≡ drawn_for (kind_for to algorithm.now) }
     requires password { length new.now < 2 ^ 57 }
-    ensures anew { IfOk result (λ s. IsAnew part.now.drawn.now algorithm.now s.algorithm) }
+    ensures anew { IfOk result (λ s. IsAnew to part.now.drawn.now algorithm.now s.algorithm) }
     ensures opens { IfOk result (λ s. unlock s.algorithm new.now s.text ≡ Some text.now) }
-    ensures size { IfOk result (λ s. length s.text ≡ sealed_size algorithm.now (length text.now)) }
-    ensures err { IfErr result (LongOnly (2 ^ 32 ≤ sealed_size algorithm.now (length text.now))) }
+    ensures size { IfOk result (λ s. length s.text
+        ≡ sealed_size (kind_for to algorithm.now) (length text.now)) }
+    ensures err { IfErr result (LongOnly
+        (2 ^ 32 ≤ sealed_size (kind_for to algorithm.now) (length text.now))) }
 {
-    if let AlgorithmIdentifier::Pbes2(parameters) = algorithm {
-        if let Some(key) = derived_for(parameters, part, new) {
-            return seal_by_key(alloc, parameters, part.drawn, key, text);
+    if let Some(rounds) = rounds_for(to, algorithm) {
+        if let Some(key) = derived_for(rounds, part, new) {
+            return seal_by_key(alloc, rounds, part.drawn, key, text);
         }
     }
-    seal_by_password(alloc, algorithm, part.drawn, text, new)
+    seal_by_password(alloc, to, algorithm, part.drawn, text, new)
 }

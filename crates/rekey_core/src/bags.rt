@@ -5,6 +5,7 @@ ghost use Rattle.rekey_core.specs.Sealing.{BagSealed, BagsSealed, LongOnly, Supp
 ghost use Rattle.rekey_core.specs.Size.{blank_bag, blank_text};
 
 use crate::algorithm::{Sealed, seal};
+use crate::kinds::Kinds;
 use crate::supply::Supply;
 use asn1_core::{Items, Octets};
 use p12::{EncryptedPrivateKeyInfo, Error, SafeBag, SafeBagKind};
@@ -14,24 +15,25 @@ use transfer::TransferError;
 /// A bag, its key sealed anew where it holds an encrypted one.
 fn seal_bag(
     alloc: Global,
+    to: Kinds,
     bag: &SafeBag,
     supply: &mut Supply<'_>,
     new: &str,
 ) -> Result<SafeBag, TransferError>
     requires open { (p : List ℕ) × (more : List (List ℕ))
         × Supplies p (bag.now ∷ []) supply.old.keys.now more }
-    requires room { bag_draws bag.now ≤ length supply.old.drawn.now }
+    requires room { bag_draws to bag.now ≤ length supply.old.drawn.now }
     requires password { length new.now < 2 ^ 57 }
     ensures sealed { IfOk result (λ h. (p : List ℕ) (more : List (List ℕ))
         → Supplies p (bag.now ∷ []) supply.old.keys.now more
         → (supply.new.keys.now ≡ more) × (z : List ℕ) × (supply.old.drawn.now
         ≡ z ++ supply.new.drawn.now)
-        × BagSealed p new.now z bag.now h) }
+        × BagSealed to p new.now z bag.now h) }
     ensures used { OnOk result (length supply.old.drawn.now
-        ≡ bag_draws bag.now + length supply.new.drawn.now) }
+        ≡ bag_draws to bag.now + length supply.new.drawn.now) }
     ensures err { IfErr result (LongOnly ((p : List ℕ) (more : List (List ℕ))
         → Supplies p (bag.now ∷ []) supply.old.keys.now more
-        → 2 ^ 32 ≤ length (bag_canon (blank_bag p bag.now)))) }
+        → 2 ^ 32 ≤ length (bag_canon (blank_bag to p bag.now)))) }
 {
     let copy = match bag.try_clone(alloc) {
         Ok(copy) => copy,
@@ -40,10 +42,11 @@ fn seal_bag(
     let SafeBagKind::Pkcs8ShroudedKeyBag(key) = &bag.bag else {
         return Ok(copy);
     };
-    let part = supply.next_part(&key.encryption_algorithm);
+    let part = supply.next_part(to, &key.encryption_algorithm);
     let text = supply.next_key();
     let sealed = seal(
         alloc,
+        to,
         &key.encryption_algorithm,
         &part,
         text.as_slice(),
@@ -63,28 +66,29 @@ fn seal_bag(
 /// Bags, each key among them sealed anew.
 pub(crate) fn seal_bags(
     alloc: Global,
+    to: Kinds,
     bags: &[SafeBag],
     supply: &mut Supply<'_>,
     new: &str,
 ) -> Result<Items<SafeBag>, TransferError>
     requires open { (p : List ℕ) × (more : List (List ℕ))
         × Supplies p bags.now supply.old.keys.now more }
-    requires room { bags_draw bags.now ≤ length supply.old.drawn.now }
+    requires room { bags_draw to bags.now ≤ length supply.old.drawn.now }
     requires password { length new.now < 2 ^ 57 }
     ensures sealed { IfOk result (λ hs. (p : List ℕ) (more : List (List ℕ))
         → Supplies p bags.now supply.old.keys.now more
-        → (supply.new.keys.now ≡ more) × BagsSealed p new.now bags.now supply.old.drawn.now
+        → (supply.new.keys.now ≡ more) × BagsSealed to p new.now bags.now supply.old.drawn.now
         supply.new.drawn.now hs) }
     ensures used { OnOk result (length supply.old.drawn.now
-        ≡ bags_draw bags.now + length supply.new.drawn.now) }
+        ≡ bags_draw to bags.now + length supply.new.drawn.now) }
     ensures err { IfErr result (LongOnly ((p : List ℕ) (more : List (List ℕ))
         → Supplies p bags.now supply.old.keys.now more
-        → 2 ^ 32 ≤ length (blank_text p bags.now))) }
+        → 2 ^ 32 ≤ length (blank_text to p bags.now))) }
 {
     let mut made = Items::new(alloc);
     let mut rest = bags;
     while let Some((bag, back)) = rest.split_first() {
-        let sealed = seal_bag(alloc, bag, supply, new)?;
+        let sealed = seal_bag(alloc, to, bag, supply, new)?;
         made.push(sealed)?;
         rest = back;
     }

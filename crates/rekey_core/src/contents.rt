@@ -12,6 +12,7 @@ ghost use Rattle.rekey_core.specs.Size.{blank_content, blank_contents};
 
 use crate::algorithm::{Sealed, seal};
 use crate::bags::{seal_bags, text_of};
+use crate::kinds::Kinds;
 use crate::supply::Supply;
 use asn1_core::Items;
 use p12::{ContentInfo, EncryptedContentInfo, EncryptedData, SafeBag};
@@ -21,6 +22,7 @@ use transfer::TransferError;
 /// A content that holds these bags, sealed anew with the keys among them.
 fn seal_content(
     alloc: Global,
+    to: Kinds,
     content: &ContentInfo,
     bags: &[SafeBag],
     supply: &mut Supply<'_>,
@@ -28,31 +30,31 @@ fn seal_content(
 ) -> Result<ContentInfo, TransferError>
     requires open { (p : List ℕ) × (more : List (List ℕ)) × HoldsBags p content.now bags.now
         × Supplies p bags.now supply.old.keys.now more }
-    requires room { content_draws content.now + bags_draw bags.now ≤ length supply.old.drawn.now }
+    requires room { content_draws to content.now + bags_draw to bags.now ≤ length supply.old.drawn.now }
     requires password { length new.now < 2 ^ 57 }
     ensures sealed { IfOk result (λ e. (p : List ℕ) (more : List (List ℕ))
         → HoldsBags p content.now bags.now → Supplies p bags.now supply.old.keys.now more
         → (supply.new.keys.now ≡ more) × (z : List ℕ) × (supply.old.drawn.now
         ≡ z ++ supply.new.drawn.now)
-        × ContentSealed p new.now z content.now e) }
+        × ContentSealed to p new.now z content.now e) }
     ensures used { OnOk result (length supply.old.drawn.now
-        ≡ content_draws content.now + bags_draw bags.now + length supply.new.drawn.now) }
+        ≡ content_draws to content.now + bags_draw to bags.now + length supply.new.drawn.now) }
     ensures err { IfErr result (LongOnly ((p : List ℕ) (more : List (List ℕ))
         → HoldsBags p content.now bags.now → Supplies p bags.now supply.old.keys.now more
-        → 2 ^ 32 ≤ length (content_canon (blank_content p content.now bags.now)))) }
+        → 2 ^ 32 ≤ length (content_canon (blank_content to p content.now bags.now)))) }
 {
     match content {
         ContentInfo::Data(_) => {
-            let bags = seal_bags(alloc, bags, supply, new)?;
+            let bags = seal_bags(alloc, to, bags, supply, new)?;
             let text = text_of(alloc, bags.as_slice())?;
             Ok(ContentInfo::Data(text))
         }
         ContentInfo::EncryptedData(data) => {
             let algorithm = &data.encrypted_content_info.content_encryption_algorithm;
-            let part = supply.next_part(algorithm);
-            let bags = seal_bags(alloc, bags, supply, new)?;
+            let part = supply.next_part(to, algorithm);
+            let bags = seal_bags(alloc, to, bags, supply, new)?;
             let text = text_of(alloc, bags.as_slice())?;
-            let sealed = seal(alloc, algorithm, &part, text.as_slice(), new)?;
+            let sealed = seal(alloc, to, algorithm, &part, text.as_slice(), new)?;
             let Sealed { algorithm, text } = sealed;
             Ok(ContentInfo::EncryptedData(EncryptedData {
                 encrypted_content_info: EncryptedContentInfo {
@@ -68,6 +70,7 @@ fn seal_content(
 /// Contents that hold these bags, sealed anew in order.
 pub(crate) fn seal_contents(
     alloc: Global,
+    to: Kinds,
     contents: &[ContentInfo],
     bags: &[Items<SafeBag>],
     supply: &mut Supply<'_>,
@@ -76,18 +79,18 @@ pub(crate) fn seal_contents(
     requires open { (p : List ℕ) × (more : List (List ℕ))
         × Each (HoldsBags p) contents.now bags.now
         × SuppliesAll p bags.now supply.old.keys.now more }
-    requires room { sum_by content_draws contents.now + sum_by bags_draw bags.now
+    requires room { sum_by (content_draws to) contents.now + sum_by (bags_draw to) bags.now
         ≤ length supply.old.drawn.now }
     requires password { length new.now < 2 ^ 57 }
     ensures sealed { IfOk result (λ es. (p : List ℕ) (more : List (List ℕ))
         → Each (HoldsBags p) contents.now bags.now → SuppliesAll p bags.now supply.old.keys.now more
-        → ContentsSealed p new.now contents.now supply.old.drawn.now supply.new.drawn.now es) }
+        → ContentsSealed to p new.now contents.now supply.old.drawn.now supply.new.drawn.now es) }
     ensures used { OnOk result (length supply.old.drawn.now
-        ≡ sum_by content_draws contents.now + sum_by bags_draw bags.now + length
+        ≡ sum_by (content_draws to) contents.now + sum_by (bags_draw to) bags.now + length
         supply.new.drawn.now) }
     ensures err { IfErr result (LongOnly ((p : List ℕ) (more : List (List ℕ))
         → Each (HoldsBags p) contents.now bags.now → SuppliesAll p bags.now supply.old.keys.now more
-        → 2 ^ 32 ≤ length (contents_canon (blank_contents p contents.now bags.now)))) }
+        → 2 ^ 32 ≤ length (contents_canon (blank_contents to p contents.now bags.now)))) }
 {
     let mut made = Items::new(alloc);
     let mut rest = contents;
@@ -96,7 +99,7 @@ pub(crate) fn seal_contents(
         let Some((held, held_after)) = rest_bags.split_first() else {
             unreachable!()
         };
-        let sealed = seal_content(alloc, content, held.as_slice(), supply, new)?;
+        let sealed = seal_content(alloc, to, content, held.as_slice(), supply, new)?;
         made.push(sealed)?;
         rest = back;
         rest_bags = held_after;

@@ -3,13 +3,15 @@ ghost use Rattle.std.specs.Prelude.{◌≡◌, ◌≤◌, ◌<◌, ◌+◌, ◌+
 ghost use Rattle.std.specs.List.{slice_get, sum_by};
 ghost use Rattle.pkcs5.specs.Opening.{sha256_key};
 ghost use Rattle.rekey_core.specs.Anew.{content_draws, drawn_for};
+ghost use Rattle.rekey_core.specs.Kinds.{kind_for};
 ghost use Rattle.rekey_core.specs.Deriving.{key_algorithms, keys_in, part_algorithms, rounds_and_salt, rounds_and_salts, seen_parts, seen_runs};
 ghost use Rattle.rekey_core.specs.Sealing.{bags_draw};
 ghost use Rattle.rekey_core.specs.declared.key_derivation.RoundsAndSalt.{RoundsAndSalt};
 ghost use Rattle.transfer.specs.declared.store.error.TransferError.TheVariants as refusal;
 
-use crate::algorithm::{IV, drawn_for, rounds_of};
+use crate::algorithm::{IV, drawn_for, rounds_for};
 use crate::derived_keys::DerivedKeys;
+use crate::kinds::Kinds;
 use asn1_core::Items;
 use p12::{AlgorithmIdentifier, ContentInfo, SafeBag, SafeBagKind};
 use pkcs5::pbes2::{EncryptionKey, Salt};
@@ -23,26 +25,26 @@ struct RoundsAndSalt {
     salt: Salt,
 }
 
-/// Adds a part under this algorithm where it is PBES2, and returns the drawn octets after those of the part.
+/// Adds a part that was under this algorithm where it is sealed under PBES2, and returns the drawn octets after those of the part.
 fn add_part<'a>(
+    to: Kinds,
     algorithm: &AlgorithmIdentifier,
     drawn: &'a [u8],
     parts: &mut Items<RoundsAndSalt>,
 ) -> Result<&'a [u8], TransferError>
-    requires { drawn_for algorithm.now ≤ length drawn.now }
+    requires { drawn_for (kind_for to algorithm.now) ≤ length drawn.now }
     ensures left { IfOk result
-        (λ left. length drawn.now ≡ drawn_for algorithm.now + length left.now) }
-    ensures after { IfOk result (λ left. left.now ≡ drop (drawn_for algorithm.now) drawn.now) }
+        (λ left. length drawn.now ≡ drawn_for (kind_for to algorithm.now) + length left.now) }
+    ensures after { IfOk result (λ left. left.now ≡ drop (drawn_for (kind_for to algorithm.now)) drawn.now) }
     ensures part { OnOk result (seen_parts parts.new ≡ seen_parts parts.old
-        ++ rounds_and_salt algorithm.now (take (drawn_for algorithm.now) drawn.now)) }
+        ++ rounds_and_salt (kind_for to algorithm.now) (take (drawn_for (kind_for to algorithm.now)) drawn.now)) }
     ensures err { IfErr result (λ e. e ≡ refusal.Memory) }
 {
-    let (own, left) = drawn.split_at(drawn_for(algorithm));
-    if let AlgorithmIdentifier::Pbes2(parameters) = algorithm {
+    let (own, left) = drawn.split_at(drawn_for(to, algorithm));
+    if let Some(rounds) = rounds_for(to, algorithm) {
         let Ok(salt) = Salt::new(&own[IV..]) else {
             unreachable!()
         };
-        let rounds = rounds_of(&parameters.kdf);
         parts.push(RoundsAndSalt { rounds, salt })?;
     }
     Ok(left)
@@ -50,22 +52,23 @@ fn add_part<'a>(
 
 /// Adds the encrypted keys among bags, and returns the drawn octets after theirs.
 fn add_keys<'a>(
+    to: Kinds,
     bags: &[SafeBag],
     drawn: &'a [u8],
     parts: &mut Items<RoundsAndSalt>,
 ) -> Result<&'a [u8], TransferError>
-    requires { bags_draw bags.now ≤ length drawn.now }
-    ensures left { IfOk result (λ left. length drawn.now ≡ bags_draw bags.now + length left.now) }
-    ensures after { IfOk result (λ left. left.now ≡ drop (bags_draw bags.now) drawn.now) }
+    requires { bags_draw to bags.now ≤ length drawn.now }
+    ensures left { IfOk result (λ left. length drawn.now ≡ bags_draw to bags.now + length left.now) }
+    ensures after { IfOk result (λ left. left.now ≡ drop (bags_draw to bags.now) drawn.now) }
     ensures parts { OnOk result (seen_parts parts.new ≡ seen_parts parts.old
-        ++ rounds_and_salts (key_algorithms bags.now) drawn.now) }
+        ++ rounds_and_salts (key_algorithms to bags.now) drawn.now) }
     ensures err { IfErr result (λ e. e ≡ refusal.Memory) }
 {
     let mut left = drawn;
     let mut rest = bags;
     while let Some((bag, back)) = rest.split_first() {
         if let SafeBagKind::Pkcs8ShroudedKeyBag(key) = &bag.bag {
-            left = add_part(&key.encryption_algorithm, left, parts)?;
+            left = add_part(to, &key.encryption_algorithm, left, parts)?;
         }
         rest = back;
     }
@@ -76,13 +79,14 @@ fn add_keys<'a>(
 /// drawn. The only error is `Memory`.
 fn parts_of(
     alloc: Global,
+    to: Kinds,
     contents: &[ContentInfo],
     bags: &[Items<SafeBag>],
     drawn: &[u8],
 ) -> Result<Items<RoundsAndSalt>, TransferError>
-    requires { sum_by content_draws contents.now + sum_by bags_draw bags.now ≤ length drawn.now }
+    requires { sum_by (content_draws to) contents.now + sum_by (bags_draw to) bags.now ≤ length drawn.now }
     ensures parts { IfOk result (λ parts. seen_parts parts
-        ≡ rounds_and_salts (part_algorithms contents.now bags.now) drawn.now) }
+        ≡ rounds_and_salts (part_algorithms to contents.now bags.now) drawn.now) }
     ensures err { IfErr result (λ e. e ≡ refusal.Memory) }
 {
     let mut parts = Items::new(alloc);
@@ -95,9 +99,9 @@ fn parts_of(
         };
         if let ContentInfo::EncryptedData(data) = content {
             let algorithm = &data.encrypted_content_info.content_encryption_algorithm;
-            left = add_part(algorithm, left, &mut parts)?;
+            left = add_part(to, algorithm, left, &mut parts)?;
         }
-        left = add_keys(held.as_slice(), left, &mut parts)?;
+        left = add_keys(to, held.as_slice(), left, &mut parts)?;
         rest = back;
         rest_bags = held_after;
     }
@@ -178,21 +182,22 @@ fn derive_run<'a>(
 /// are derived four at once. The only error is `Memory`.
 pub(crate) fn derive_for<'a>(
     alloc: Global,
+    to: Kinds,
     contents: &[ContentInfo],
     bags: &[Items<SafeBag>],
     drawn: &[u8],
     new: &'a str,
 ) -> Result<Items<DerivedKeys<'a>>, TransferError>
-    requires { sum_by content_draws contents.now + sum_by bags_draw bags.now ≤ length drawn.now }
+    requires { sum_by (content_draws to) contents.now + sum_by (bags_draw to) bags.now ≤ length drawn.now }
     ensures parts { IfOk result (λ runs. seen_runs runs
-        ≡ rounds_and_salts (part_algorithms contents.now bags.now) drawn.now) }
+        ≡ rounds_and_salts (part_algorithms to contents.now bags.now) drawn.now) }
     ensures password { IfOk result (All (λ run. run.password.now ≡ new.now)) }
     ensures keys { IfOk result (λ runs. keys_in runs
         ≡ map (λ part. sha256_key part.0 new.now part.1)
-        (rounds_and_salts (part_algorithms contents.now bags.now) drawn.now)) }
+        (rounds_and_salts (part_algorithms to contents.now bags.now) drawn.now)) }
     ensures err { IfErr result (λ e. e ≡ refusal.Memory) }
 {
-    let parts = parts_of(alloc, contents, bags, drawn)?;
+    let parts = parts_of(alloc, to, contents, bags, drawn)?;
     let mut derived = Items::new(alloc);
     let mut rest = parts.as_slice();
     while let Some((first, _)) = rest.split_first() {

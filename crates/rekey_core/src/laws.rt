@@ -1,6 +1,7 @@
 //! Laws of changes, each stated by the contract of a function that does nothing.
-ghost use Rattle.rekey_core.specs.Changes.{AllChangesKeep, ChangesAlike, ChangesKeep, NoCauseAfter, SealsWithin};
+ghost use Rattle.rekey_core.specs.Changes.{AllChangesKeep, ChangesAlike, ChangesKeep, ChangesKeepTo, NoCauseAfter, SealsWithin};
 ghost use Rattle.rekey_core.specs.Making.{MadeStoresAreChanges, MadeStoresAreSized};
+ghost use Rattle.rekey_core.specs.Renewed.{ChangesRenew, RenewedWork};
 
 /// A store that is made of contents sealed anew is a change of the first store.
 pub fn made_stores_are_changes()
@@ -16,6 +17,21 @@ pub fn made_stores_are_sized()
 /// of their attributes.
 pub fn changes_keep()
     ensures { ChangesKeep }
+{}
+
+/// And so does a change to other kinds; the work of opening the changed store is bounded by these.
+pub fn changes_keep_to()
+    ensures { ChangesKeepTo }
+{}
+
+/// A store that is upgraded has no part and no MAC of another kind.
+pub fn changes_renew()
+    ensures { ChangesRenew }
+{}
+
+/// Opening an upgraded store takes the count of rounds for its MAC and for each encrypted part.
+pub fn renewed_stores_cost()
+    ensures { RenewedWork }
 {}
 
 /// A part that is sealed anew costs no more steps than it did before.

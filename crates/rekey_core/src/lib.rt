@@ -13,6 +13,7 @@ mod contents;
 mod derived_keys;
 mod drawing;
 mod key_derivation;
+mod kinds;
 pub mod laws;
 mod list;
 mod password_change;
@@ -21,6 +22,7 @@ mod top_call;
 mod words;
 mod work;
 
+pub use kinds::Rounds;
 pub use list::rekey_all;
-pub use password_change::rekey;
+pub use password_change::{rekey, upgrade};
 pub use top_call::rekey_run;

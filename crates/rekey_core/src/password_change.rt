@@ -9,15 +9,16 @@ ghost use Rattle.p12.specs.declared.content_info.ContentInfo.TheVariants as cont
 ghost use Rattle.p12.specs.declared.pfx.PFX.{PFX};
 ghost use Rattle.rekey_core.specs.Anew.{change_draws};
 ghost use Rattle.rekey_core.specs.Making.{HeldOpen, IsMacked, TextSealed};
-ghost use Rattle.rekey_core.specs.Rekeyed.{GrowsTooLong, IsRefused, IsSettled, IsUndrawn, RefusedFor, Rekeys, RunsShort};
+ghost use Rattle.rekey_core.specs.Rekeyed.{GrowsTooLong, GrowsTooLongTo, IsRefused, IsSettled, IsSettledTo, IsUndrawn, RefusedFor, Rekeys, RekeysTo, RunsShort, RunsShortTo};
 ghost use Rattle.rekey_core.specs.Sealing.{LongOnly};
 ghost use Rattle.rekey_core.specs.Size.{changed_size};
 ghost use Rattle.transfer.specs.Limits.{store_limit};
 
 use crate::change::store_text;
 use crate::contents::seal_contents;
-use crate::drawing::{MAC_SALT, draw_for};
+use crate::drawing::{draw_for, mac_salt};
 use crate::key_derivation::derive_for;
+use crate::kinds::{Kinds, Rounds};
 use crate::supply::Supply;
 use asn1_core::Octets;
 use mac_modes::Draw;
@@ -61,6 +62,7 @@ fn outer_of<'a>(store: &'a [u8]) -> Outer<'a>
 /// `Memory`.
 fn sealed_text(
     alloc: Global,
+    to: Kinds,
     outer: &Outer<'_>,
     contents: &[ContentInfo],
     opened: &Opened,
@@ -69,22 +71,22 @@ fn sealed_text(
 ) -> Result<Octets, TransferError>
     requires lists { (v : List ℕ) × IsContents v contents.now }
     requires open { (p : List ℕ) × HeldOpen p contents.now opened.now.contents opened.now.keys }
-    requires drawn { length drawn.now ≡ change_draws contents.now opened.now.contents }
+    requires drawn { length drawn.now ≡ change_draws to contents.now opened.now.contents }
     requires known { is_mac_digest (seen_mac outer.now.mac).mac.digest_algorithm ≡ true }
     requires rounds { 1 ≤ outer.now.mac.iterations }
     requires password { length new.now < 2 ^ 57 }
     ensures sealed { IfOk result (λ b. (p : List ℕ)
         → HeldOpen p contents.now opened.now.contents opened.now.keys
-        → TextSealed p new.now outer.now.version
+        → TextSealed to p new.now outer.now.version
         (seen_mac outer.now.mac) contents.now drawn.now b) }
     ensures err { IfErr result (LongOnly ((p : List ℕ)
         → HeldOpen p contents.now opened.now.contents opened.now.keys
-        → store_limit < changed_size outer.now.version
+        → store_limit < changed_size to outer.now.version
         (seen_mac outer.now.mac) p contents.now opened.now.contents)) }
 {
     let keys = opened.keys.as_slice();
     let bags = opened.contents.as_slice();
-    let derived = derive_for(alloc, contents, bags, drawn, new)?;
+    let derived = derive_for(alloc, to, contents, bags, drawn, new)?;
     let mut supply = Supply {
         keys,
         drawn,
@@ -92,15 +94,77 @@ fn sealed_text(
         run: 0,
         place: 0,
     };
-    let contents = seal_contents(alloc, contents, bags, &mut supply, new)?;
-    let salt = supply.next_drawn(MAC_SALT);
+    let contents = seal_contents(alloc, to, contents, bags, &mut supply, new)?;
+    let salt = supply.next_drawn(mac_salt(to));
     // The proofs name both outcomes of this call.
     match store_text(
         alloc,
+        to,
         outer.version,
         &outer.mac,
         contents.as_slice(),
         salt,
+        new,
+    ) {
+        Ok(text) => Ok(text),
+        Err(e) => Err(e),
+    }
+}
+
+/// Changes the password of a store, and seals its parts anew as these kinds. The rest is said at `rekey` and `upgrade`.
+fn change_to<D: Draw, L: Ledger>(
+    alloc: Global,
+    to: Kinds,
+    store: &[u8],
+    old: &str,
+    new: &str,
+    draw: &mut D,
+    limit: u64,
+    steps: &mut Steps<L>,
+) -> Result<Octets, TransferError>
+    requires old { length old.now < 2 ^ 57 }
+    requires new { length new.now < 2 ^ 57 }
+    ensures changed { IfOk result (RekeysTo to store.now old.now new.now limit (D.left draw.old)
+        (D.left draw.new) steps.old steps.new) }
+    ensures refused { IfErr result
+        (RefusedFor (IsRefused store.now old.now limit steps.old steps.new)
+        (RunsShortTo to store.now old.now limit (D.left draw.old) (D.faults draw.old)
+        (D.faults draw.new) steps.old steps.new)
+        (GrowsTooLongTo to store.now old.now limit (D.left draw.old)
+        (D.left draw.new) steps.old steps.new)) }
+    ensures exact { IsSettledTo to store.now old.now limit (D.left draw.old) result }
+    ensures undrawn { IfErr result (λ e. IsUndrawn e → draw.new ≡ draw.old) }
+    ensures count { D.faults draw.old ≤ D.faults draw.new }
+    ensures no_fault { OnOk result (D.faults draw.new ≡ D.faults draw.old) }
+    ensures last { D.faults draw.old < D.faults draw.new → IsErrOf result TransferError.Rng }
+    ensures at_most { (steps.old ≤ steps.new) × (steps.new ≤ steps.old + limit) }
+{
+    // The proofs name both outcomes of the calls here.
+    let opened = match open_store(alloc, store, old, limit, steps) {
+        Ok(opened) => opened,
+        Err(e) => return Err(e),
+    };
+    let outer = outer_of(store);
+    let Ok(contents) = ContentInfo::parse_all(alloc, outer.text) else {
+        return Err(TransferError::Memory);
+    };
+    let drawn = match draw_for(
+        alloc,
+        to,
+        contents.as_slice(),
+        opened.contents.as_slice(),
+        draw,
+    ) {
+        Ok(drawn) => drawn,
+        Err(e) => return Err(e),
+    };
+    match sealed_text(
+        alloc,
+        to,
+        &outer,
+        contents.as_slice(),
+        &opened,
+        drawn.as_slice(),
         new,
     ) {
         Ok(text) => Ok(text),
@@ -153,28 +217,46 @@ pub fn rekey<D: Draw, L: Ledger>(
     ensures last { D.faults draw.old < D.faults draw.new → IsErrOf result TransferError.Rng }
     ensures at_most { (steps.old ≤ steps.new) × (steps.new ≤ steps.old + limit) }
 {
-    // The proofs name both outcomes of the calls here.
-    let opened = match open_store(alloc, store, old, limit, steps) {
-        Ok(opened) => opened,
-        Err(e) => return Err(e),
-    };
-    let outer = outer_of(store);
-    let Ok(contents) = ContentInfo::parse_all(alloc, outer.text) else {
-        return Err(TransferError::Memory);
-    };
-    let drawn = match draw_for(alloc, contents.as_slice(), opened.contents.as_slice(), draw) {
-        Ok(drawn) => drawn,
-        Err(e) => return Err(e),
-    };
-    match sealed_text(
-        alloc,
-        &outer,
-        contents.as_slice(),
-        &opened,
-        drawn.as_slice(),
-        new,
-    ) {
-        Ok(text) => Ok(text),
-        Err(e) => Err(e),
-    }
+    change_to(alloc, Kinds::Kept, store, old, new, draw, limit, steps)
+}
+
+/// As `rekey`, and seals each part under PBES2 with PBKDF2 over HMAC-SHA-256 and AES-256-CBC, whatever it was under, and
+/// makes the MAC with HMAC-SHA-256, all in so many rounds.
+///
+/// `draw` gives 32 octets for each part (the IV, then the salt) and 16 for the MAC, in the order that `rekey` says. A
+/// content that is not encrypted stays so.
+///
+/// Sealing takes as many rounds of HMAC-SHA-256 for each part as are asked for, and as many of SHA-256 for the MAC, and
+/// is not counted.
+///
+/// Caller: both passwords have fewer than 2^57 octets.
+pub fn upgrade<D: Draw, L: Ledger>(
+    alloc: Global,
+    store: &[u8],
+    old: &str,
+    new: &str,
+    rounds: Rounds,
+    draw: &mut D,
+    limit: u64,
+    steps: &mut Steps<L>,
+) -> Result<Octets, TransferError>
+    requires old { length old.now < 2 ^ 57 }
+    requires new { length new.now < 2 ^ 57 }
+    ensures changed { IfOk result (RekeysTo (Kinds.Renewed rounds) store.now old.now new.now limit
+        (D.left draw.old) (D.left draw.new) steps.old steps.new) }
+    ensures refused { IfErr result
+        (RefusedFor (IsRefused store.now old.now limit steps.old steps.new)
+        (RunsShortTo (Kinds.Renewed rounds) store.now old.now limit (D.left draw.old)
+        (D.faults draw.old) (D.faults draw.new) steps.old steps.new)
+        (GrowsTooLongTo (Kinds.Renewed rounds) store.now old.now limit (D.left draw.old)
+        (D.left draw.new) steps.old steps.new)) }
+    ensures exact { IsSettledTo (Kinds.Renewed rounds) store.now old.now limit (D.left draw.old) result }
+    ensures undrawn { IfErr result (λ e. IsUndrawn e → draw.new ≡ draw.old) }
+    ensures count { D.faults draw.old ≤ D.faults draw.new }
+    ensures no_fault { OnOk result (D.faults draw.new ≡ D.faults draw.old) }
+    ensures last { D.faults draw.old < D.faults draw.new → IsErrOf result TransferError.Rng }
+    ensures at_most { (steps.old ≤ steps.new) × (steps.new ≤ steps.old + limit) }
+{
+    let to = Kinds::Renewed(rounds);
+    change_to(alloc, to, store, old, new, draw, limit, steps)
 }
