@@ -101,7 +101,11 @@ size_t pkcs12_room(size_t store_len);
  * Nothing is written to the output but on PKCS12_DONE. *needed is at most pkcs12_room(store_len), so an output of so many
  * octets is always enough: PKCS12_ROOM is then never returned. With less room, call again after PKCS12_ROOM with *needed
  * octets: a call with the same arguments gives the same text. As many random octets as the store has are always enough
- * too: PKCS12_RANDOM_SHORT is then never returned. */
+ * too: PKCS12_RANDOM_SHORT is then never returned.
+ *
+ * `limit` bounds opening alone. Sealing takes `rounds` for each private key, and a store of 16 MB may have 60,000 of them: for
+ * a store of others give random octets for as many keys as you mean to seal, and PKCS12_RANDOM_SHORT is returned for more,
+ * before a key is derived. */
 uint32_t pkcs12_transfer_pem(
     const uint8_t *store, size_t store_len,
     const uint8_t *password, size_t password_len,
@@ -134,7 +138,8 @@ uint32_t pkcs12_open_pem(
  * Issuers are found by their names alone; no signature is tested. No name is written, and neither are friendly names, which
  * may be any octets that the store's maker chose: each line is ASCII text and ends with a line feed. A store with neither
  * certificates nor encrypted keys has a table of no octets. A chain may have all certificates of the store, so pkcs12_room
- * says nothing of a table. The rest is as for pkcs12_open_pem. */
+ * says nothing of a table, and the table is made in memory before its length is known: one of a store of 1 MB that others
+ * made may have 100 MB. The rest is as for pkcs12_open_pem. */
 uint32_t pkcs12_list(
     const uint8_t *store, size_t store_len,
     const uint8_t *password, size_t password_len,
@@ -171,6 +176,20 @@ uint32_t pkcs12_rekey(
 #define PKCS12_ROUNDS_DEFAULT 600000
 #define PKCS12_LIMIT_DEFAULT 100000000
 
+/* The most parts, private keys and encrypted contents, that these calls seal, since each takes some time; define another number
+ * before this header is included. PKCS12_RANDOM_SHORT is returned of a store with more. */
+#ifndef PKCS12_PARTS_MAX
+#define PKCS12_PARTS_MAX 1000
+#endif
+
+/* How many random octets a store of so many is given: as many as it has are always enough, and no more than for
+ * PKCS12_PARTS_MAX parts and the MAC. */
+static inline size_t pkcs12_random_len(size_t store_len)
+{
+    const size_t most = 32 * (size_t)PKCS12_PARTS_MAX + 16;
+    return store_len < most ? store_len : most;
+}
+
 static inline int pkcs12_random(uint8_t *at, size_t len)
 {
     while (len > 0) {
@@ -204,7 +223,7 @@ static inline uint32_t pkcs12_transfer_pem_new(
     const uint8_t *new_password, size_t new_password_len,
     uint32_t rounds, uint64_t limit, char **text, size_t *len)
 {
-    const size_t room = pkcs12_room(store_len);
+    const size_t room = pkcs12_room(store_len), random_len = pkcs12_random_len(store_len);
     size_t needed = 0;
     uint8_t *random, *output, *octets = NULL;
     uint32_t number;
@@ -212,16 +231,16 @@ static inline uint32_t pkcs12_transfer_pem_new(
     *len = 0;
     if (store_len > PKCS12_STORE_MAX)
         return PKCS12_TOO_LONG;
-    /* as many random octets as the store has, and one, so that there is something to allocate */
-    random = (uint8_t *)malloc(store_len + 1);
+    /* one more, so that there is something to allocate */
+    random = (uint8_t *)malloc(random_len + 1);
     output = (uint8_t *)malloc(room + 1);
     if (!random || !output)
         number = PKCS12_MEMORY;
-    else if (!pkcs12_random(random, store_len))
+    else if (!pkcs12_random(random, random_len))
         number = PKCS12_RANDOM_SHORT;
     else
         number = pkcs12_transfer_pem(store, store_len, password, password_len, new_password, new_password_len, rounds, limit,
-            random, store_len, output, room, &needed);
+            random, random_len, output, room, &needed);
     free(random);
     number = pkcs12_handed_on(number, output, needed, &octets, len);
     *text = (char *)octets;
@@ -286,20 +305,21 @@ static inline uint32_t pkcs12_rekey_new(
 {
     /* parts may become longer than they were: where the changed store does not fit, the call is made again */
     size_t room = 2 * store_len + 4096, needed = 0;
+    const size_t random_len = pkcs12_random_len(store_len);
     uint32_t number;
     *changed = NULL;
     *len = 0;
     if (store_len > PKCS12_STORE_MAX)
         return PKCS12_TOO_LONG;
     do {
-        uint8_t *random = (uint8_t *)malloc(store_len + 1), *output = (uint8_t *)malloc(room + 1);
+        uint8_t *random = (uint8_t *)malloc(random_len + 1), *output = (uint8_t *)malloc(room + 1);
         if (!random || !output)
             number = PKCS12_MEMORY;
-        else if (!pkcs12_random(random, store_len))
+        else if (!pkcs12_random(random, random_len))
             number = PKCS12_RANDOM_SHORT;
         else
             number = pkcs12_rekey(store, store_len, password, password_len, new_password, new_password_len, limit, random,
-                store_len, output, room, &needed);
+                random_len, output, room, &needed);
         free(random);
         number = pkcs12_handed_on(number, output, needed, changed, len);
         room = needed;

@@ -1,5 +1,5 @@
 -- How long what opens is, beside what it is opened from.
-use Rattle.std.proofs.Common.{◌≡◌, ℕ, ◌+◌, ◌<◌, ◌≤◌, Bool, true, false, List, [], ◌∷◌, ◌++◌, length, Option, Some, None, refl, ap, arith, length-append}
+use Rattle.std.proofs.Common.{◌≡◌, ℕ, ◌+◌, ◌<◌, ◌≤◌, Bool, true, false, List, [], ◌∷◌, ◌++◌, length, Option, Some, None, refl, sym, ap, ◌∙◌, arith, length-append}
 use Rattle.std.specs.Prelude.{if◌then◌else◌}
 use Rattle.asn1_core.specs.Der.{el, oid, octets, shortest, uint}
 use Rattle.asn1_core.specs.DigitLaws.{shortest_one}
@@ -18,6 +18,7 @@ use Rattle.p12.specs.declared.algorithm_identifier.AlgorithmIdentifier.TheVarian
 use Rattle.p12.specs.declared.encrypted_private_key_info.EncryptedPrivateKeyInfo.{EncryptedPrivateKeyInfo}
 use Rattle.p12.specs.declared.pkcs12_pbe_params.Pkcs12PbeParams.{Pkcs12PbeParams}
 use Rattle.p12.specs.AlgorithmIdentifier.{ciphertext_length, unlock, unlock_pbe, unlock_pbes2}
+use Rattle.p12.proofs.Pbes2.{unlock_pbes2-is}
 use Rattle.spki.specs.Spelling.{algorithm_text, parameters_text}
 use Rattle.transfer.specs.Opening.{KeyOpens}
 use Rattle.pkcs12_c.proofs.BagLengths.{algorithm_room, key_room}
@@ -42,8 +43,7 @@ if_some true r m e = e
 if_some false r m e = absurd cc
 
 pbes2_longer : (par : Parameters) (p c m : List ℕ) → unlock_pbes2 par p c ≡ Some m → length m + 1 ≤ length c
-unfolding unlock_pbes2
-pbes2_longer par p c m e = omega (arith, length_opens par p c m (opened_is par p c m (if_some _ _ m e)), longer par.encryption (length m))
+pbes2_longer par p c m e = omega (arith, length_opens par p c m (opened_is par p c m (if_some _ _ m (sym (unlock_pbes2-is par p c) ∙ e))), longer par.encryption (length m))
 
 -- A text is shorter than what is opened to it, and its algorithm has its octets.
 pub opened_shorter : TripleDesLengths → (a : AlgorithmIdentifier) (p c m : List ℕ) → unlock a p c ≡ Some m → (length m + 1 ≤ length c) × (algorithm_room a ≡ 20)

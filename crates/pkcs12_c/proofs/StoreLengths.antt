@@ -19,6 +19,7 @@ use Rattle.p12.specs.Pfx.{IsStore}
 use Rattle.p12.specs.declared.encrypted_data.EncryptedData.{EncryptedData}
 use Rattle.p12.proofs.Fits.{Fits, inside_fits, value_fits}
 use Rattle.rekey_core.specs.Anew.{change_draws, content_draws, drawn_for, key_draws}
+use Rattle.rekey_core.specs.declared.kinds.Kinds.TheVariants.{Kept}
 use Rattle.transfer.specs.Opening.{all_certificates, all_shrouded, shrouded_among}
 use Rattle.transfer.specs.Verdicts.{StoreOpens}
 use Rattle.pkcs12_c.proofs.BagLengths.{algorithm_least, algorithm_room, bags_least, certificate_room, certificates_room, key_room, keys_room}
@@ -76,14 +77,14 @@ encrypted_least b d r =
       inner,
     )
 
-case_holds : (k : ObjectIdentifier) (q : List ℕ) (c : ContentInfo) → ContentCase k q c → content_draws c + length (held c) ≤ length q
+case_holds : (k : ObjectIdentifier) (q : List ℕ) (c : ContentInfo) → ContentCase k q c → content_draws Kept c + length (held c) ≤ length q
 case_holds k q (content.Data v) r = let w = r.1 in omega (arith, inside_fits 0x04 w.0 v w.1, value_fits 0xa0 w.0 q w.2)
 case_holds k q (content.EncryptedData d) r =
     let w = r.1 in
     omega (arith, encrypted_least w.0 d w.1, drawn_within d.encrypted_content_info.content_encryption_algorithm, ap length w.2, el_least 0xa0 w.0)
 case_holds k q (content.OtherContext o) r = let w = r.3 in omega (arith, ap length w.2, el_least 0xa0 w.0, ap length w.1.0)
 
-content_holds : (b : List ℕ) (c : ContentInfo) → ContentText b c → 4 + content_draws c + length (held c) ≤ length b
+content_holds : (b : List ℕ) (c : ContentInfo) → ContentText b c → 4 + content_draws Kept c + length (held c) ≤ length b
 content_holds b c r =
     let on = r.1 in
     omega (arith, ap length r.2, el_least 0x30 r.0, ap length on.5, length-append on.0 on.1, ap length on.3.2, el_least 0x06 on.3.0, case_holds on.2 on.1 c on.4)
@@ -97,14 +98,14 @@ plain_fits triple p m (content.EncryptedData d) e = omega (arith, (opened_shorte
 plain_fits triple p m (content.OtherContext o) e = absurd cc
 
 many_contents_least : TripleDesLengths → (p b : List ℕ) (cs : List ContentInfo) (gss : List (List SafeBag)) → Many ContentText b cs → Each (HoldsBags p) cs gss
-    → sum_by content_draws cs + keys_room (all_shrouded gss) + certificates_room (all_certificates gss) ≤ length b
+    → sum_by (content_draws Kept) cs + keys_room (all_shrouded gss) + certificates_room (all_certificates gss) ≤ length b
 many_contents_least triple p b [] [] r each = omega arith
 many_contents_least triple p b [] (gs ∷ gss) r each = absurd each
 many_contents_least triple p b (c ∷ cs) [] r each = absurd each
 many_contents_least triple p b (c ∷ cs) (gs ∷ gss) (t, q, one, more, e) ((m, plain, bags), each) =
     omega (
       arith,
-      sum_by-cons content_draws c cs,
+      sum_by-cons (content_draws Kept) c cs,
       ap length e,
       length-append t q,
       content_holds t c one,
@@ -116,7 +117,7 @@ many_contents_least triple p b (c ∷ cs) (gs ∷ gss) (t, q, one, more, e) ((m,
     )
 
 contents_least : TripleDesLengths → (p b : List ℕ) (cs : List ContentInfo) (gss : List (List SafeBag)) → IsContents b cs → Each (HoldsBags p) cs gss
-    → sum_by content_draws cs + keys_room (all_shrouded gss) + certificates_room (all_certificates gss) ≤ length b
+    → sum_by (content_draws Kept) cs + keys_room (all_shrouded gss) + certificates_room (all_certificates gss) ≤ length b
 unfolding IsContents
 contents_least triple p b cs gss r each = let w = r.0 in omega (arith, ap length w.2, el_least 0x30 w.0, many_contents_least triple p w.0 cs gss w.1 each)
 
@@ -146,17 +147,17 @@ text_least b v s p is =
 
 -- What a store opens to, and what is drawn for its contents when it is changed, is in its octets.
 pub store_takes : TripleDesLengths → (b p : List ℕ) (gss : List (List SafeBag)) (ks : List (List ℕ)) (n : ℕ) (o : StoreOpens b p gss ks n)
-    → 8 + sum_by content_draws o.parts + keys_room (all_shrouded gss) + certificates_room (all_certificates gss) ≤ length b
+    → 8 + sum_by (content_draws Kept) o.parts + keys_room (all_shrouded gss) + certificates_room (all_certificates gss) ≤ length b
 store_takes triple b p gss ks n o =
     omega (arith, contents_least triple p o.text o.parts gss o.opening.contents o.opening.bags, text_least b o.text o.store o.is o.is_data)
 
 -- ---- what is drawn for a change
 
-keys_drawn : (ks : List EncryptedPrivateKeyInfo) → sum_by key_draws ks ≤ keys_room ks
+keys_drawn : (ks : List EncryptedPrivateKeyInfo) → sum_by (key_draws Kept) ks ≤ keys_room ks
 keys_drawn [] = omega arith
-keys_drawn (k ∷ ks) = omega (arith, sum_by-cons key_draws k ks, sum_by-cons key_room k ks, drawn_within k.encryption_algorithm, keys_drawn ks)
+keys_drawn (k ∷ ks) = omega (arith, sum_by-cons (key_draws Kept) k ks, sum_by-cons key_room k ks, drawn_within k.encryption_algorithm, keys_drawn ks)
 
 -- A store has as many octets as its change draws.
-pub change_takes : TripleDesLengths → (b p : List ℕ) (gss : List (List SafeBag)) (ks : List (List ℕ)) (n : ℕ) (o : StoreOpens b p gss ks n) → change_draws o.parts gss ≤ length b
+pub change_takes : TripleDesLengths → (b p : List ℕ) (gss : List (List SafeBag)) (ks : List (List ℕ)) (n : ℕ) (o : StoreOpens b p gss ks n) → change_draws Kept o.parts gss ≤ length b
 change_takes triple b p gss ks n o =
     omega (arith, keys_drawn (all_shrouded gss), store_takes triple b p gss ks n o)

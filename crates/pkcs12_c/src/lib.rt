@@ -13,5 +13,3 @@ mod opening;
 mod password;
 mod pem;
 mod refusal;
-#[cfg(test)]
-mod tests;

@@ -33,7 +33,12 @@ func at(octets []byte) *C.uint8_t {
 
 // TransferPEM returns the PEM text of a store, its keys sealed under the new password.
 func TransferPEM(store, password, newPassword []byte, rounds uint32, limit uint64) ([]byte, error) {
-	random := make([]byte, len(store)) // always enough
+	// As many as the store has are always enough; and no more than for 1,000 private keys, since each takes some time to seal.
+	size := len(store)
+	if size > 32*1000 {
+		size = 32 * 1000
+	}
+	random := make([]byte, size)
 	if _, err := rand.Read(random); err != nil {
 		return nil, err
 	}

@@ -11,8 +11,11 @@ import ctypes
 import os
 import sys
 
+__all__ = ["Refused", "transfer_pem", "open_pem", "rekey"]  # and `list`, which would hide Python's own
+
 DONE, ROOM = 0, 100
 STORE_MAX = 16_777_215
+PARTS_MAX = 1000  # the most private keys and encrypted contents that are sealed, since each takes some time
 
 # What the numbers of pkcs12.h mean.
 MEANINGS = {
@@ -43,7 +46,7 @@ class Refused(Exception):
 
 
 def _load():
-    library = ctypes.CDLL(os.environ.get("LIBPKCS12", "libpkcs12.so.1"))
+    library = ctypes.CDLL(os.environ.get("LIBPKCS12") or "libpkcs12.so.1")
     octets, size = ctypes.c_char_p, ctypes.c_size_t
     output = [ctypes.POINTER(ctypes.c_char), size, ctypes.POINTER(size)]
     library.pkcs12_version.restype = ctypes.c_uint32
@@ -78,6 +81,12 @@ def _number(name, value, most):
     return value
 
 
+def _random(store):
+    """As many octets as the store has are always enough; and no more than for PARTS_MAX parts and the MAC: of a store with more parts
+    20 is returned."""
+    return os.urandom(min(len(store), 32 * PARTS_MAX + 16))
+
+
 def _output(call, store, *arguments):
     """Calls with as much room as the output takes: for the PEM text of a store that is always enough, and for a table of long chains
     or a changed store it is tried first."""
@@ -96,7 +105,7 @@ def _output(call, store, *arguments):
 def transfer_pem(store, password, new_password, rounds=600_000, limit=100_000_000):
     """The PEM text of the octets `store`: certificates, then keys sealed under `new_password`."""
     store, password, new_password = _octets("store", store), _octets("password", password), _octets("new_password", new_password)
-    random = os.urandom(len(store))  # always enough
+    random = _random(store)
     return _output(
         _library.pkcs12_transfer_pem, store, password, len(password), new_password, len(new_password),
         _number("rounds", rounds, 2**32 - 1), _number("limit", limit, 2**64 - 1), random, len(random),
@@ -118,7 +127,7 @@ def list(store, password, limit=100_000_000):
 def rekey(store, password, new_password, limit=100_000_000):
     """The octets of the store under another password, with all that is in it."""
     store, password, new_password = _octets("store", store), _octets("password", password), _octets("new_password", new_password)
-    random = os.urandom(len(store))  # always enough
+    random = _random(store)
     return _output(
         _library.pkcs12_rekey, store, password, len(password), new_password, len(new_password),
         _number("limit", limit, 2**64 - 1), random, len(random),
@@ -141,6 +150,9 @@ def main():
     except OSError as fault:
         print(fault, file=sys.stderr)
         sys.exit(3)
+    if sys.stdout is None:
+        print("there is no standard output", file=sys.stderr)
+        sys.exit(4)
     try:
         sys.stdout.write(transfer_pem(store, *passwords))
         sys.stdout.flush()

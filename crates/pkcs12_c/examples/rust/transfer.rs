@@ -108,7 +108,8 @@ fn first_line(path: &str) -> std::io::Result<Vec<u8>> {
 
 fn run(words: &[String]) -> std::io::Result<Result<Vec<u8>, pkcs12::Refused>> {
     let store = contents(&words[0])?;
-    let mut random = vec![0; store.len()];
+    // As many as the store has are always enough; and no more than for 1,000 private keys, since each takes some time to seal.
+    let mut random = vec![0; store.len().min(32 * 1000)];
     std::fs::File::open("/dev/urandom")?.read_exact(&mut random)?;
     let (password, new_password) = (first_line(&words[1])?, first_line(&words[2])?);
     Ok(pkcs12::transfer_pem(&store, &password, &new_password, 600_000, 100_000_000, &random))
