@@ -1,1 +1,2 @@
+pub mod Danger
 pub mod Origin

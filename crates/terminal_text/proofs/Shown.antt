@@ -10,16 +10,19 @@ use Rattle.std.specs.Str.{IsAscii, chars, encode_utf8_all}
 use Rattle.std.proofs.Common.{append-nil, take, length}
 use Rattle.ucd_category.proofs.GeneralCategoryLemmas.{general_category_stepped}
 use Rattle.ucd_category.specs.GeneralCategory.{general_category}
+use Rattle.ucd_derived.proofs.BinaryLemmas.{is_default_ignorable_code_point_stepped}
+use Rattle.ucd_derived.specs.Binary.{is_default_ignorable_code_point}
 use Rattle.ucd_table.proofs.Computing.{tables}
 use Rattle.ucd_table.proofs.Facts.{Stepped-below}
-use Rattle.ucd_table.proofs.Stepped.{Stepped, map_stepped}
+use Rattle.ucd_table.proofs.Stepped.{Stepped, zip_stepped}
 use Rattle.terminal_text.specs.Printable.{IsShown, PrintedIsShown, is_printable, is_shown, printed_char, printed_count, printed_front, quoted}
 
 -- ---- Characters of ASCII
 
 unfoldable is_printable_stepped : Stepped is_printable
-unfolding is_shown general_category_stepped
-is_printable_stepped = map_stepped is_shown general_category general_category_stepped
+unfolding is_shown general_category_stepped is_default_ignorable_code_point_stepped
+is_printable_stepped = zip_stepped (λ category left_out. is_shown category && not left_out) general_category is_default_ignorable_code_point
+    general_category_stepped is_default_ignorable_code_point_stepped
 
 -- from the space to the tilde
 abbrev pub is_plain : ℕ → Bool

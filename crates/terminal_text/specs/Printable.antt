@@ -7,6 +7,7 @@ use Rattle.std.specs.Str.{chars, encode_utf8_all}
 use Rattle.ucd_category.specs.GeneralCategory.{general_category}
 use Rattle.ucd_category.specs.declared.GeneralCategory.{GeneralCategory}
 use Rattle.ucd_category.specs.declared.GeneralCategory.TheVariants.{Control, Format, LineSeparator, ParagraphSeparator, Surrogate}
+use Rattle.ucd_derived.specs.Binary.{is_default_ignorable_code_point}
 
 -- characters of this category are shown
 unfoldable pub is_shown : GeneralCategory → Bool
@@ -17,9 +18,10 @@ is_shown ParagraphSeparator = false
 is_shown Surrogate = false
 is_shown category = true
 
--- a terminal shows the character of this code point, and does nothing else with it
+-- a terminal shows the character of this code point, and does nothing else with it: its category is
+-- one that is shown, and a font does not leave it out, as it does a filler
 abbrev pub is_printable : ℕ → Bool
-is_printable c = is_shown (general_category c)
+is_printable c = is_shown (general_category c) && not (is_default_ignorable_code_point c)
 
 -- the character is printed as it is; between quotation marks, these (34) and backslashes (92) are
 -- not

@@ -8,8 +8,6 @@ mod json_string;
 mod laws;
 mod printable;
 mod shell_word;
-#[cfg(test)]
-mod tests;
 
 pub use arguments::{is_password_given, without_values};
 pub use hexadecimal::Hexadecimal;

@@ -1,28 +1,37 @@
 //! Text from outside, as it is printed.
 ghost use Rattle.std.specs.Fmt.{WritesOnOk};
 ghost use Rattle.std.specs.Prelude.{◌≡◌, Some};
-ghost use Rattle.terminal_text.specs.Printable.{is_printable, printed, printed_char, printed_count, printed_front, quoted, stays};
+ghost use Rattle.terminal_text.specs.Printable.{is_printable, is_shown, printed, printed_char, printed_count, printed_front, quoted, stays};
 
 use std::fmt;
 use ucd_category::GeneralCategory;
+use ucd_derived::is_default_ignorable_code_point;
 
 /// The most characters that are printed of a text.
 pub(crate) const MOST: usize = 200;
 
-/// Whether a terminal shows the character and does nothing else: it is no control or format character, no separator of lines
-/// or paragraphs and no surrogate (the Unicode categories Cc, Cf, Zl, Zp and Cs).
+/// Whether characters of this category are shown.
 #[tactic(auto, unfolding(crate::specs::Printable::is_shown))]
-pub fn is_printable(c: char) -> bool
-    ensures { result ≡ is_printable c }
+fn is_shown(category: GeneralCategory) -> bool
+    ensures { result ≡ is_shown category }
 {
     !matches!(
-        GeneralCategory::for_char(c),
+        category,
         GeneralCategory::Control
             | GeneralCategory::Format
             | GeneralCategory::LineSeparator
             | GeneralCategory::ParagraphSeparator
             | GeneralCategory::Surrogate
     )
+}
+
+/// Whether a terminal shows the character and does nothing else: it is no control or format character, no separator of lines
+/// or paragraphs and no surrogate (the Unicode categories Cc, Cf, Zl, Zp and Cs), and none that a font leaves out, such as the
+/// Hangul fillers and the variation selectors (the Unicode property Default_Ignorable_Code_Point).
+pub fn is_printable(c: char) -> bool
+    ensures { result ≡ is_printable c }
+{
+    is_shown(GeneralCategory::for_char(c)) && !is_default_ignorable_code_point(c)
 }
 
 /// Whether a character is printed as it is. Between quotation marks, these and backslashes are not.
