@@ -11,14 +11,20 @@ at a terminal. Of a file, its first line is the password, without LF or CR LF; /
 
 /// What is under the whole help.
 const AFTER: &str = "\
-A file has a line NAME:HASH for each name, HASH being a PHC string of PBKDF2. It is written anew beside its place and
-then renamed: it is never half written. A new file is for its owner alone (mode 0600); one that is there keeps owner
-and group, and of its mode what is within 0640: others cannot read it afterwards. While it is changed FILE.lock is
-there, so that of two runs at the same time both changes are kept.
+A file has a line NAME:HASH for each name, HASH being a PHC string of PBKDF2, and at most 67,108,864 octets. It is
+written anew beside its place and then renamed: it is never half written. A new file is for its owner alone (mode
+0600); one that is there keeps owner and group, and its mode from 0600 to 0640: others cannot read it afterwards. An
+access control list is not kept; then the mode is 0600. Another hard link to the file keeps what the file was. While
+it is changed FILE.lock is there and locked, so that of two runs at the same time both changes are kept; a run waits
+ten seconds for another. A file is changed only below folders that nobody else can change: those of root and of who
+runs the command, without write permission for others or with the sticky bit.
+
+In a script, a NAME from outside is one word, in quotation marks. Whatever it is, check ends with 0 only where the
+password is that of the name. Help is asked for alone; -- comes before a FILE and a NAME that begin with -.
 
 Examples:
   ./passdb add users ann
-  ./passdb check users ann --password-stdin
+  ./passdb check users \"$NAME\" --password-stdin
   ./passdb change users ann --password-file old --new-password-file new
   ./passdb remove users ann
   ./passdb list users
@@ -28,10 +34,10 @@ The script ./passdb has a subcommand of its own: build.
 Exit numbers:
    0  Done                done; of check, the password is that of the name
    1  BuildFailed         ./passdb could not build the program
-   2  Usage               bad arguments
+   2  Usage               bad arguments, or help that is not asked for alone
    3  ReadFault           the file or a password cannot be read
    4  WriteFault          the file cannot be written; it is as it was
-   5  Locked              another run is changing the file, or was killed while it did
+   5  Locked              another run has been changing the file for ten seconds
    6  Malformed           the file is not a password file
    7  Memory              there was not enough memory
    8  PasswordMissing     no password was given, and there is no terminal to ask at

@@ -3,15 +3,15 @@ ghost use Rattle.std.specs.Prelude.{◌≤◌};
 
 use crate::ending::{Ending, Failure};
 use crate::malformed::{malformed, not_text};
-use command_base::{Attributes, parent};
+use command_base::{Attributes, Identity, name, open_folder, parent};
 use passdb_core::{Db, DbError};
-use std::alloc::{AllocError, Global};
-use std::fs::{OpenFile, OpenOptions};
+use std::alloc::Global;
+use std::fs::{File, OpenFile, OpenOptions};
 use std::io::Write;
 use std::os::unix::fs::OpenOptionsExt;
-use std::rt::Files;
-use std::{fs, io};
-use terminal_text::{Printable, ShellWord, fits_in_command};
+use std::rt::{Env, Files};
+use std::{env, fs, io};
+use terminal_text::Printable;
 
 /// The most octets of a file.
 const MOST_OCTETS: u64 = 67_108_864;
@@ -25,7 +25,7 @@ fn write_fault(alloc: Global, path: &str, error: io::Error) -> Failure {
 }
 
 /// Makes a file that was not there, for its owner alone.
-fn create<R: Files>(rt: &R, path: &str) -> io::Result<R::File> {
+fn create<R: Files<File = File>>(rt: &R, path: &str) -> io::Result<File> {
     OpenOptions::new()
         .write(true)
         .create_new(true)
@@ -33,53 +33,65 @@ fn create<R: Files>(rt: &R, path: &str) -> io::Result<R::File> {
         .open(rt, path)
 }
 
-/// Removes a file. Where that fails, a line on the standard error says so.
-fn remove_or_tell<R: Files + Eprint>(rt: &R, path: &str) {
-    match fs::remove_file(rt, path) {
-        Ok(()) => {}
-        Err(error) => {
-            // A standard error that cannot be written to is no failure of the work.
-            let shown = Printable(path);
-            match eprintln!(rt; "passdb: {shown} could not be removed: {error}") {
-                Ok(()) | Err(_) => {}
-            }
+/// Removes this file, where it is at the path. Where that fails, a line on the standard error says so.
+fn remove_or_tell<R: Files + Eprint>(rt: &R, this: Identity, path: &str) {
+    let removed = match this.stays_at(rt, path) {
+        Ok(()) => fs::remove_file(rt, path),
+        Err(error) => Err(error),
+    };
+    if let Err(error) = removed {
+        // A standard error that cannot be written to is no failure of the work.
+        let shown = Printable(path);
+        match eprintln!(rt; "passdb: {shown} could not be removed: {error}") {
+            Ok(()) | Err(_) => {}
         }
     }
 }
 
 /// Writes a file that was just made, and waits until it is on the disk.
-fn fill<R: Files>(
-    rt: &R,
-    path: &str,
-    file: R::File,
-    kept: Option<Attributes>,
-    octets: &[u8],
-) -> io::Result<()> {
+fn fill(file: File, kept: Option<Attributes>, octets: &[u8]) -> io::Result<()> {
     let mut file = file;
     if let Some(kept) = kept {
-        kept.give_to_file(rt, path, &file)?;
+        kept.give(&file)?;
     }
     file.write_all(octets)?;
     file.sync_all()
 }
 
-/// The same. After a failure the file is removed.
-fn fill_or_remove<R: Files + Eprint>(
-    rt: &R,
-    path: &str,
-    file: R::File,
-    kept: Option<Attributes>,
-    octets: &[u8],
-) -> io::Result<()> {
-    let filled = fill(rt, path, file, kept, octets);
-    if filled.is_err() {
-        remove_or_tell(rt, path);
-    }
-    filled
+/// The failure of a path whose folder has one that is not UTF-8.
+fn not_utf8(alloc: Global, path: &str) -> Failure {
+    let shown = Printable(path);
+    Failure::told(
+        Ending::ReadFault,
+        format!(in alloc; "the file {shown}: the path of its folder is not UTF-8"),
+    )
 }
 
-/// The path of the file, links followed, so that a link to it stays one. A file that is not there has its path as given;
-/// `ReadFault` where a link is there that leads to nothing, and `Usage` where the path is empty.
+/// The failure of a path that cannot be resolved.
+fn unresolved(alloc: Global, path: &str, error: io::Error) -> Failure {
+    if error.kind() == io::ErrorKind::InvalidFilename && error.raw_os_error().is_none() {
+        return not_utf8(alloc, path);
+    }
+    read_fault(alloc, path, error)
+}
+
+/// The path of a file that is not there, with the links of its folder resolved; the path itself where there is no folder.
+fn new_path<R: Files + AllocGlobal>(rt: &R, path: &str) -> Result<String, Failure> {
+    let alloc = rt.alloc();
+    match fs::canonicalize(rt, parent(path)) {
+        Ok(folder) => {
+            let folder = folder.as_path().as_str();
+            let slash = if folder.ends_with('/') { "" } else { "/" };
+            let name = name(path);
+            Ok(format!(in alloc; "{folder}{slash}{name}")?)
+        }
+        Err(error) if error.kind() == io::ErrorKind::NotFound => Ok(String::from_str(alloc, path)?),
+        Err(error) => Err(unresolved(alloc, path, error)),
+    }
+}
+
+/// The path of the file, links followed, so that a link to it stays one. `ReadFault` where a link is there that leads to nothing,
+/// and `Usage` where the path is empty.
 pub fn real_path<R: Files + AllocGlobal>(rt: &R, path: &str) -> Result<String, Failure> {
     let alloc = rt.alloc();
     if path.is_empty() {
@@ -90,15 +102,30 @@ pub fn real_path<R: Files + AllocGlobal>(rt: &R, path: &str) -> Result<String, F
         Err(error) if error.kind() == io::ErrorKind::NotFound => {
             match fs::symlink_metadata(rt, path) {
                 Ok(_) => Err(read_fault(alloc, path, error)),
-                Err(_) => Ok(String::from_str(alloc, path)?),
+                Err(_) => new_path(rt, path),
             }
         }
-        Err(error) => Err(read_fault(alloc, path, error)),
+        Err(error) => Err(unresolved(alloc, path, error)),
+    }
+}
+
+/// `WriteFault` where a folder on the way to this real path is one in which others can put something else in the place of what is
+/// written.
+pub fn in_safe_place<R: Files + AllocGlobal>(rt: &R, path: &str) -> Result<(), Failure> {
+    let alloc = rt.alloc();
+    match open_folder(rt, parent(path)) {
+        Ok(None) => Ok(()),
+        Ok(Some(open)) => {
+            let text = open.text(alloc)?;
+            let advice = open.advice(alloc)?;
+            Err(Failure::told(Ending::WriteFault, format!(in alloc; "{text}\n{advice}")))
+        }
+        Err(error) => Err(write_fault(alloc, path, error)),
     }
 }
 
 /// The octets of the file; none where it is not there.
-fn octets_of<R: Files + AllocGlobal>(rt: &R, path: &str) -> Result<Option<Vec<u8>>, Failure> {
+pub fn octets_of<R: Files + AllocGlobal>(rt: &R, path: &str) -> Result<Option<Vec<u8>>, Failure> {
     let alloc = rt.alloc();
     let shown = Printable(path);
     match fs::metadata(rt, path) {
@@ -133,18 +160,18 @@ fn parsed(alloc: Global, path: &str, octets: &[u8], rounds: u32) -> Result<Db, F
     }
 }
 
-/// What the file has; where it is not there, nothing if `make` is set, else `ReadFault`.
-pub fn read<R: Files + AllocGlobal>(
-    rt: &R,
+/// What these octets of the file have; where it is not there, nothing if `make` is set, else `ReadFault`.
+pub fn db_of(
+    alloc: Global,
     path: &str,
+    octets: &Option<Vec<u8>>,
     rounds: u32,
     make: bool,
 ) -> Result<Db, Failure>
     requires some { 1000 ≤ rounds }
     requires few { rounds ≤ 10000000 }
 {
-    let alloc = rt.alloc();
-    match octets_of(rt, path)? {
+    match octets {
         Some(octets) => parsed(alloc, path, octets.as_slice(), rounds),
         None if make => parsed(alloc, path, b"", rounds),
         None => {
@@ -157,106 +184,43 @@ pub fn read<R: Files + AllocGlobal>(
     }
 }
 
-/// A file that this process alone may change.
-#[derive(Drop)]
-pub struct Locked {
-    path: String,
-    lock: String,
-    part: String,
+/// The same of the octets that the file has now.
+pub fn read<R: Files + AllocGlobal>(
+    rt: &R,
+    path: &str,
+    rounds: u32,
+    make: bool,
+) -> Result<Db, Failure>
+    requires some { 1000 ≤ rounds }
+    requires few { rounds ≤ 10000000 }
+{
+    let octets = octets_of(rt, path)?;
+    db_of(rt.alloc(), path, &octets, rounds, make)
 }
 
-/// The failure of a lock that was not taken.
-fn not_locked(alloc: Global, path: &str, lock: &str, error: io::Error) -> Failure {
-    if error.kind() == io::ErrorKind::AlreadyExists {
-        let shown = Printable(path);
-        let text = if fits_in_command(lock) {
-            let word = ShellWord(lock);
-            format!(in alloc;
-                "another run is changing {shown}, or was killed while it did; if no run is: rm {word}"
-            )
-        } else {
-            format!(in alloc;
-                "another run is changing {shown}, or was killed while it did; if no run is, remove \
-                 the file of its name with .lock at the end"
-            )
-        };
-        return Failure::told(Ending::Locked, text);
-    }
-    write_fault(alloc, lock, error)
+/// The failure of a text that no later run would read.
+fn too_long(alloc: Global, path: &str) -> Failure {
+    let shown = Printable(path);
+    let text = format!(in alloc;
+        "{shown} would have more than 67,108,864 octets, which is the most that is read of a file; it is as it was"
+    );
+    Failure::told(Ending::WriteFault, text)
 }
 
-impl Locked {
-    /// Takes the lock of the file at this path: the file FILE.lock, with the number of this process.
-    pub fn take<R: Files + Eprint + AllocGlobal>(
-        rt: &R,
-        path: &str,
-        process: u32,
-    ) -> Result<Locked, Failure> {
-        let alloc = rt.alloc();
-        let taken = Locked {
-            path: String::from_str(alloc, path)?,
-            lock: format!(in alloc; "{path}.lock")?,
-            part: format!(in alloc; "{path}.part-{process}")?,
-        };
-        let number = format!(in alloc; "{process}\n")?;
-        let lock = taken.lock.as_str();
-        let file = match create(rt, lock) {
-            Ok(file) => file,
-            Err(error) => return Err(not_locked(alloc, path, lock, error)),
-        };
-        match fill_or_remove(rt, lock, file, None, number.as_bytes()) {
-            Ok(()) => {}
-            Err(error) => return Err(write_fault(alloc, lock, error)),
-        }
-        Ok(taken)
-    }
+/// Where this variable is set, the wrapper has seen an access control list on the file.
+const LISTED: &str = "PASSDB_LISTED";
 
-    /// Gives the lock back.
-    pub fn release<R: Files + Eprint>(&self, rt: &R) {
-        remove_or_tell(rt, self.lock.as_str());
+/// What is kept of the mode, owner and group of a file. With an access control list the group's bits of the mode say what others
+/// may do, and not what the group may: then the file is for its owner alone, and a line on the standard error says so.
+fn kept_of<R: Env + Eprint + AllocGlobal>(rt: &R, path: &str, kept: Attributes) -> Attributes {
+    if env::var(rt, LISTED).is_err() {
+        return kept;
     }
-
-    /// Writes this text beside the file's place, with the mode, owner and group that the file has.
-    fn write_part<R: Files + Eprint + AllocGlobal>(
-        &self,
-        rt: &R,
-        text: &str,
-    ) -> Result<(), Failure> {
-        let alloc = rt.alloc();
-        let part = self.part.as_str();
-        let kept = match fs::metadata(rt, self.path.as_str()) {
-            Ok(there) => Some(Attributes::of_file(&there)),
-            Err(error) if error.kind() == io::ErrorKind::NotFound => None,
-            Err(error) => return Err(write_fault(alloc, self.path.as_str(), error)),
-        };
-        let file = match create(rt, part) {
-            Ok(file) => file,
-            Err(error) => return Err(write_fault(alloc, part, error)),
-        };
-        match fill_or_remove(rt, part, file, kept, text.as_bytes()) {
-            Ok(()) => Ok(()),
-            Err(error) => Err(write_fault(alloc, self.path.as_str(), error)),
-        }
-    }
-
-    /// Puts this text in the place of the file's. After a failure the file is as it was.
-    pub fn write<R: Files + Eprint + AllocGlobal>(
-        &self,
-        rt: &R,
-        text: &str,
-    ) -> Result<(), Failure> {
-        self.write_part(rt, text)?;
-        let path = self.path.as_str();
-        match fs::rename(rt, self.part.as_str(), path) {
-            Ok(()) => {
-                sync_folder(rt, parent(path));
-                Ok(())
-            }
-            Err(error) => {
-                remove_or_tell(rt, self.part.as_str());
-                Err(write_fault(rt.alloc(), path, error))
-            }
-        }
+    let shown = Printable(path);
+    match eprintln!(rt;
+        "passdb: {shown} had an access control list, which is not kept: it is for its owner alone now (mode 0600)"
+    ) {
+        Ok(()) | Err(_) => kept.for_owner_alone(),
     }
 }
 
@@ -267,4 +231,81 @@ fn sync_folder<R: Files>(rt: &R, folder: &str) {
             Ok(()) | Err(_) => {}
         }
     }
+}
+
+/// What is written beside the place of a file, before it gets the name.
+#[derive(Clone, Copy)]
+pub struct Place<'a> {
+    /// The real path of the file.
+    pub path: &'a str,
+    /// The number of the process, which is in the name of what is written beside it.
+    pub process: u32,
+}
+
+impl Place<'_> {
+    /// Writes this text beside the file's place, with the mode, owner and group that the file has.
+    fn write_part<R: Files<File = File> + Env + Eprint + AllocGlobal>(
+        self,
+        rt: &R,
+        part: &str,
+        text: &str,
+    ) -> Result<Identity, Failure> {
+        let alloc = rt.alloc();
+        let kept = match fs::metadata(rt, self.path) {
+            Ok(there) => Some(kept_of(rt, self.path, Attributes::of_file(&there))),
+            Err(error) if error.kind() == io::ErrorKind::NotFound => None,
+            Err(error) => return Err(write_fault(alloc, self.path, error)),
+        };
+        let (file, identity) = match made(rt, part) {
+            Ok(made) => made,
+            Err(error) => return Err(write_fault(alloc, part, error)),
+        };
+        match fill(file, kept, text.as_bytes()) {
+            Ok(()) => Ok(identity),
+            Err(error) => {
+                remove_or_tell(rt, identity, part);
+                Err(write_fault(alloc, self.path, error))
+            }
+        }
+    }
+
+    /// Puts this text in the place of the file's. After a failure the file is as it was. A lock has to be held.
+    pub fn write<R: Files<File = File> + Env + Eprint + AllocGlobal>(
+        self,
+        rt: &R,
+        text: &str,
+    ) -> Result<(), Failure> {
+        let alloc = rt.alloc();
+        if text.len() as u64 > MOST_OCTETS {
+            return Err(too_long(alloc, self.path));
+        }
+        let path = self.path;
+        let process = self.process;
+        let part = format!(in alloc; "{path}.part-{process}")?;
+        let part = part.as_str();
+        let identity = self.write_part(rt, part, text)?;
+        match renamed(rt, identity, part, path) {
+            Ok(()) => {
+                sync_folder(rt, parent(path));
+                Ok(())
+            }
+            Err(error) => {
+                remove_or_tell(rt, identity, part);
+                Err(write_fault(alloc, path, error))
+            }
+        }
+    }
+}
+
+/// Makes a file that was not there, for its owner alone.
+fn made<R: Files<File = File>>(rt: &R, path: &str) -> io::Result<(File, Identity)> {
+    let file = create(rt, path)?;
+    let identity = Identity::of(&file.metadata()?);
+    Ok((file, identity))
+}
+
+/// Gives this file, which is at `from`, the path `to`, and no other one that is there now.
+fn renamed<R: Files>(rt: &R, this: Identity, from: &str, to: &str) -> io::Result<()> {
+    this.stays_at(rt, from)?;
+    fs::rename(rt, from, to)
 }

@@ -4,10 +4,13 @@
 mod command_line;
 mod ending;
 mod file;
+mod lock;
 mod malformed;
+mod origins;
 mod password;
 mod request;
 mod run;
+mod work;
 
 use std::process;
 use std::process::ExitCode;

@@ -1,42 +1,31 @@
 //! The subcommands, from the arguments to the end.
-ghost use Rattle.std.specs.Prelude.{◌≡◌, ◌<◌};
-
 use crate::command_line::command;
 use crate::ending::{Ending, Failure};
-use crate::file::{Locked, read, real_path};
+use crate::file::{Place, db_of, in_safe_place, octets_of, read, real_path};
+use crate::lock::Lock;
+use crate::origins::origins_differ;
 use crate::password::{as_new_password, read_password};
 use crate::request::{Action, Order, Request, request_of};
+use crate::work::{Work, done, is_change, tested};
 use clap::ArgMatches;
 use clap::error::ErrorKind;
 use command_base::{Origin, Password, arguments, refusal_text};
-use octet_core::{Draw, ReadDraw};
-use passdb_core::{Db, DbError, Reply};
+use octet_core::FileDraw;
+use passdb_core::{Db, Reply};
 use std::alloc::{AllocError, Global};
+use std::fs::File;
 use std::marker::Brand;
 use std::rt::{Env, Files, Runtime};
-use std::sync::ledger::{Blank, Ledger};
-use std::{env, fs, io};
-use steps::Steps;
+use std::sync::ledger::Blank;
+use std::{env, io};
 use terminal_text::is_password_given;
 
 /// Where this variable is set, the wrapper asks for a password that is missing and runs the program again, so the program
 /// itself keeps silent.
 const ASKING: &str = "PASSDB_ASKING";
 
-/// Where this variable is set, the wrapper runs the program again where the file is locked, so the program keeps silent.
-const WAITING: &str = "PASSDB_WAITING";
-
 /// Where the system's random octets are read.
 const RANDOM: &str = "/dev/urandom";
-
-/// What is done for a name, with the passwords for it.
-#[derive(Drop)]
-enum Work {
-    Add(Password),
-    Check(Password),
-    Change(Password, Password),
-    Remove,
-}
 
 fn password_missing() -> Failure {
     Failure::new(
@@ -97,126 +86,144 @@ fn work_of<R: Files + Env + Input + AllocGlobal>(
     }
 }
 
-/// Does the work on the names.
-fn done<D: Draw, L: Ledger>(
-    db: &mut Db,
-    draw: &mut D,
-    order: &Order<'_>,
-    work: &Work,
-    blank: Blank,
-) -> Result<Reply, DbError>
-    requires name { blank.name ≡ L.name }
-    requires parts { blank.parts ≡ L.parts }
-    requires some { 0 < blank.parts }
-{
-    let mut steps = Steps::<L>::open(blank);
-    let name = &order.name;
-    match work {
-        Work::Add(password) => db.add(draw, name, password.as_str().as_bytes(), &mut steps),
-        Work::Check(password) => db.check(draw, name, password.as_str().as_bytes(), &mut steps),
-        Work::Change(old, new) => {
-            let old = old.as_str().as_bytes();
-            db.change(draw, name, old, new.as_str().as_bytes(), &mut steps)
-        }
-        Work::Remove => Ok(db.remove(name)),
-    }
-}
-
-/// Whether the reply changed the file, or why it did not.
-fn is_change(reply: Reply) -> Result<bool, Failure> {
-    match reply {
-        Reply::Added | Reply::Renewed | Reply::Changed | Reply::Removed => Ok(true),
-        Reply::Good => Ok(false),
-        Reply::Exists => Err(Failure::new(
-            Ending::NameExists,
-            "the file has the name already; change gives it another password",
-        )),
-        Reply::Wrong => Err(Failure::new(
-            Ending::WrongPassword,
-            "the password is not that of the name",
-        )),
-        Reply::Unknown => Err(Failure::new(Ending::NameUnknown, "the file does not have the name")),
-    }
-}
-
-/// Does the work on the file at this path, and returns the reply; `lock` is the file's, where the work may be written.
-fn answered<R: Runtime + AllocGlobal>(
-    rt: &R,
-    path: &str,
-    order: &Order<'_>,
-    work: &Work,
-    lock: Option<&Locked>,
-) -> Result<bool, Failure> {
-    let alloc = rt.alloc();
-    let make = matches!(work, Work::Add(_));
+/// `NameUnknown` where the file does not have the name, and `NameExists` where it has it and it is to be added. It is asked before
+/// a password is: nobody types one for nothing.
+fn look<R: Files + AllocGlobal>(rt: &R, path: &str, order: &Order<'_>) -> Result<(), Failure> {
+    let make = matches!(order.action, Action::Add(_));
     let mut db = read(rt, path, order.rounds, make)?;
-    let Ok(random) = fs::open(rt, RANDOM) else {
-        return Err(Failure::from(DbError::Rng));
+    let is_there = matches!(db.remove(&order.name), Reply::Removed);
+    let refusal = match (make, is_there) {
+        (true, true) => Reply::Exists,
+        (false, false) => Reply::Unknown,
+        (true, false) | (false, true) => return Ok(()),
     };
-    let mut draw = ReadDraw::new(random);
-    let reply = done::<_, Brand>(&mut db, &mut draw, order, work, Blank::new(1))?;
-    let changed = is_change(reply)?;
-    match lock {
-        Some(lock) if changed => {
-            lock.write(rt, db.to_text(alloc)?.as_str())?;
-            Ok(true)
-        }
-        _ => Ok(changed),
-    }
-}
-
-/// The same under the lock of the file.
-fn answered_locked<R: Runtime + AllocGlobal>(
-    rt: &R,
-    process: u32,
-    path: &str,
-    order: &Order<'_>,
-    work: &Work,
-) -> Result<(), Failure> {
-    let lock = Locked::take(rt, path, process)?;
-    let outcome = answered(rt, path, order, work, Some(&lock));
-    lock.release(rt);
-    match outcome {
+    match is_change(refusal) {
         Ok(_) => Ok(()),
         Err(failure) => Err(failure),
     }
 }
 
-/// Tests a password. An entry with few rounds is made anew under the lock; where that fails the password was right all the
-/// same, and a line says so.
-fn check<R: Runtime + AllocGlobal>(
+/// Does the work on the file at this place, whose lock is held.
+fn answered<R: Runtime<File = File> + AllocGlobal>(
     rt: &R,
-    process: u32,
-    path: &str,
+    place: Place<'_>,
     order: &Order<'_>,
     work: &Work,
 ) -> Result<(), Failure> {
-    if !answered(rt, path, order, work, None)? {
-        return Ok(());
+    let make = matches!(work, Work::Add(_));
+    let mut db = read(rt, place.path, order.rounds, make)?;
+    let mut draw = FileDraw::new(rt, RANDOM);
+    let reply = done::<_, Brand>(&mut db, &mut draw, &order.name, work, Blank::new(1))?;
+    if is_change(reply)? {
+        place.write(rt, db.to_text(rt.alloc())?.as_str())?;
     }
-    match answered_locked(rt, process, path, order, work) {
-        Ok(()) => Ok(()),
-        Err(failure) => {
-            let why = failure.message.as_str();
-            match eprintln!(rt;
-                "passdb: the password is right; its entry was not made anew: {why}"
-            ) {
-                Ok(()) | Err(_) => Ok(()),
-            }
-        }
+    Ok(())
+}
+
+/// The same once the lock is taken.
+fn answered_locked<R: Runtime<File = File> + AllocGlobal>(
+    rt: &R,
+    place: Place<'_>,
+    order: &Order<'_>,
+    work: &Work,
+) -> Result<(), Failure> {
+    let lock = Lock::take(rt, place.path)?;
+    let outcome = answered(rt, place, order, work);
+    lock.release(rt);
+    outcome
+}
+
+/// Writes the entries of a login, whose file had these octets. Where another run has changed the file meanwhile, the work is done
+/// anew on what it has now.
+fn renewed<R: Runtime<File = File> + AllocGlobal>(
+    rt: &R,
+    place: Place<'_>,
+    order: &Order<'_>,
+    work: &Work,
+    before: &Option<Vec<u8>>,
+    db: &Db,
+) -> Result<(), Failure> {
+    if octets_of(rt, place.path)? == *before {
+        return place.write(rt, db.to_text(rt.alloc())?.as_str());
+    }
+    answered(rt, place, order, work)
+}
+
+/// The same once the lock is taken.
+fn renewed_locked<R: Runtime<File = File> + AllocGlobal>(
+    rt: &R,
+    place: Place<'_>,
+    order: &Order<'_>,
+    work: &Work,
+    before: &Option<Vec<u8>>,
+    db: &Db,
+) -> Result<(), Failure> {
+    in_safe_place(rt, place.path)?;
+    let lock = Lock::take(rt, place.path)?;
+    let outcome = renewed(rt, place, order, work, before, db);
+    lock.release(rt);
+    outcome
+}
+
+/// Says that an entry has fewer rounds than it was to have.
+fn tell_not_renewed<R: Eprint>(rt: &R, why: &str) {
+    match eprintln!(rt; "passdb: the password is right; its entry was not made anew: {why}") {
+        Ok(()) | Err(_) => {}
     }
 }
 
-fn run_one<R: Runtime + AllocGlobal>(
+/// Tests a password. An entry with few rounds is made anew under the lock; where that fails the password was right all the
+/// same, and a line says so.
+fn check<R: Runtime<File = File> + AllocGlobal>(
+    rt: &R,
+    place: Place<'_>,
+    order: &Order<'_>,
+    work: &Work,
+    password: &Password,
+) -> Result<(), Failure> {
+    let before = octets_of(rt, place.path)?;
+    let mut db = db_of(rt.alloc(), place.path, &before, order.rounds, false)?;
+    let mut draw = FileDraw::new(rt, RANDOM);
+    let tested = tested::<_, Brand>(&mut db, &mut draw, &order.name, password, Blank::new(1))?;
+    if !is_change(tested.reply)? {
+        return Ok(());
+    }
+    if !tested.is_done {
+        tell_not_renewed(rt, "the system gave no random octets");
+    } else if let Err(failure) = renewed_locked(rt, place, order, work, &before, &db) {
+        tell_not_renewed(rt, failure.message.as_str());
+    }
+    Ok(())
+}
+
+/// Whether a password is still to be asked for.
+fn lacks_password(action: Action<'_>) -> bool {
+    match action {
+        Action::Add(password) | Action::Check(password) => password.is_none(),
+        Action::Change(old, new) => old.is_none() || new.is_none(),
+        Action::Remove => false,
+    }
+}
+
+fn run_one<R: Runtime<File = File> + AllocGlobal>(
     rt: &R,
     process: u32,
     order: &Order<'_>,
 ) -> Result<(), Failure> {
-    let work = work_of(rt, order.action)?;
+    origins_differ(rt, order.action)?;
     let path = real_path(rt, order.file)?;
-    match work {
-        Work::Check(_) => check(rt, process, path.as_str(), order, &work),
-        _ => answered_locked(rt, process, path.as_str(), order, &work),
+    let path = path.as_str();
+    if !matches!(order.action, Action::Check(_)) {
+        in_safe_place(rt, path)?;
+    }
+    if lacks_password(order.action) {
+        look(rt, path, order)?;
+    }
+    let place = Place { path, process };
+    let work = work_of(rt, order.action)?;
+    match &work {
+        Work::Check(password) => check(rt, place, order, &work, password),
+        _ => answered_locked(rt, place, order, &work),
     }
 }
 
@@ -244,11 +251,34 @@ fn run_list<R: Runtime + AllocGlobal>(rt: &R, file: &str) -> Result<(), Failure>
 const NO_SUBCOMMAND: &str = "\
 give a subcommand: add, check, change, remove or list; see ./passdb --help";
 
-/// The failure of arguments that clap refuses; none where it shows help or the version, which is printed.
-fn shown<R: Print + Eprint + AllocGlobal>(rt: &R, error: clap::Error) -> Result<(), Failure> {
+const HELP_IS_ALONE: &str = "\
+help is asked for alone, as ./passdb --help or ./passdb check --help; -- comes before a file and a name that may begin with -";
+
+/// Whether these arguments, the program's name among them, are an option alone, or a subcommand with one option. A script puts a
+/// name from outside after a file: whatever it is, it asks for no help, which would end as a right password does.
+fn are_alone(arguments: &[String]) -> bool {
+    match arguments {
+        [_, _] => true,
+        [_, subcommand, _] => !subcommand.as_str().starts_with('-'),
+        _ => false,
+    }
+}
+
+/// The failure of arguments that clap refuses; none where they ask for help or the version alone, which is printed.
+fn shown<R: Print + Eprint + AllocGlobal>(
+    rt: &R,
+    arguments: &[String],
+    error: clap::Error,
+) -> Result<(), Failure> {
     match error.kind() {
         ErrorKind::OutOfMemory => Err(Failure::from(AllocError)),
-        ErrorKind::DisplayHelp | ErrorKind::DisplayVersion => printed(rt.alloc(), error.print(rt)),
+        ErrorKind::DisplayHelp | ErrorKind::DisplayVersion => {
+            if are_alone(arguments) {
+                printed(rt.alloc(), error.print(rt))
+            } else {
+                Err(Failure::new(Ending::Usage, HELP_IS_ALONE))
+            }
+        }
         ErrorKind::DisplayHelpOnMissingArgumentOrSubcommand | ErrorKind::MissingSubcommand => Err(
             Failure::new(Ending::Usage, NO_SUBCOMMAND),
         ),
@@ -257,7 +287,7 @@ fn shown<R: Print + Eprint + AllocGlobal>(rt: &R, error: clap::Error) -> Result<
 }
 
 /// Does what these matches ask for.
-fn answer<R: Runtime + AllocGlobal>(
+fn answer<R: Runtime<File = File> + AllocGlobal>(
     rt: &R,
     process: u32,
     matches: &ArgMatches<'_>,
@@ -273,7 +303,7 @@ a password is not given on the command line, since other users can read that (it
 give --password-file FILE, --password-env NAME or --password-stdin";
 
 /// Does what the arguments ask for.
-pub fn run<R: Runtime + AllocGlobal>(rt: &R, process: u32) -> Result<(), Failure> {
+pub fn run<R: Runtime<File = File> + AllocGlobal>(rt: &R, process: u32) -> Result<(), Failure> {
     let Some(arguments) = arguments(rt)? else {
         return Err(Failure::new(Ending::Usage, "an argument is not UTF-8"));
     };
@@ -283,7 +313,7 @@ pub fn run<R: Runtime + AllocGlobal>(rt: &R, process: u32) -> Result<(), Failure
     let command = command(rt.alloc())?;
     match command.try_get_matches_from(arguments.as_slice()) {
         Ok(matches) => answer(rt, process, &matches),
-        Err(error) => shown(rt, error),
+        Err(error) => shown(rt, arguments.as_slice(), error),
     }
 }
 
@@ -291,7 +321,6 @@ pub fn run<R: Runtime + AllocGlobal>(rt: &R, process: u32) -> Result<(), Failure
 fn is_handled<R: Env + AllocGlobal>(rt: &R, ending: Ending) -> bool {
     match ending {
         Ending::PasswordMissing | Ending::NewPasswordMissing => env::var(rt, ASKING).is_ok(),
-        Ending::Locked => env::var(rt, WAITING).is_ok(),
         _ => false,
     }
 }

@@ -44,9 +44,6 @@ one_line m n e f s t named is named_too too same =
     let texts = one_cut 10 (entry_text e) (entry_text f) s t (entry_no_feed e is) (entry_no_feed f too) names.1 in
     (names.0, one_entry e f is too texts.0, texts.1)
 
-pub one_pair : (t m n : List ℕ) (e f : Entry) → IsPair t m e → IsPair t n f → m ≡ n
-one_pair t m n e f p q = (one_cut 58 m n (entry_text e) (entry_text f) (ident_no_colon m p.named) (ident_no_colon n q.named) (sym p.spelled ∙ q.spelled)).0
-
 -- A line that is no pair, or whose name is not above.
 pub no_pair : (t : List ℕ) → Lacks 58 t → (name : List ℕ) (e : Entry) → IsPair t name e → ⊥
 no_pair t plain name e is = no_cut 58 t name (entry_text e) plain is.spelled
@@ -174,9 +171,6 @@ front_one text es fs s t f g = fronts_same es fs s t f.entries g.entries (sym f.
 -- A whole file is a front with nothing after it.
 pub file_front : (text : List ℕ) (es : Entries) → IsFile text es → IsFront text es []
 file_front text es f = record { entries = f.entries; spelled = f.spelled ∙ sym (append-nil (text_of es)); stops = tt }
-
-pub front_file : (text : List ℕ) (es : Entries) (rest : List ℕ) → IsFront text es rest → rest ≡ [] → IsFile text es
-front_file text es rest f none = record { entries = f.entries; spelled = f.spelled ∙ ap (λ t. text_of es ++ t) none ∙ append-nil (text_of es) }
 
 pub not_all : (text : List ℕ) (es : Entries) (rest : List ℕ) → IsFront text es rest → rest ≢ [] → IsNoFile text
 not_all text es rest f some fs g = some (front_one text es fs rest [] f (file_front text fs g)).1
