@@ -22,7 +22,7 @@ _pkcs12() {
             mapfile -t COMPREPLY < <(compgen -e -- "$word")
             return
             ;;
-        --rounds | --limit | --seal-limit | --most-files) return ;;
+        --rounds | --limit | --seal-limit | --most-files | --expires-within) return ;;
     esac
     if [ "$COMP_CWORD" -eq 1 ]; then
         mapfile -t COMPREPLY < <(compgen -W "check list export rekey self-test uninstall --help --version" -- "$word")
@@ -35,8 +35,10 @@ _pkcs12() {
             --skip-others --verbose --new-password-file --new-password-env --new-password-stdin --same-password \
             --allow-empty-password --rounds --seal-limit --most-files" -- "$word")
     elif [ "${COMP_WORDS[1]}" = rekey ]; then
-        mapfile -t COMPREPLY < <(compgen -W "$common --out --in-place --force --verbose --new-password-file --new-password-env \
-            --new-password-stdin --allow-empty-password" -- "$word")
+        mapfile -t COMPREPLY < <(compgen -W "$common --out --in-place --force --upgrade --rounds --verbose --new-password-file \
+            --new-password-env --new-password-stdin --same-password --allow-empty-password" -- "$word")
+    elif [ "${COMP_WORDS[1]}" = list ]; then
+        mapfile -t COMPREPLY < <(compgen -W "$common --json --expires-within" -- "$word")
     else
         mapfile -t COMPREPLY < <(compgen -W "$common --json" -- "$word")
     fi

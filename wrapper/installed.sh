@@ -1,14 +1,17 @@
 #!/bin/sh
 # The installed command pkcs12: runs the program beside it, and asks for passwords at a terminal. `pkcs12 uninstall` removes it.
 set -eu
+# Passwords and keys are not to lie in the file of a crash.
+ulimit -c 0 2>/dev/null || :
 # A shell needs more descriptors than the program does.
 [ "$(ulimit -n)" -ge 20 ] || ulimit -S -n 20 || :
 # Every variable here begins with pkcs12_ or wrapper_, since any other may be one that --password-env names.
-unset PKCS12_ASKING pkcs12_password pkcs12_new_password wrapper_answered
+unset PKCS12_ASKING PKCS12_LISTED pkcs12_password pkcs12_new_password wrapper_answered
 wrapper_name=pkcs12
 
 # The folder that it was installed below: by the path at which it was called, or by that to which a link there leads, since bin may be a
-# link to another folder; else by where all links lead to.
+# link to another folder; else by where all links lead to; else the one that was named when it was installed.
+pkcs12_installed=
 pkcs12_self=$0
 case $0 in
     /*) ;;
@@ -31,6 +34,11 @@ while [ ! -f "$pkcs12_self" ] || [ ! -f "$pkcs12_prefix/lib/pkcs12/install.sh" ]
         break
     fi
 done
+[ -f "$pkcs12_prefix/lib/pkcs12/install.sh" ] || [ -z "$pkcs12_installed" ] || pkcs12_prefix=$pkcs12_installed
+if [ ! -f "$pkcs12_prefix/lib/pkcs12/install.sh" ]; then
+    printf '%s\n' "pkcs12: BuildFailed (1): what $0 was installed with is not below $pkcs12_prefix" >&2
+    exit 1
+fi
 pkcs12_scripts=$pkcs12_prefix/lib/pkcs12
 pkcs12_program=$pkcs12_scripts/pkcs12
 if [ "${1-}" = uninstall ]; then

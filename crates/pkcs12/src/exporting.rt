@@ -1,13 +1,16 @@
 //! The subcommand `export`: writes what an opened store has.
-use std::alloc::{AllocError, Global};
+use pkcs12_arguments::Export;
+use std::alloc::Global;
+use std::fs::File;
 use std::io;
 use std::rt::{Files, Runtime};
-use store_certificates::{Chain, chain_text, chain_warnings, chains};
+use store_certificates::{Chain, ChainError, chain_text, chain_warnings, chains};
 use store_export::{
-    Export, Exported, Output, find_folder, needs_new_password, new_password, open_and_seal,
-    tell_exported,
+    Exported, Output, find_folder, needs_new_password, new_password, open_and_seal, tell_exported,
 };
-use store_opening::{Failure, Surroundings, new_password_missing, read_given, tell_long_work};
+use store_opening::{
+    Ending, Failure, Surroundings, new_password_missing, read_given, tell_long_work,
+};
 use store_output::Folder;
 
 /// The chains of the private keys that are exported, where they are asked for.
@@ -15,12 +18,19 @@ fn chains_of(
     alloc: Global,
     asked: &Export<'_>,
     exported: &Exported,
-) -> Result<Vec<Option<Chain>>, AllocError> {
+) -> Result<Vec<Option<Chain>>, Failure> {
     if !asked.target.chain {
         return Ok(Vec::new(alloc));
     }
     let certificates = exported.transferred.certificates.as_slice();
-    chains(alloc, certificates, &exported.found)
+    match chains(alloc, certificates, &exported.found) {
+        Ok(chains) => Ok(chains),
+        Err(ChainError::Memory) => Err(Failure::new(Ending::Memory, "out of memory")),
+        Err(ChainError::TooMuch) => Err(Failure::new(
+            Ending::TooManyFiles,
+            "the chains of the private keys have more than 268,435,456 octets together, and nothing was written: export without --chain",
+        )),
+    }
 }
 
 /// Says which of the chains are not there, or not whole.
@@ -36,7 +46,7 @@ fn warn_of_chains<R: Eprint + AllocGlobal>(
 }
 
 /// Writes the files of the folder.
-fn fill<R: Files + AllocGlobal>(
+fn fill<R: Files<File = File> + AllocGlobal>(
     rt: &R,
     output: Output<'_>,
     exported: &Exported,
@@ -54,7 +64,7 @@ fn fill<R: Files + AllocGlobal>(
 }
 
 /// Makes the folder with its files.
-fn make<R: Files + Eprint + AllocGlobal + Clone + Drop>(
+fn make<R: Files<File = File> + Eprint + AllocGlobal + Clone + Drop>(
     rt: &R,
     folder: &Folder<'_>,
     asked: &Export<'_>,
@@ -65,14 +75,14 @@ fn make<R: Files + Eprint + AllocGlobal + Clone + Drop>(
     let output = Output {
         folder,
         target: &asked.target,
-        part: part.as_str(),
+        part: &part,
     };
     let filled = fill(rt, output, exported, chains);
-    Ok(folder.finish(rt, part.as_str(), filled)?)
+    Ok(folder.finish(rt, &part, filled)?)
 }
 
 /// Writes what is exported into the folder, with the chains that are asked for.
-fn write<R: Files + Eprint + AllocGlobal + Clone + Drop>(
+fn write<R: Files<File = File> + Eprint + AllocGlobal + Clone + Drop>(
     rt: &R,
     folder: &Folder<'_>,
     asked: &Export<'_>,
@@ -103,7 +113,7 @@ fn exported<R: Runtime + AllocGlobal>(
 }
 
 /// Writes what a store has into the folder that is asked for, which is looked at before any work is done.
-pub fn run_export<R: Runtime + AllocGlobal>(
+pub fn run_export<R: Runtime<File = File> + AllocGlobal>(
     rt: &R,
     around: Surroundings,
     asked: &Export<'_>,

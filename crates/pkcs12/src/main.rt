@@ -4,14 +4,11 @@
 
 mod check;
 mod clock;
-mod command_line;
-mod export;
 mod exporting;
 mod list;
+mod new_work;
 mod reading;
-mod rekey;
 mod rekeying;
-mod request;
 mod run;
 mod self_test;
 

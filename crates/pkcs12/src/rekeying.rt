@@ -1,14 +1,17 @@
-//! The subcommand `rekey`: changes the password of a store.
-ghost use Rattle.std.specs.Prelude.{◌≡◌, ◌<◌, ℕ, IfOk, None};
-ghost use Rattle.rekey_core.specs.Rekeyed.{Rekeys};
+//! The subcommand `rekey`: changes the password of a store, and the algorithms where that is asked for.
+ghost use Rattle.std.specs.Prelude.{◌≡◌, ◌<◌, ℕ, IfOk, IfNone, IfSome, None};
+ghost use Rattle.rekey_core.specs.Rekeyed.{Rekeys, RekeysTo};
+ghost use Rattle.rekey_core.specs.declared.kinds.Kinds.TheVariants.{Renewed};
 
-use crate::rekey::Rekey;
+use crate::new_work::opens_again;
 use asn1_core::Octets;
 use command_base::Password;
 use octet_core::{Draw, FileDraw};
 use p12::{CertBag, SafeBag, SafeBagKind};
-use rekey_core::rekey;
-use std::alloc::Global;
+use pkcs12_arguments::{Rekey, UpgradeRounds};
+use rekey_core::{Rounds, rekey, upgrade};
+use std::alloc::{AllocError, Global};
+use std::fs::File;
 use std::marker::Brand;
 use std::rt::{Env, Files, Runtime};
 use std::sync::ledger::{Blank, Ledger};
@@ -27,6 +30,8 @@ use transfer::{Opened, TransferError};
 struct Change<'a> {
     given: &'a Given,
     new_password: &'a NewPassword,
+    /// The rounds of the new algorithms, where these change too.
+    upgrade: Option<Rounds>,
     limit: u64,
 }
 
@@ -40,28 +45,44 @@ fn changed_from<D: Draw, L: Ledger>(
     requires name { blank.name ≡ L.name }
     requires parts { blank.parts ≡ L.parts }
     requires some { 0 < blank.parts }
-    ensures { IfOk result (λ text. (before after : ℕ) × Rekeys change.now.given.now.store.items
-        change.now.given.now.password change.now.new_password.now change.now.limit
-        (D.left draw.old) (D.left draw.new) before after text) }
+    ensures kept { IfNone change.now.upgrade (IfOk result (λ text. (before after : ℕ)
+        × Rekeys change.now.given.now.store.items change.now.given.now.password
+        change.now.new_password.now change.now.limit (D.left draw.old) (D.left draw.new)
+        before after text)) }
+    ensures renewed { IfSome change.now.upgrade (λ rounds. IfOk result
+        (λ text. (before after : ℕ) × RekeysTo (Renewed rounds)
+        change.now.given.now.store.items change.now.given.now.password
+        change.now.new_password.now change.now.limit (D.left draw.old) (D.left draw.new)
+        before after text)) }
 {
     let mut steps = Steps::<L>::open(blank);
-    let given = change.given;
-    rekey(
-        alloc,
-        given.store.as_slice(),
-        given.password.as_str(),
-        change.new_password.as_str(),
-        draw,
-        change.limit,
-        &mut steps,
-    )
+    let store = change.given.store.as_slice();
+    let old = change.given.password.as_str();
+    let new = change.new_password.as_str();
+    match change.upgrade {
+        Some(rounds) => upgrade(
+            alloc,
+            store,
+            old,
+            new,
+            rounds,
+            draw,
+            change.limit,
+            &mut steps,
+        ),
+        None => rekey(alloc, store, old, new, draw, change.limit, &mut steps),
+    }
 }
 
 /// The changed store, over the system's random octets.
 fn changed<R: Files + AllocGlobal>(rt: &R, change: &Change<'_>) -> Result<Octets, Failure>
-    ensures { IfOk result (λ text. (before after : ℕ) × Rekeys change.now.given.now.store.items
-        change.now.given.now.password change.now.new_password.now change.now.limit
-        None None before after text) }
+    ensures kept { IfNone change.now.upgrade (IfOk result (λ text. (before after : ℕ)
+        × Rekeys change.now.given.now.store.items change.now.given.now.password
+        change.now.new_password.now change.now.limit None None before after text)) }
+    ensures renewed { IfSome change.now.upgrade (λ rounds. IfOk result
+        (λ text. (before after : ℕ) × RekeysTo (Renewed rounds)
+        change.now.given.now.store.items change.now.given.now.password
+        change.now.new_password.now change.now.limit None None before after text)) }
 {
     let mut draw = FileDraw::new(rt, RANDOM);
     match changed_from::<_, Brand>(rt.alloc(), change, &mut draw, Blank::new(1)) {
@@ -150,7 +171,7 @@ fn changed_meanwhile() -> Failure {
 
 /// Writes the changed store, and puts it in its place once it was read back and compared. A store that is replaced has to be
 /// the one that was read.
-fn write_changed<R: Files + Eprint + AllocGlobal>(
+fn write_changed<R: Files<File = File> + Eprint + AllocGlobal>(
     rt: &R,
     file: &StoreFile<'_>,
     change: &Change<'_>,
@@ -158,15 +179,15 @@ fn write_changed<R: Files + Eprint + AllocGlobal>(
     replaces_store: bool,
 ) -> Result<(), Failure> {
     let text = changed(rt, change)?;
-    let found = file.written(rt, text.as_slice())?;
-    match compare(rt.alloc(), found.as_slice(), change, before) {
+    let written = file.written(rt, text.as_slice())?;
+    match compare(rt.alloc(), written.octets.as_slice(), change, before) {
         Ok(()) if replaces_store && !file.holds(rt, change.given.store.as_slice()) => {
-            file.abandon(rt)?;
+            file.abandon(rt, &written)?;
             Err(changed_meanwhile())
         }
-        Ok(()) => Ok(file.place(rt)?),
+        Ok(()) => Ok(file.place(rt, &written)?),
         Err(failure) => {
-            file.abandon(rt)?;
+            file.abandon(rt, &written)?;
             Err(failure)
         }
     }
@@ -176,7 +197,11 @@ fn write_changed<R: Files + Eprint + AllocGlobal>(
 fn new_password<R: Files + Env + Input + AllocGlobal>(
     rt: &R,
     asked: &Rekey<'_>,
+    given: &Given,
 ) -> Result<NewPassword, Failure> {
+    if asked.same_password {
+        return NewPassword::new(given.password.try_clone(rt.alloc())?, asked.allow_empty);
+    }
     match asked.new_password {
         Some(origin) => {
             let password = read_password(rt, "new password", origin)?;
@@ -184,6 +209,25 @@ fn new_password<R: Files + Env + Input + AllocGlobal>(
             NewPassword::new(password, asked.allow_empty)
         }
         None => Err(Failure::new(Ending::NewPasswordMissing, "the new password was not given")),
+    }
+}
+
+/// What was kept and what was changed.
+fn changes(alloc: Global, asked: &Rekey<'_>) -> Result<String, AllocError> {
+    let password = if asked.same_password {
+        ""
+    } else {
+        "the password and "
+    };
+    match asked.upgrade {
+        Some(rounds) => format!(in alloc;
+            "kept: every certificate, private key, name, key id and other attribute\nchanged: {password}every salt; all that is encrypted is now under PBES2 with AES-256-CBC, PBKDF2 with HMAC-SHA-256 and {} rounds; the MAC is now HMAC-SHA-256 with as many",
+            rounds.count
+        ),
+        None => String::from_str(
+            alloc,
+            "kept: every certificate, private key, name, key id and other attribute, and every count\nchanged: the password and every salt; what is under PBES2 is now under AES-256-CBC and HMAC-SHA-256",
+        ),
     }
 }
 
@@ -197,51 +241,89 @@ fn tell<R: Eprint + AllocGlobal>(
     if !around.at_terminal && !asked.verbose {
         return Ok(());
     }
-    let text = counts(rt.alloc(), found)?;
+    let counts = counts(rt.alloc(), found)?;
+    let changes = changes(rt.alloc(), asked)?;
     // The file is there: that nobody hears of it is no failure.
-    match eprintln!(rt;
-        "{text}kept: every certificate, private key, name, key id and other attribute, and every count\nchanged: the password and every salt; what is under PBES2 is now under AES-256-CBC and HMAC-SHA-256"
-    ) {
+    match eprintln!(rt; "{counts}{changes}") {
         Ok(()) | Err(_) => Ok(()),
     }
 }
 
+/// Says that a store under PBES2 with such a password is not opened by Java, where the new one is.
+fn warn_of_password<R: Eprint>(rt: &R, change: &Change<'_>) {
+    if change.upgrade.is_none() || change.new_password.as_str().is_ascii() {
+        return;
+    }
+    // A standard error that cannot be written to is no failure of the work.
+    match eprintln!(rt;
+        "pkcs12: warning: the new password is not ASCII, and Java opens no store under PBES2 with such a password"
+    ) {
+        Ok(()) | Err(_) => {}
+    }
+}
+
 /// Opens the store, writes it under the new password into the file, and returns what it has.
-fn write_rekeyed<R: Runtime + AllocGlobal>(
+fn write_rekeyed<R: Runtime<File = File> + AllocGlobal>(
     rt: &R,
     around: Surroundings,
     asked: &Rekey<'_>,
     file: &StoreFile<'_>,
     change: &Change<'_>,
 ) -> Result<Listing, Failure> {
-    tell_long_work(rt, around, change.given.store.as_slice(), None);
+    let store = change.given.store.as_slice();
+    let rounds = change.upgrade.map(|rounds| rounds.count());
+    tell_long_work(rt, around, store, rounds);
     let opened = opened(rt.alloc(), change.given, change.limit)?;
+    if let Some(rounds) = rounds {
+        opens_again(
+            rt.alloc(),
+            store,
+            opened.number_of_keys(),
+            rounds,
+            change.limit,
+        )?;
+    }
     let found = listing_of(rt.alloc(), &opened)?;
+    warn_of_password(rt, change);
     let before = opened.into_opened(rt.alloc())?;
     let replaces_store = are_one(rt, path_of_store(asked.store), asked.out);
     write_changed(rt, file, change, &before, replaces_store)?;
     Ok(found)
 }
 
+/// So many rounds, for the calls on stores.
+fn rounds_of(asked: UpgradeRounds) -> Rounds
+    ensures { result.count ≡ asked.count }
+{
+    match Rounds::new(asked.count) {
+        Some(rounds) => rounds,
+        None => unreachable!(),
+    }
+}
+
 /// Reads the store and the passwords, and then does the same.
-fn read_and_rekey<R: Runtime + AllocGlobal>(
+fn read_and_rekey<R: Runtime<File = File> + AllocGlobal>(
     rt: &R,
     around: Surroundings,
     asked: &Rekey<'_>,
     file: &StoreFile<'_>,
 ) -> Result<Listing, Failure> {
     let given = read_given(rt, asked.store, asked.password, asked.limit)?;
-    let new_password = new_password(rt, asked)?;
+    let new_password = new_password(rt, asked, &given)?;
     let change = Change {
         given: &given,
         new_password: &new_password,
+        upgrade: match asked.upgrade {
+            Some(rounds) => Some(rounds_of(rounds)),
+            None => None,
+        },
         limit: asked.limit,
     };
     write_rekeyed(rt, around, asked, file, &change)
 }
 
 /// Changes the password of a store.
-pub fn run_rekey<R: Runtime + AllocGlobal>(
+pub fn run_rekey<R: Runtime<File = File> + AllocGlobal>(
     rt: &R,
     around: Surroundings,
     asked: &Rekey<'_>,
@@ -249,7 +331,8 @@ pub fn run_rekey<R: Runtime + AllocGlobal>(
     inputs_differ(rt, asked.store, asked.password, asked.new_password)?;
     output_differs(rt, asked.out, asked.password, asked.new_password)?;
     let file = StoreFile::find(rt, asked.out, asked.may_replace, around.process)?;
-    if asked.new_password.is_none() && is_not_given_again(rt, asked.store, asked.password) {
+    let is_given = asked.same_password || asked.new_password.is_some();
+    if !is_given && is_not_given_again(rt, asked.store, asked.password) {
         return Err(new_password_missing());
     }
     let found = read_and_rekey(rt, around, asked, &file)?;

@@ -1,15 +1,13 @@
 //! The command, from its arguments to its end.
 use crate::check::run_check;
-use crate::command_line::command;
 use crate::exporting::run_export;
 use crate::list::run_list;
 use crate::rekeying::run_rekey;
-use crate::request::{Request, request_of};
 use crate::self_test::self_test;
-use clap::ArgMatches;
-use clap::error::ErrorKind;
-use command_base::{arguments, refusal_text};
+use command_base::{Message, arguments};
+use pkcs12_arguments::{ArgumentsError, Request, request_of};
 use std::alloc::AllocError;
+use std::fs::File;
 use std::rt::{Env, Runtime};
 use std::{env, io};
 use store_opening::{ASKING, Ending, Failure, Surroundings, printed, without_password_argument};
@@ -19,63 +17,48 @@ fn run_self_test<R: Print + AllocGlobal>(rt: &R) -> Result<(), Failure> {
     printed(rt.alloc(), print!(rt; "{lines}"))
 }
 
-/// The failure of arguments that clap refuses; none where it shows help or the version, which is
-/// printed.
-fn shown<R: Print + Eprint + AllocGlobal>(rt: &R, error: clap::Error) -> Result<(), Failure> {
-    match error.kind() {
-        ErrorKind::OutOfMemory => Err(Failure::from(AllocError)),
-        ErrorKind::DisplayHelp | ErrorKind::DisplayVersion => printed(rt.alloc(), error.print(rt)),
-        ErrorKind::DisplayHelpOnMissingArgumentOrSubcommand | ErrorKind::MissingSubcommand => Err(
-            Failure::new(
-                Ending::Usage,
-                "give a subcommand: check, list, export, rekey or self-test",
-            )
-            .advised(SHORT_USAGE),
-        ),
-        ErrorKind::UnknownArgument => {
-            let text = refusal_text(rt.alloc(), &error);
-            Err(Failure::told(Ending::Usage, text).advised(UNKNOWN_ARGUMENT))
-        }
-        _ => Err(Failure::told(Ending::Usage, refusal_text(rt.alloc(), &error))),
+/// Prints what help or the version is, or returns the failure of arguments that ask for nothing.
+fn shown<R: Print + AllocGlobal>(rt: &R, error: ArgumentsError) -> Result<(), Failure> {
+    match error {
+        ArgumentsError::Shown(text) => printed(rt.alloc(), rt.print(text.as_str())),
+        ArgumentsError::Wrong(message, advice) => Err(Failure {
+            ending: Ending::Usage,
+            message,
+            advice: match advice {
+                Some(advice) => Some(Message::Fixed(advice)),
+                None => None,
+            },
+        }),
+        ArgumentsError::Memory => Err(Failure::from(AllocError)),
     }
 }
 
-/// What to do after an argument that clap does not know.
-const UNKNOWN_ARGUMENT: &str = "\
-See pkcs12 --help, and pkcs12 SUBCOMMAND --help. A store whose name begins with - is given \
-as ./-NAME.";
-
-/// The usage, where nothing was asked for.
-const SHORT_USAGE: &str = "\
-Usage:
-    pkcs12 check STORE.p12
-    pkcs12 export STORE.p12 --out DIR
-    pkcs12 --help";
-
-/// Does what these matches ask for.
-fn answer<R: Runtime + AllocGlobal>(
+/// Does what is asked for.
+fn answer<R: Runtime<File = File> + AllocGlobal>(
     rt: &R,
     around: Surroundings,
-    matches: &ArgMatches<'_>,
+    request: &Request<'_>,
 ) -> Result<(), Failure> {
-    match request_of(rt.alloc(), matches)? {
-        Request::Check(asked) => run_check(rt, around, &asked),
-        Request::Export(asked) => run_export(rt, around, &asked),
-        Request::List(asked) => run_list(rt, around, &asked),
-        Request::Rekey(asked) => run_rekey(rt, around, &asked),
+    match request {
+        Request::Check(asked) => run_check(rt, around, asked),
+        Request::Export(asked) => run_export(rt, around, asked),
+        Request::List(asked) => run_list(rt, around, asked),
+        Request::Rekey(asked) => run_rekey(rt, around, asked),
         Request::SelfTest => run_self_test(rt),
     }
 }
 
 /// Does what the arguments ask for.
-pub fn run<R: Runtime + AllocGlobal>(rt: &R, around: Surroundings) -> Result<(), Failure> {
+pub fn run<R: Runtime<File = File> + AllocGlobal>(
+    rt: &R,
+    around: Surroundings,
+) -> Result<(), Failure> {
     let Some(arguments) = arguments(rt)? else {
         return Err(Failure::new(Ending::Usage, "an argument is not UTF-8"));
     };
     without_password_argument(arguments.as_slice())?;
-    let command = command(rt.alloc())?;
-    match command.try_get_matches_from(arguments.as_slice()) {
-        Ok(matches) => answer(rt, around, &matches),
+    match request_of(rt.alloc(), arguments.as_slice()) {
+        Ok(request) => answer(rt, around, &request),
         Err(error) => shown(rt, error),
     }
 }

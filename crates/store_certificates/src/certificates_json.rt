@@ -6,8 +6,11 @@ use crate::public_key::PublicKey;
 use inventory_core::Parent;
 use std::alloc::{AllocError, Global};
 use std::fmt::Write;
-use store_inspection::{Label, Listing, add_comma, add_others_json};
+use store_inspection::{Listing, add_comma, add_others_json};
 use terminal_text::{JsonHexadecimal, JsonString};
+
+/// The most certificates of chains in all: of the keys after that many the chain is null. Which certificate issued which is told of each.
+const MOST_CHAINED: usize = 1_000_000;
 
 /// Adds a member that is a string, or null.
 fn add_text(text: &mut String, name: &str, value: Option<&str>) -> Result<(), AllocError> {
@@ -128,26 +131,47 @@ fn add_certificates(
     Ok(())
 }
 
-/// Adds the members of a private key, whose chain begins with the certificate at this place.
-fn add_private_key(
+/// Adds the chain that begins with the certificate at this place, and returns how many certificates it has.
+fn add_chain(
     alloc: Global,
     text: &mut String,
     certificates: &Certificates<'_>,
-    label: &Label,
-    start: Option<usize>,
-) -> Result<(), AllocError> {
-    add_text(text, "friendly_name", label.friendly_name())?;
+    start: usize,
+) -> Result<usize, AllocError> {
+    let chain = certificates.chain_from(alloc, start)?;
     text.push_str(", \"chain\": [")?;
-    let mut whole = false;
-    if let Some(start) = start {
-        let chain = certificates.chain_from(alloc, start)?;
-        whole = is_whole(certificates.views(), chain.as_slice());
-        for (at, place) in chain.as_slice().iter().enumerate() {
-            let comma = if at == 0 { "" } else { ", " };
-            write!(text, "{comma}\"cert-{place}\"")?;
-        }
+    for (at, place) in chain.as_slice().iter().enumerate() {
+        let comma = if at == 0 { "" } else { ", " };
+        write!(text, "{comma}\"cert-{place}\"")?;
     }
-    write!(text, "], \"is_whole\": {whole}}}")
+    let whole = is_whole(certificates.views(), chain.as_slice());
+    write!(text, "], \"is_whole\": {whole}")?;
+    Ok(chain.len())
+}
+
+/// Adds the private keys, each with its chain.
+fn add_private_keys(
+    alloc: Global,
+    text: &mut String,
+    certificates: &Certificates<'_>,
+    labels: &Listing,
+) -> Result<(), AllocError> {
+    let pairs = labels.pairs(alloc)?;
+    let mut left = MOST_CHAINED;
+    for (place, label) in labels.keys.as_slice().iter().enumerate() {
+        add_comma(text, place)?;
+        write!(text, "{{\"name\": \"key-{place}\"")?;
+        add_text(text, "friendly_name", label.friendly_name())?;
+        match pairs.get(place).copied().unwrap_or(None) {
+            Some(start) if left > 0 => {
+                left = left.saturating_sub(add_chain(alloc, text, certificates, start)?);
+            }
+            Some(_) => text.push_str(", \"chain\": null, \"is_whole\": null")?,
+            None => text.push_str(", \"chain\": [], \"is_whole\": false")?,
+        }
+        text.push_str("}")?;
+    }
+    Ok(())
 }
 
 /// The certificates and private keys of a store and the kinds of what else it holds, as one object.
@@ -160,13 +184,7 @@ pub fn listed_json(
     let mut text = String::from_str(alloc, "{\n  \"certificates\": [")?;
     add_certificates(alloc, &mut text, certificates, labels, now)?;
     text.push_str("],\n  \"private_keys\": [")?;
-    let pairs = labels.pairs(alloc)?;
-    for (place, label) in labels.keys.as_slice().iter().enumerate() {
-        add_comma(&mut text, place)?;
-        write!(text, "{{\"name\": \"key-{place}\"")?;
-        let start = pairs.get(place).copied().unwrap_or(None);
-        add_private_key(alloc, &mut text, certificates, label, start)?;
-    }
+    add_private_keys(alloc, &mut text, certificates, labels)?;
     text.push_str("],\n  \"not_listed\": [")?;
     add_others_json(&mut text, labels.others.as_slice())?;
     text.push_str("]\n}\n")?;

@@ -1,6 +1,7 @@
 //! What `list` says, as text.
 use crate::chain::is_whole;
 use crate::listed::{Certificate, Certificates, Validity, When};
+use crate::printed_chains::PrintedChains;
 use crate::public_key::PublicKey;
 use inventory_core::Parent;
 use std::alloc::{AllocError, Global};
@@ -9,20 +10,51 @@ use std::fmt::Write;
 use store_inspection::{Label, Listing, add_others_text};
 use terminal_text::{Hexadecimal, InQuotes, Printable};
 
-/// The digits of a serial number, given by its value octets: without the octet that keeps it from being negative.
+/// The most octets of a serial number that are printed.
+const MOST_OCTETS: usize = 100;
+
+/// The value octets of a serial number without the one that keeps it from being negative.
+fn without_sign(octets: &[u8]) -> &[u8] {
+    match octets {
+        [0, more @ ..] if !more.is_empty() => more,
+        all => all,
+    }
+}
+
+/// The digits of a serial number, given by its value octets.
 #[derive(Clone, Copy)]
 pub struct SerialNumber<'a>(pub &'a [u8]);
 
 impl fmt::Display for SerialNumber<'_> {
     fn fmt<W: fmt::Write>(&self, f: &mut fmt::Formatter<W>) -> fmt::Result {
-        let octets = match self.0 {
-            [0, more @ ..] if !more.is_empty() => more,
-            all => all,
-        };
-        for octet in octets {
+        for octet in without_sign(self.0) {
             write!(f, "{octet:02X}")?;
         }
         Ok(())
+    }
+}
+
+/// The octets that are shown.
+fn front_of(octets: &[u8]) -> &[u8] {
+    if octets.len() <= MOST_OCTETS {
+        octets
+    } else {
+        &octets[..MOST_OCTETS]
+    }
+}
+
+/// The same for people: the digits of the first 100 octets, and how many octets there are where there are more.
+#[derive(Clone, Copy)]
+struct ShortSerialNumber<'a>(&'a [u8]);
+
+impl fmt::Display for ShortSerialNumber<'_> {
+    fn fmt<W: fmt::Write>(&self, f: &mut fmt::Formatter<W>) -> fmt::Result {
+        let octets = without_sign(self.0);
+        SerialNumber(front_of(octets)).fmt(f)?;
+        if octets.len() <= MOST_OCTETS {
+            return Ok(());
+        }
+        write!(f, ".. ({} octets)", octets.len())
     }
 }
 
@@ -77,7 +109,7 @@ fn add_certificate(
     writeln!(
         text,
         "  serial number: {}",
-        SerialNumber(certificate.serial_number)
+        ShortSerialNumber(certificate.serial_number)
     )?;
     if let Some(validity) = &certificate.validity {
         add_validity(text, validity, now)?;
@@ -94,18 +126,30 @@ fn add_certificate(
     add_parent(text, certificate.parent)
 }
 
-/// Adds the chain of a private key, which begins with the certificate at this place.
+/// Adds the chain of the private key of this number, which begins with the certificate at this place. A chain is printed once.
 fn add_chain(
     alloc: Global,
     text: &mut String,
-    certificates: &Certificates<'_>,
+    printed: &mut PrintedChains<'_>,
+    key: usize,
     start: Option<usize>,
 ) -> Result<(), AllocError> {
     let Some(start) = start else {
         return text.push_str("  chain: no certificate of this store has its local key id\n");
     };
+    if let Some(before) = printed.note(start, key) {
+        return writeln!(text, "  chain: as key-{before}");
+    }
+    if printed.left == 0 {
+        return writeln!(
+            text,
+            "  chain: cert-{start} and its issuers, which are named above"
+        );
+    }
     text.push_str("  chain:")?;
+    let certificates = printed.certificates;
     let chain = certificates.chain_from(alloc, start)?;
+    printed.left = printed.left.saturating_sub(chain.len());
     for place in chain.as_slice() {
         write!(text, " cert-{place}")?;
     }
@@ -132,12 +176,13 @@ pub fn listed_text(
         add_name(&mut text, labels.certificates.get(place))?;
     }
     let pairs = labels.pairs(alloc)?;
+    let mut printed = PrintedChains::new(alloc, certificates)?;
     for (place, label) in labels.keys.as_slice().iter().enumerate() {
         writeln!(text, "key-{place}")?;
         add_name(&mut text, Some(label))?;
         let start = pairs.get(place).copied().unwrap_or(None);
-        add_chain(alloc, &mut text, certificates, start)?;
+        add_chain(alloc, &mut text, &mut printed, place, start)?;
     }
-    add_others_text(&mut text, "not listed", labels.others.as_slice())?;
+    add_others_text(alloc, &mut text, "not listed", labels.others.as_slice())?;
     Ok(text)
 }

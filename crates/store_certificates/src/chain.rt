@@ -1,4 +1,5 @@
 //! The chains of private keys, each as one PEM file: the key's certificate first, and then its issuers.
+use crate::chain_error::ChainError;
 use asn1_core::{Items, Octets};
 use inventory_core::{CertificateView, SubjectIndex};
 use pem_text::pem_of;
@@ -6,6 +7,9 @@ use std::alloc::{AllocError, Global};
 use std::fmt::Write;
 use std::io;
 use store_inspection::Listing;
+
+/// The most octets that the certificates of all chains have together, since each of thousands of keys may have a chain of thousands.
+const MOST_OCTETS: usize = 268_435_456;
 
 /// The chain of a private key.
 #[derive(Drop)]
@@ -39,25 +43,44 @@ pub fn is_whole(views: &[Option<CertificateView<'_>>], places: &[usize]) -> bool
     }
 }
 
-/// For each private key its chain; none where no certificate of the store has its local key id.
+/// How many octets the certificates at these places have together.
+fn octets_at(certificates: &[Octets], places: &[usize]) -> usize {
+    let mut sum = 0usize;
+    for place in places {
+        if let Some(certificate) = certificates.get(*place) {
+            sum = sum.saturating_add(certificate.len());
+        }
+    }
+    sum
+}
+
+/// For each private key its chain; none where no certificate of the store has its local key id. `TooMuch` where the certificates of
+/// all chains have more than 268,435,456 octets together.
 pub fn chains(
     alloc: Global,
     certificates: &[Octets],
     found: &Listing,
-) -> Result<Vec<Option<Chain>>, AllocError> {
+) -> Result<Vec<Option<Chain>>, ChainError> {
     let views = views_of(alloc, certificates)?;
     let index = SubjectIndex::new(alloc, views.as_slice())?;
     let mut chains = Vec::new(alloc);
+    let mut octets = 0usize;
     for start in found.pairs(alloc)?.iter() {
         let chain = match start {
             Some(start) => {
                 let places = index.chain_from(alloc, *start)?;
+                octets = octets.saturating_add(octets_at(certificates, places.as_slice()));
+                if octets > MOST_OCTETS {
+                    return Err(ChainError::TooMuch);
+                }
                 let is_whole = is_whole(views.as_slice(), places.as_slice());
                 Some(Chain { places, is_whole })
             }
             None => None,
         };
-        chains.push(chain)?;
+        if let Err(refused) = chains.push(chain) {
+            return Err(AllocError::from(refused).into());
+        }
     }
     Ok(chains)
 }

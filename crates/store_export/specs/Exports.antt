@@ -1,9 +1,9 @@
 -- What export makes of a store, and when it makes nothing.
-use Rattle.std.specs.Prelude.{ℕ, ◌≤◌, ◌<◌, ◌≡◌, ◌⊎◌, ◌+◌, ◌*◌, ◌≢◌, List, [], Option, None, length, IfSome, IfNone, IsSome, IsTrue, IsFalse}
+use Rattle.std.specs.Prelude.{ℕ, Bool, true, false, ◌≤◌, ◌<◌, ◌≡◌, ◌⊎◌, ◌+◌, ◌*◌, ◌≢◌, List, [], Option, None, length, IfSome, IfNone, IsSome, IsTrue, IsFalse}
 use Rattle.p12.specs.declared.safe_bag.SafeBag.{SafeBag}
-use Rattle.store_export.specs.declared.export.Export.{Export}
-use Rattle.store_export.specs.declared.target.Part.{Part}
-use Rattle.store_export.specs.declared.target.Part.TheVariants.{Whole, Keys, Certificates}
+use Rattle.pkcs12_arguments.specs.declared.export.Export.{Export}
+use Rattle.pkcs12_arguments.specs.declared.target.Part.{Part}
+use Rattle.pkcs12_arguments.specs.declared.target.Part.TheVariants.{Whole, Keys, Certificates}
 use Rattle.store_opening.specs.declared.ending.Ending.{Ending}
 use Rattle.store_opening.specs.declared.ending.Ending.TheVariants.{NewPasswordMissing, NotExported, TooManyFiles, SealLimit, Refused}
 use Rattle.store_opening.specs.Ending.{FailsToOpen}
@@ -25,6 +25,17 @@ keys_in Whole all = all
 keys_in Keys all = all
 keys_in Certificates all = []
 
+-- how many files of chains there may be for so many private keys: one for each, where chains are asked
+-- for
+unfoldable pub chains_in : Bool → ℕ → ℕ
+chains_in true keys = keys
+chains_in false keys = 0
+
+-- how many files there may be
+abbrev pub files_in : Export → ℕ → ℕ → ℕ
+files_in asked certificates keys =
+    certificates_in asked.target.part certificates + keys + chains_in asked.target.chain keys
+
 -- ---- The bounds, in the order in which they are looked at. `others` is how many bags the store has
 -- that are not exported, `certificates` how many certificates, and `keys` how many private keys are in
 -- the part of it that is asked for.
@@ -32,23 +43,28 @@ keys_in Certificates all = []
 abbrev pub AreOthersAllowed : Export → ℕ → Type 0
 AreOthersAllowed asked others = 0 < others → IsTrue asked.bounds.skip_others
 
+-- there is something to write
+abbrev pub IsSomeWritten : Export → ℕ → ℕ → Type 0
+IsSomeWritten asked certificates keys = 0 < certificates_in asked.target.part certificates + keys
+
 abbrev pub AreFilesAllowed : Export → ℕ → ℕ → Type 0
-AreFilesAllowed asked certificates keys =
-    certificates_in asked.target.part certificates + keys ≤ asked.bounds.most_files
+AreFilesAllowed asked certificates keys = files_in asked certificates keys ≤ asked.bounds.most_files
 
 abbrev pub AreRoundsAllowed : Export → ℕ → Type 0
 AreRoundsAllowed asked keys = keys * asked.rounds ≤ asked.bounds.seal_limit
 
 abbrev pub IsWithin : Export → ℕ → ℕ → ℕ → Type 0
 IsWithin asked others certificates keys = AreOthersAllowed asked others
-    × AreFilesAllowed asked certificates keys × AreRoundsAllowed asked keys
+    × IsSomeWritten asked certificates keys × AreFilesAllowed asked certificates keys × AreRoundsAllowed asked keys
 
 -- The failure of what is outside the bounds: the first of them that it is outside of.
 abbrev pub IsOutside : Export → ℕ → ℕ → ℕ → Ending → Type 0
 IsOutside asked others certificates keys ending =
     ((ending ≡ NotExported) × (0 < others) × IsFalse asked.bounds.skip_others)
+    ⊎ ((ending ≡ NotExported) × AreOthersAllowed asked others
+    × (certificates_in asked.target.part certificates + keys ≡ 0))
     ⊎ ((ending ≡ TooManyFiles) × AreOthersAllowed asked others
-    × (asked.bounds.most_files < certificates_in asked.target.part certificates + keys))
+    × (asked.bounds.most_files < files_in asked certificates keys))
     ⊎ ((ending ≡ SealLimit) × AreOthersAllowed asked others
     × AreFilesAllowed asked certificates keys
     × (asked.bounds.seal_limit < keys * asked.rounds))

@@ -3,12 +3,11 @@ ghost use Rattle.std.specs.Prelude.{◌≡◌, ◌≤◌, ◌*◌, ◌↔◌, �
 ghost use Rattle.std.specs.Option.{ForSome};
 ghost use Rattle.transfer.specs.Opening.{all_certificates};
 ghost use Rattle.transfer.specs.Transferred.{SealsOpened};
-ghost use Rattle.store_export.specs.Exports.{Exports, FailsToExport, FailsToSeal, IsOutside, IsWithin, certificates_in, keys_in};
+ghost use Rattle.store_export.specs.Exports.{Exports, FailsToExport, FailsToSeal, IsOutside, IsWithin, certificates_in, chains_in, keys_in};
 
-use crate::export::Export;
 use crate::sealing::{certificates_alone, sealed_store};
-use crate::target::Part;
 use command_base::Password;
+use pkcs12_arguments::{Export, Part};
 use std::alloc::Global;
 use std::rt::{Env, Files};
 use store_inspection::{Listing, not_exported};
@@ -72,6 +71,18 @@ fn has_more(alloc: Global, found: &Listing) -> Failure
     )
 }
 
+/// The failure of a store that has nothing of the part that is asked for.
+fn nothing_to_write(part: Part) -> Failure
+    ensures { result.ending ≡ Ending.NotExported }
+{
+    let text = match part {
+        Part::Whole => "the store has no certificate and no private key, so nothing was written",
+        Part::Keys => "the store has no private key, so nothing was written",
+        Part::Certificates => "the store has no certificate, so nothing was written",
+    };
+    Failure::new(Ending::NotExported, text).advised("To see what is in it: pkcs12 check STORE")
+}
+
 /// The failure of a store with too many certificates and private keys.
 fn too_many_files(alloc: Global, certificates: usize, keys: usize, most: u64) -> Failure
     ensures { (result.ending ≡ Ending.TooManyFiles) ⊎ (result.ending ≡ Ending.Memory) }
@@ -79,7 +90,7 @@ fn too_many_files(alloc: Global, certificates: usize, keys: usize, most: u64) ->
     let certificates = Counted(certificates, "certificate");
     let keys = Counted(keys, "private key");
     let text = format!(in alloc;
-        "the store has {certificates} and {keys}, and --most-files allows {most}"
+        "the store has {certificates} and {keys}, and --most-files allows {most} files, with a chain for each key where --chain is given"
     );
     Failure::told(Ending::TooManyFiles, text)
 }
@@ -116,8 +127,16 @@ fn certificates_in(part: Part, all: usize) -> usize
     }
 }
 
-/// That a store is exported within these bounds: it has no other bags, unless these are skipped; the
-/// certificates and so many private keys, as far as they are asked for, are not too many files; and
+/// How many files of chains there may be for so many private keys.
+#[tactic(auto, unfolding(crate::specs::Exports::chains_in))]
+fn chains_in(chain: bool, keys: usize) -> usize
+    ensures { result ≡ chains_in chain keys }
+{
+    if chain { keys } else { 0 }
+}
+
+/// That a store is exported within these bounds: it has no other bags, unless these are skipped; it has something of what is asked
+/// for; the certificates and so many private keys, as far as they are asked for, are not too many files; and
 /// these keys do not take too many rounds. The failure is that of the first bound that it is outside of.
 fn within_bounds(
     alloc: Global,
@@ -136,7 +155,12 @@ fn within_bounds(
         return Err(has_more(alloc, found));
     }
     let certificates = certificates_in(asked.target.part, found.certificates.len());
-    if certificates as u128 + keys as u128 > u128::from(bounds.most_files) {
+    if certificates == 0 && keys == 0 {
+        return Err(nothing_to_write(asked.target.part));
+    }
+    let chains = chains_in(asked.target.chain, keys);
+    let files = certificates as u128 + keys as u128 + chains as u128;
+    if files > u128::from(bounds.most_files) {
         return Err(too_many_files(alloc, certificates, keys, bounds.most_files));
     }
     if !is_within(keys, asked.rounds, bounds.seal_limit) {

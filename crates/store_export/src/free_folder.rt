@@ -1,7 +1,8 @@
 //! The place of the output.
-use crate::export::Export;
 use command_base::Origin;
-use std::rt::Files;
+use pkcs12_arguments::Export;
+use std::fs::File;
+use std::rt::{Env, Files};
 use store_opening::{Failure, Surroundings, inputs_differ, path_of_store};
 use store_output::Folder;
 
@@ -20,7 +21,7 @@ fn password_stays<R: Files + AllocGlobal>(
 /// The folder that is to be made, where it may be made and no file that is read would go with it. It is looked at before any
 /// work is done. `Usage` where the store and the passwords come from one input, or `--force` would remove a file that is read;
 /// `OutputExists` or `WriteFault` where the folder cannot be made.
-pub fn find_folder<'a, R: Files + Eprint + AllocGlobal + Clone + Drop>(
+pub fn find_folder<'a, R: Files<File = File> + Env + Eprint + AllocGlobal + Clone + Drop>(
     rt: &R,
     around: Surroundings,
     asked: &Export<'a>,

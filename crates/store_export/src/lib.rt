@@ -2,18 +2,14 @@
 //! a new password, and the files.
 #![tactic(auto)]
 
-mod export;
 mod exporting;
 mod free_folder;
 mod progress;
 mod sealing;
-mod target;
 mod telling;
 mod written_files;
 
-pub use export::{Bounds, Export};
 pub use exporting::{Exported, needs_new_password, new_password, open_and_seal};
 pub use free_folder::find_folder;
-pub use target::{Format, Layout, Part, Target};
 pub use telling::tell_exported;
 pub use written_files::Output;

@@ -1,5 +1,5 @@
 //! What is said of an export that is done.
-use crate::export::Export;
+use pkcs12_arguments::Export;
 use store_inspection::{Listing, summary, warnings};
 use store_opening::{Failure, Surroundings};
 

@@ -1,24 +1,24 @@
 //! The files of the output folder.
 use crate::exporting::Exported;
-use crate::target::{Format, Layout, Part, Target};
 use asn1_core::Octets;
 use command_base::Attributes;
 use pem_text::pem_of;
+use pkcs12_arguments::{Format, Layout, Part, Target};
 use std::alloc::Global;
-use std::fs::{OpenFile, OpenOptions};
+use std::fs::{File, OpenOptions};
 use std::io;
 use std::io::Write;
 use std::os::unix::fs::OpenOptionsExt;
 use std::rt::Files;
 use store_inspection::Label;
-use store_output::{ALL, Folder, Kind, file_name, sync_folder};
+use store_output::{ALL, Folder, Kind, NewFolder, file_name, sync_folder};
 use transfer::Transferred;
 
 /// What is written, and where: into the folder at `part`, which becomes this one.
 #[derive(Clone, Copy)]
 pub struct Output<'a> {
     pub folder: &'a Folder<'a>,
-    pub part: &'a str,
+    pub part: &'a NewFolder,
     pub target: &'a Target<'a>,
 }
 
@@ -39,21 +39,21 @@ fn attributes_of(folder: &Folder<'_>, kind: Kind) -> Option<Attributes> {
 }
 
 /// Gives a new file what is kept.
-fn keep<R: Files>(rt: &R, place: Place<'_>, path: &str, file: &R::File) -> io::Result<()> {
+fn keep(place: Place<'_>, file: &File) -> io::Result<()> {
     if let Some(kept) = attributes_of(place.output.folder, place.kind) {
-        return kept.give_to_file(rt, path, file);
+        return kept.give(file);
     }
     match place.output.folder.kept {
         Some(kept) if kept.folder.passes_group_on() => {
             let made = Attributes::of_file(&file.metadata()?);
-            made.with_group_of(kept.folder).give_to_file(rt, path, file)
+            made.with_group_of(kept.folder).give(file)
         }
         _ => Ok(()),
     }
 }
 
 /// Makes a file that was not there, which only its owner may read.
-fn create<R: Files>(rt: &R, path: &str) -> io::Result<R::File> {
+fn create<R: Files<File = File>>(rt: &R, path: &str) -> io::Result<File> {
     OpenOptions::new()
         .write(true)
         .create_new(true)
@@ -62,23 +62,23 @@ fn create<R: Files>(rt: &R, path: &str) -> io::Result<R::File> {
 }
 
 /// Gives a file that is written what is kept, and brings it to the disk.
-fn finish<R: Files>(rt: &R, place: Place<'_>, path: &str, file: &R::File) -> io::Result<()> {
-    keep(rt, place, path, file)?;
+fn finish(place: Place<'_>, file: &File) -> io::Result<()> {
+    keep(place, file)?;
     file.sync_all()
 }
 
 /// Writes a file that was not there, which only its owner may read unless more is kept.
-fn write_new<R: Files + AllocGlobal>(
+fn write_new<R: Files<File = File> + AllocGlobal>(
     rt: &R,
     place: Place<'_>,
     name: &str,
     octets: &[u8],
 ) -> io::Result<()> {
-    let part = place.output.part;
+    let part = place.output.part.as_str();
     let path = format!(in rt.alloc(); "{part}/{name}")?;
     let mut file = create(rt, path.as_str())?;
     file.write_all(octets)?;
-    finish(rt, place, path.as_str(), &file)
+    finish(place, &file)
 }
 
 /// The PEM text of one of these.
@@ -90,7 +90,7 @@ fn pem(alloc: Global, kind: Kind, octets: &[u8]) -> io::Result<Octets> {
 }
 
 /// Writes one of them under its number.
-fn write_one<R: Files + AllocGlobal>(
+fn write_one<R: Files<File = File> + AllocGlobal>(
     rt: &R,
     place: Place<'_>,
     number: usize,
@@ -114,7 +114,7 @@ fn write_one<R: Files + AllocGlobal>(
 }
 
 /// Writes each of these.
-fn write_each<R: Files + AllocGlobal>(
+fn write_each<R: Files<File = File> + AllocGlobal>(
     rt: &R,
     place: Place<'_>,
     each: &[Octets],
@@ -127,9 +127,9 @@ fn write_each<R: Files + AllocGlobal>(
 }
 
 /// Adds the PEM text of each of these to the file.
-fn add_each<R: Files + AllocGlobal>(
+fn add_each<R: Files<File = File> + AllocGlobal>(
     rt: &R,
-    file: &mut R::File,
+    file: &mut File,
     kind: Kind,
     each: &[Octets],
 ) -> io::Result<()> {
@@ -140,18 +140,18 @@ fn add_each<R: Files + AllocGlobal>(
 }
 
 /// Writes all of these into one file: the private keys, and then the certificates.
-fn write_all<R: Files + AllocGlobal>(
+fn write_all<R: Files<File = File> + AllocGlobal>(
     rt: &R,
     place: Place<'_>,
     certificates: &[Octets],
     documents: &[Octets],
 ) -> io::Result<()> {
-    let part = place.output.part;
+    let part = place.output.part.as_str();
     let path = format!(in rt.alloc(); "{part}/{ALL}")?;
     let mut file = create(rt, path.as_str())?;
     add_each(rt, &mut file, Kind::Key, documents)?;
     add_each(rt, &mut file, Kind::Certificate, certificates)?;
-    finish(rt, place, path.as_str(), &file)
+    finish(place, &file)
 }
 
 /// The certificates that are written.
@@ -168,7 +168,11 @@ impl<'a> Output<'a> {
     }
 
     /// Writes the certificates and the private keys, as the target asks for them.
-    pub fn write<R: Files + AllocGlobal>(self, rt: &R, exported: &Exported) -> io::Result<()> {
+    pub fn write<R: Files<File = File> + AllocGlobal>(
+        self,
+        rt: &R,
+        exported: &Exported,
+    ) -> io::Result<()> {
         let certificates = certificates_of(self.target.part, &exported.transferred);
         let documents = exported.transferred.documents.as_slice();
         if matches!(self.target.layout, Layout::OneFile) {
@@ -181,7 +185,7 @@ impl<'a> Output<'a> {
     }
 
     /// Writes the chain of the private key of this number, as PEM text.
-    pub fn write_chain<R: Files + AllocGlobal>(
+    pub fn write_chain<R: Files<File = File> + AllocGlobal>(
         self,
         rt: &R,
         number: usize,
@@ -192,10 +196,10 @@ impl<'a> Output<'a> {
     }
 
     /// Gives the folder what is kept of the one that it replaces, and brings it to the disk.
-    pub fn end<R: Files + AllocGlobal>(self, rt: &R) -> io::Result<()> {
+    pub fn end<R: Files<File = File> + AllocGlobal>(self, rt: &R) -> io::Result<()> {
         if let Some(kept) = &self.folder.kept {
-            kept.folder.give_to_folder(rt, self.part)?;
+            self.part.give(rt, *kept)?;
         }
-        sync_folder(rt, self.part)
+        sync_folder(rt, self.part.as_str())
     }
 }

@@ -1,5 +1,5 @@
 -- Lemmas on the first place of an element.
-use Rattle.std.proofs.Common.{◌≡◌, ℕ, ◌+◌, ◌<◌, option_and_then, List, [], ◌∷◌, ◌++◌, Bool, true, false, Option, Some, None, length, get_or, take, position, refl, add-one, arith, length-take, bytes_eq}
+use Rattle.std.proofs.Common.{◌≡◌, ℕ, ◌+◌, ◌<◌, List, [], ◌∷◌, ◌++◌, Bool, false, Option, Some, length, get_or, take, position, refl, add-one, arith, length-take, bytes_eq}
 use Rattle.std.specs.Option.{is_some}
 use Rattle.std.specs.Map.{update}
 use Rattle.std.proofs.Math.Seq.{take-suc}
@@ -21,17 +21,3 @@ position_take p xs i d h = let l : length (take i xs) ≡ i = grind (arith, comm
 -- a map that is set at an id that had no place
 pub noted : (f : List ℕ → Option ℕ) (id q : List ℕ) (place : ℕ) → false ≡ is_some (f id) → update bytes_eq f id (Some place) q ≡ first_of (f q) (bytes_eq q id) place
 noted f id q place n = grind (arith, common_steps, bytes_eq-Decides)
-
--- a map that stays, since the id has a place
-pub noted_before : (f : List ℕ → Option ℕ) (id q : List ℕ) (place : ℕ) → true ≡ is_some (f id) → f q ≡ first_of (f q) (bytes_eq q id) place
-noted_before f id q place n = grind (arith, common_steps, bytes_eq-Decides)
-
--- a map that stays, since there is no id
-pub noted_nothing : (old : Option ℕ) (place : ℕ) → old ≡ first_of old false place
-noted_nothing None place = refl
-noted_nothing (Some n) place = refl
-
--- under one function for another that gives the same
-pub and_then_alike : (f g : List ℕ → Option ℕ) → ((id : List ℕ) → f id ≡ g id) → (o : Option (List ℕ)) → option_and_then f o ≡ option_and_then g o
-and_then_alike f g e None = refl
-and_then_alike f g e (Some id) = e id

@@ -1,9 +1,9 @@
-//! The names of algorithms under which nothing is opened.
+//! The names of algorithms.
 use asn1_core::{
     Error, ObjectIdentifier, SliceReader, Tag, read_identifier, read_inner, read_uint,
 };
 use p12::AlgorithmView;
-use pkcs5::pbes2::{PBES2_OID, PBKDF2_OID, Parameters};
+use pkcs5::pbes2::{Kdf, PBES2_OID, PBKDF2_OID, Parameters, Pbkdf2Prf};
 use std::fmt;
 
 /// Identifiers that stores of other programs have, and their names: schemes of encryption and MACs
@@ -182,6 +182,59 @@ impl fmt::Display for AlgorithmName<'_> {
                 params: Some(params),
             } if *algorithm_type == PBES2_OID => Pbes2Named(params).fmt(f),
             AlgorithmView::Other { algorithm_type, .. } => Named(*algorithm_type).fmt(f),
+        }
+    }
+}
+
+/// The name of a pseudorandom function.
+fn prf_name(prf: Pbkdf2Prf) -> &'static str {
+    match prf {
+        Pbkdf2Prf::HmacWithSha1 => "HMAC-SHA-1",
+        Pbkdf2Prf::HmacWithSha224 => "HMAC-SHA-224",
+        Pbkdf2Prf::HmacWithSha256 => "HMAC-SHA-256",
+        Pbkdf2Prf::HmacWithSha384 => "HMAC-SHA-384",
+        Pbkdf2Prf::HmacWithSha512 => "HMAC-SHA-512",
+    }
+}
+
+/// A number of rounds.
+#[derive(Clone, Copy)]
+pub struct InRounds(pub u64);
+
+impl fmt::Display for InRounds {
+    fn fmt<W: fmt::Write>(&self, f: &mut fmt::Formatter<W>) -> fmt::Result {
+        match self.0 {
+            1 => f.write_str("1 round"),
+            count => write!(f, "{count} rounds"),
+        }
+    }
+}
+
+/// An algorithm that is opened, with its rounds and without its identifier; another by its name.
+#[derive(Drop)]
+pub struct InUse<'a>(pub &'a AlgorithmView<'a>);
+
+impl fmt::Display for InUse<'_> {
+    fn fmt<W: fmt::Write>(&self, f: &mut fmt::Formatter<W>) -> fmt::Result {
+        match self.0 {
+            AlgorithmView::Sha1 => f.write_str("SHA-1"),
+            AlgorithmView::Sha256 => f.write_str("SHA-256"),
+            AlgorithmView::TripleDes { iterations, .. } => {
+                let rounds = InRounds(*iterations);
+                write!(f, "Triple DES with a key from SHA-1, {rounds}")
+            }
+            AlgorithmView::Pbes2(
+                Parameters {
+                    kdf: Kdf::Pbkdf2(params),
+                    encryption,
+                },
+            ) => {
+                let prf = prf_name(params.prf);
+                let rounds = InRounds(u64::from(params.iteration_count));
+                let cipher = name_of(encryption.oid()).unwrap_or("another cipher");
+                write!(f, "PBES2 with PBKDF2 ({prf}, {rounds}) and {cipher}")
+            }
+            other => AlgorithmName(other).fmt(f),
         }
     }
 }

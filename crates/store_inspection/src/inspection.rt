@@ -18,7 +18,7 @@ use steps::Steps;
 const STORE_LIMIT: usize = 16_777_215;
 
 /// The contents of a store; None where its outer content is not data that lists contents.
-fn contents_in<'a>(store: &StoreView<'a>) -> Option<ContentsView<'a>> {
+pub(crate) fn contents_in<'a>(store: &StoreView<'a>) -> Option<ContentsView<'a>> {
     match store.auth_safe {
         ContentView::Plain { content, .. } => ContentsView::parse(content).ok(),
         ContentView::Encrypted { .. } | ContentView::Other { .. } => None,
@@ -116,6 +116,26 @@ fn contents_work(mut contents: ContentsView<'_>) -> u128 {
         work = work.saturating_add(content_work(&content));
     }
     work
+}
+
+/// Whether a content is encrypted, as a number.
+fn encrypted_in(content: &ContentView<'_>) -> usize {
+    match content {
+        ContentView::Encrypted { .. } => 1,
+        ContentView::Plain { .. } | ContentView::Other { .. } => 0,
+    }
+}
+
+/// How many contents of a store are encrypted; 0 where there is no store.
+pub fn encrypted_contents(store: &[u8]) -> usize {
+    let Some(mut contents) = contents_of(store) else {
+        return 0;
+    };
+    let mut count = 0usize;
+    while let Some(content) = contents.next() {
+        count = count.saturating_add(encrypted_in(&content));
+    }
+    count
 }
 
 /// The rounds of the MAC of a store; 0 where there is no store or no MAC.

@@ -1,4 +1,5 @@
 //! What a store holds, in JSON (RFC 8259).
+use crate::algorithms::Algorithms;
 use crate::listing::{Label, Listing};
 use crate::other_bag::OtherBag;
 use std::alloc::{AllocError, Global};
@@ -56,15 +57,16 @@ pub fn add_others_json(text: &mut String, others: &[OtherBag]) -> Result<(), All
     Ok(())
 }
 
-/// The certificates, the private keys and what is not exported of a store, as one object. Names are
-/// whole.
-pub fn json(alloc: Global, found: &Listing) -> Result<String, AllocError> {
+/// The certificates, the private keys, what is not exported and the algorithms of a store, as one object. Names are whole.
+pub fn json(alloc: Global, found: &Listing, algorithms: &Algorithms) -> Result<String, AllocError> {
     let mut text = String::from_str(alloc, "{\n  \"certificates\": [")?;
     add_certificates(&mut text, found.certificates.as_slice())?;
     text.push_str("],\n  \"private_keys\": [")?;
     add_keys(alloc, &mut text, found)?;
     text.push_str("],\n  \"not_exported\": [")?;
     add_others_json(&mut text, found.others.as_slice())?;
-    text.push_str("]\n}\n")?;
+    text.push_str("]")?;
+    algorithms.add_json(&mut text)?;
+    text.push_str("\n}\n")?;
     Ok(text)
 }

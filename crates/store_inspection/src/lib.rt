@@ -3,6 +3,7 @@
 #![tactic(auto)]
 
 mod algorithm_name;
+mod algorithms;
 mod certificate_shape;
 mod damage;
 mod detail;
@@ -16,9 +17,10 @@ mod other_bag;
 mod out_of_memory;
 mod summary_text;
 
+pub use algorithms::Algorithms;
 pub use damage::damaged;
 pub use detail::Detail;
-pub use inspection::{mac_rounds, mac_unsupported, unsupported, visible_work};
+pub use inspection::{encrypted_contents, mac_rounds, mac_unsupported, unsupported, visible_work};
 pub use json_text::{add_comma, add_others_json, json};
 pub use listing::{Label, Listing};
 pub use no_password::is_without_password;

@@ -39,6 +39,11 @@ impl OtherBag {
             _ => OtherBag::Unnamed(identifier),
         }
     }
+
+    /// Whether the bag is of a kind that RFC 7292 does not name.
+    pub fn is_unnamed(&self) -> bool {
+        matches!(self, OtherBag::Unnamed(_))
+    }
 }
 
 impl fmt::Display for OtherBag {

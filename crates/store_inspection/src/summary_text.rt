@@ -13,6 +13,9 @@ const COUNTED: [OtherBag; 5] = [
     OtherBag::SdsiCertificate,
 ];
 
+/// The most lines that say the same of one certificate or kind of bag after the other.
+const MOST_LINES: usize = 20;
+
 /// What is said of a bag that `export` does not write.
 const NOT_EXPORTED: &str = "not exported";
 
@@ -53,18 +56,55 @@ fn add_keys(alloc: Global, text: &mut String, found: &Listing) -> Result<(), All
     Ok(())
 }
 
-/// Adds a line for what is exported as a certificate and is none.
+/// Adds a line for what is exported as a certificate and is none, and one for how many more there are.
 fn add_no_certificates(text: &mut String, certificates: &[Label]) -> Result<(), AllocError> {
-    for (place, label) in certificates.iter().enumerate() {
-        if label.is_no_certificate() {
-            writeln!(text, "warning: cert-{place} is no X.509 certificate")?;
-        }
+    let places = certificates.iter().enumerate();
+    for (place, label) in places
+        .filter(|each| each.1.is_no_certificate())
+        .take(MOST_LINES)
+    {
+        writeln!(text, "warning: cert-{place} is no X.509 certificate")?;
     }
-    Ok(())
+    let count = certificates
+        .iter()
+        .filter(|each| each.is_no_certificate())
+        .count();
+    match count.saturating_sub(MOST_LINES) {
+        0 => Ok(()),
+        more => writeln!(text, "warning: {more} more are no X.509 certificates"),
+    }
+}
+
+/// Adds a line for each kind among these bags that RFC 7292 does not name, with their number, and one for the bags of further kinds.
+fn add_unnamed(
+    alloc: Global,
+    text: &mut String,
+    not_done: &str,
+    others: &[OtherBag],
+) -> Result<(), AllocError> {
+    let mut kinds: Vec<OtherBag> = Vec::new(alloc);
+    let mut more = 0usize;
+    for kind in others {
+        if !kind.is_unnamed() || kinds.iter().any(|each| each == kind) {
+            continue;
+        }
+        if kinds.len() >= MOST_LINES {
+            more = more.saturating_add(1);
+            continue;
+        }
+        let count = others.iter().filter(|each| *each == kind).count();
+        writeln!(text, "{not_done}: {count}, {kind}")?;
+        kinds.push(*kind)?;
+    }
+    match more {
+        0 => Ok(()),
+        more => writeln!(text, "{not_done}: {more}, bags of further kinds"),
+    }
 }
 
 /// Adds a line for each kind of these bags, with the number of these after what is not done with them.
 pub fn add_others_text(
+    alloc: Global,
     text: &mut String,
     not_done: &str,
     others: &[OtherBag],
@@ -75,12 +115,7 @@ pub fn add_others_text(
             writeln!(text, "{not_done}: {count}, {kind}")?;
         }
     }
-    for kind in others {
-        if let OtherBag::Unnamed(_) = kind {
-            writeln!(text, "{not_done}: 1, {kind}")?;
-        }
-    }
-    Ok(())
+    add_unnamed(alloc, text, not_done, others)
 }
 
 /// The numbers of certificates and private keys.
@@ -97,7 +132,7 @@ pub fn summary(alloc: Global, found: &Listing) -> Result<String, AllocError> {
     add_certificates(&mut text, found.certificates.as_slice())?;
     add_keys(alloc, &mut text, found)?;
     add_no_certificates(&mut text, found.certificates.as_slice())?;
-    add_others_text(&mut text, NOT_EXPORTED, found.others.as_slice())?;
+    add_others_text(alloc, &mut text, NOT_EXPORTED, found.others.as_slice())?;
     Ok(text)
 }
 
@@ -111,6 +146,6 @@ pub fn warnings(alloc: Global, found: &Listing) -> Result<String, AllocError> {
 /// Why a store with these bags is not exported.
 pub fn not_exported(alloc: Global, others: &[OtherBag]) -> Result<String, AllocError> {
     let mut text = String::from_str(alloc, "nothing was written, since the store has more:\n")?;
-    add_others_text(&mut text, NOT_EXPORTED, others)?;
+    add_others_text(alloc, &mut text, NOT_EXPORTED, others)?;
     String::from_str(alloc, text.as_str().trim_end())
 }

@@ -1,7 +1,7 @@
 -- How the command ends where it has not done what was asked.
 use Rattle.std.specs.Prelude.{ℕ, ◌≡◌, ◌⊎◌, List, Some}
 use Rattle.store_opening.specs.declared.ending.Ending.{Ending}
-use Rattle.store_opening.specs.declared.ending.Ending.TheVariants.{Usage, ReadFault, WriteFault, Memory, PasswordMissing, NewPasswordMissing, PasswordUnusable, OutputExists, SelfTestFailed, NotExported, SealLimit, TooManyFiles, Refused}
+use Rattle.store_opening.specs.declared.ending.Ending.TheVariants.{Usage, ReadFault, WriteFault, Memory, PasswordMissing, NewPasswordMissing, PasswordUnusable, OutputExists, SelfTestFailed, NotExported, SealLimit, TooManyFiles, Expiring, Refused}
 use Rattle.frame.specs.Status.{status_code}
 use Rattle.store_output.specs.declared.output_error.OutputErrorKind.{OutputErrorKind}
 use Rattle.store_output.specs.declared.output_error.OutputErrorKind.TheVariants as output
@@ -25,6 +25,7 @@ code_of SelfTestFailed = 24
 code_of NotExported = 25
 code_of SealLimit = 26
 code_of TooManyFiles = 27
+code_of Expiring = 29
 code_of (Refused refusal) = status_code (status_of refusal)
 
 -- the failure that an error of the output is

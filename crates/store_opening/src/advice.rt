@@ -4,30 +4,26 @@ use transfer::TransferError;
 
 /// How to make a store whose algorithms are opened.
 const EXPORT_ANEW: &str = "\
-Write the store anew with algorithms that are opened (OpenSSL handles one private key a store):
-    openssl pkcs12 -in STORE.p12 -out all.pem
-    openssl pkcs12 -export -in all.pem -out NEW.p12 -certpbe AES-256-CBC -keypbe AES-256-CBC -macalg sha256
-    rm all.pem
-Add -legacy to the first command if the store is under RC2, and to the second -nokeys if it has no \
-private key, or else -name NAME, since friendly names are lost on this way.";
+OpenSSL can write the store anew with algorithms that are opened, but keeps one private key of it, and no \
+friendly name. So count the keys first:
+    openssl pkcs12 -in STORE.p12 -nocerts -passout pass:count | grep -c BEGIN
+If there is one or none:
+    openssl pkcs12 -in STORE.p12 -out anew.pem
+    openssl pkcs12 -export -in anew.pem -out NEW.p12 -certpbe AES-256-CBC -keypbe AES-256-CBC -macalg sha256
+    rm anew.pem
+Add -legacy to the first two commands if the store is under RC2, and to the third -nokeys if it has no \
+private key, or else -name NAME. If there are more, Java's keytool keeps them all, with their names:
+    keytool -importkeystore -srckeystore STORE.p12 -destkeystore NEW.p12 -deststoretype PKCS12";
 
 const LOOK: &str = "\
 Look whether it is the right file. To see what is in it:
     openssl asn1parse -inform DER -in STORE.p12 | head
-OpenSSL can convert a store from BER to DER:
-    openssl pkcs12 -in STORE.p12 -out all.pem
-    openssl pkcs12 -export -in all.pem -out NEW.p12
-    rm all.pem
-Add to the second command -nokeys if the store has no private key, or else -name NAME, since \
-friendly names are lost on this way.";
+OpenSSL and keytool write a store that is in BER anew in DER, as the manual page says (EXAMPLES); OpenSSL \
+keeps one private key of it, and no friendly name.";
 
 const DAMAGED: &str = "\
-Have it exported again where it came from. If OpenSSL reads it, it can write it anew:
-    openssl pkcs12 -in STORE.p12 -out all.pem
-    openssl pkcs12 -export -in all.pem -out NEW.p12
-    rm all.pem
-Add to the second command -nokeys if the store has no private key, or else -name NAME, since \
-friendly names are lost on this way.";
+Have it exported again where it came from. If OpenSSL or keytool reads it, they can write it anew, as the \
+manual page says (EXAMPLES); OpenSSL keeps one private key of it, and no friendly name.";
 
 const NO_MAC: &str = "\
 Anybody may have changed it. Have it exported again, with a MAC, where it came from.
@@ -36,12 +32,8 @@ Only if you know from elsewhere that nobody changed it, write it anew as the man
 
 const OTHER_PASSWORD: &str = "\
 The certificates or keys have another password than the MAC, or are damaged. OpenSSL asks for \
-both passwords:
-    openssl pkcs12 -twopass -in STORE.p12 -out all.pem
-    openssl pkcs12 -export -in all.pem -out NEW.p12
-    rm all.pem
-Add to the second command -nokeys if the store has no private key, or else -name NAME, since \
-friendly names are lost on this way.";
+both passwords, and tells which it is:
+    openssl pkcs12 -twopass -in STORE.p12 -noout";
 
 const PASSWORD: &str = "\
 Run pkcs12 at a terminal, where it asks for it, or give it by one of these:
@@ -70,7 +62,7 @@ it anew, and then install it anew if it was installed:
 
 const NOT_EXPORTED: &str = "\
 Give --skip-others to export the rest. OpenSSL writes out a private key that is not encrypted too:
-    openssl pkcs12 -in STORE.p12 -out all.pem";
+    openssl pkcs12 -in STORE.p12 -out others.pem";
 
 impl Ending {
     /// The next command to type, or what to look at.
@@ -91,6 +83,7 @@ impl Ending {
                 "Give a larger --seal-limit, or fewer --rounds, which make a password easier to guess.",
             Ending::TooManyFiles =>
                 "If that is what you expect of the store, give a larger number.",
+            Ending::Expiring => "Have new certificates issued, and make a new store.",
             Ending::Refused(refusal) => advice_on_store(refusal),
         }
     }

@@ -38,6 +38,8 @@ pub enum Ending {
     SealLimit,
     /// The store has more certificates and private keys than `--most-files` allows.
     TooManyFiles,
+    /// A certificate ends within the days that are asked for.
+    Expiring,
     /// The store is refused.
     Refused(TransferError),
 }
@@ -61,6 +63,7 @@ impl Ending {
             Ending::NotExported => 25,
             Ending::SealLimit => 26,
             Ending::TooManyFiles => 27,
+            Ending::Expiring => 29,
             Ending::Refused(refusal) => Status::from(refusal).code(),
         }
     }
@@ -80,6 +83,7 @@ impl Ending {
             Ending::NotExported => "NotExported",
             Ending::SealLimit => "SealLimit",
             Ending::TooManyFiles => "TooManyFiles",
+            Ending::Expiring => "Expiring",
             Ending::Refused(refusal) => Status::from(refusal).name(),
         }
     }

@@ -16,8 +16,7 @@ use store_inspection::mac_rounds;
 use transfer::{OpenedSafe, TransferError};
 
 /// Where this variable is set, the script that started the program asks for a password that is
-/// missing and runs it again, so the program itself keeps silent. Its value may be the path by
-/// which the script gives the store's password in each run.
+/// missing and runs it again, so the program itself keeps silent.
 pub const ASKING: &str = "PKCS12_ASKING";
 
 /// The octets of a store, which nothing has looked at, and its password.
@@ -43,11 +42,10 @@ pub fn new_password_missing() -> Failure {
     )
 }
 
-/// Whether the password can be read once alone; the one that the script gives comes from
-/// `given_again`.
-fn is_password_read_once<R: Files>(rt: &R, origin: Origin<'_>, given_again: &str) -> bool {
+/// Whether the password can be read once alone.
+fn is_password_read_once<R: Files>(rt: &R, origin: Origin<'_>) -> bool {
     match origin {
-        Origin::File(path) => path != given_again && is_read_once(rt, path),
+        Origin::File(path) => is_read_once(rt, path),
         Origin::Variable(_) => false,
         Origin::Standard => true,
     }
@@ -59,14 +57,11 @@ pub fn is_not_given_again<R: Files + Env + AllocGlobal>(
     store: &str,
     password: Option<Origin<'_>>,
 ) -> bool {
-    let Ok(given_again) = env::var(rt, ASKING) else {
-        return false;
-    };
     match password {
-        Some(origin) => {
-            is_read_once(rt, store) || is_password_read_once(rt, origin, given_again.as_str())
+        Some(origin) if env::var(rt, ASKING).is_ok() => {
+            is_read_once(rt, store) || is_password_read_once(rt, origin)
         }
-        None => false,
+        Some(_) | None => false,
     }
 }
 

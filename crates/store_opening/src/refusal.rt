@@ -14,10 +14,13 @@ const WITHOUT_PASSWORD: &str = "\
 the store was made with no password at all, which is not the empty password";
 
 const OPENSSL: &str = "\
-OpenSSL opens it, if you press Enter at its question. Write it anew with a password:
-    openssl pkcs12 -in STORE.p12 -out all.pem
-    openssl pkcs12 -export -in all.pem -out NEW.p12 -certpbe AES-256-CBC -keypbe AES-256-CBC -macalg sha256
-    rm all.pem";
+OpenSSL opens it, if you press Enter at its question, and can write it anew with a password. It keeps one \
+private key of it, and no friendly name, so count the keys first:
+    openssl pkcs12 -in STORE.p12 -nocerts -passout pass:count | grep -c BEGIN
+If there is one or none:
+    openssl pkcs12 -in STORE.p12 -out anew.pem
+    openssl pkcs12 -export -in anew.pem -out NEW.p12 -certpbe AES-256-CBC -keypbe AES-256-CBC -macalg sha256
+    rm anew.pem";
 
 /// What a store was made with whose MAC does not agree under the empty password.
 fn mac_mismatch(

@@ -15,6 +15,8 @@ pub struct Kept {
     pub folder: Attributes,
     pub certificates: Option<Attributes>,
     pub keys: Option<Attributes>,
+    /// Whether there is an access control list in it, so that its mode is not kept: the new folder is for its owner alone.
+    pub is_listed: bool,
 }
 
 /// What a folder holds.
@@ -122,6 +124,7 @@ fn contents_of<R: Files + AllocGlobal + Clone + Drop>(
             folder: Attributes::of_folder(there),
             certificates: None,
             keys: None,
+            is_listed: false,
         },
         is_empty: true,
         foreign: None,
@@ -133,10 +136,12 @@ fn contents_of<R: Files + AllocGlobal + Clone + Drop>(
 }
 
 /// What a folder that is there keeps, and whether it holds something: one that is empty, or holds
-/// nothing but what `export` writes and may be replaced. `OutputExists` for anything else.
+/// nothing but what `export` writes and may be replaced. `OutputExists` for anything else. The folder is at `real`, and `path`
+/// is the path that was given.
 pub fn replaceable<R: Files + AllocGlobal + Clone + Drop>(
     rt: &R,
     path: &str,
+    real: &str,
     there: &Metadata,
     force: bool,
 ) -> Result<(Kept, bool), OutputError> {
@@ -148,10 +153,10 @@ pub fn replaceable<R: Files + AllocGlobal + Clone + Drop>(
         let error = in_the_way(alloc, path, "is there already, and is not a folder");
         return Err(error.advised(REMOVE));
     }
-    if is_mount_point(rt, path, there) {
+    if is_mount_point(rt, real, there) {
         return Err(is_a_mount_point(alloc, path));
     }
-    match contents_of(rt, path, there) {
+    match contents_of(rt, real, there) {
         Ok(contents) => contents.replaceable(alloc, path, force),
         Err(error) => Err(OutputError::write_fault(alloc, "the output folder", path, error)),
     }

@@ -4,7 +4,7 @@ use Rattle.std.specs.Option.{ForSome}
 use Rattle.std.proofs.lemmas.Result.{err_from_is_err_and}
 use Rattle.p12.specs.declared.safe_bag.SafeBag.{SafeBag}
 use Rattle.store_inspection.specs.Listed.{others_in}
-use Rattle.store_export.specs.declared.export.Export.{Export}
+use Rattle.pkcs12_arguments.specs.declared.export.Export.{Export}
 use Rattle.store_export.specs.Exports.{Exports, FailsToExport, FailsToSeal, IsOutside, IsWithin, keys_in}
 use Rattle.store_opening.specs.declared.ending.Ending.{Ending}
 use Rattle.store_opening.specs.declared.ending.Ending.TheVariants.{Memory}

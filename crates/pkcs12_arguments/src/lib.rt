@@ -1,0 +1,18 @@
+//! What the command `pkcs12` is asked for: its arguments, which clap reads, and its help.
+#![tactic(auto)]
+
+mod arguments_error;
+mod command_line;
+mod export;
+mod numbers;
+mod reading;
+mod rekey;
+mod request;
+mod target;
+
+pub use arguments_error::ArgumentsError;
+pub use export::{Bounds, Export};
+pub use reading::{Days, List, Reading};
+pub use rekey::{Rekey, UpgradeRounds};
+pub use request::{Request, request_of};
+pub use target::{Format, Layout, Part, Target};
