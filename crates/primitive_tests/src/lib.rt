@@ -44,6 +44,8 @@ mod printed;
 #[cfg(test)]
 mod scrypt_keys;
 #[cfg(test)]
+mod step_counter;
+#[cfg(test)]
 mod streams;
 #[cfg(test)]
 mod typed_der;

@@ -208,10 +208,10 @@ fn a_stream_is_written(rt: HostRuntime) {
     );
 }
 
-/// A reader whose first read is interrupted, and that gives the octet 7 from then on.
+/// A reader whose first read is interrupted. Each later one gives the number of the reads so far.
 #[derive(Drop)]
 struct InterruptedReader {
-    reads: u32,
+    reads: u8,
 }
 
 impl Read for InterruptedReader {
@@ -220,17 +220,18 @@ impl Read for InterruptedReader {
         if self.reads == 1 {
             return Err(io::Error::from(io::ErrorKind::Interrupted));
         }
-        buf.fill(7);
+        buf.fill(self.reads);
         Ok(buf.len())
     }
 }
 
 #[test]
 fn a_draw_and_a_source_end_at_the_first_error_of_their_reader(rt: HostRuntime) {
+    // What comes after the error is from the second read: none was made in between.
     let mut draw = ReadDraw::new(InterruptedReader { reads: 0 });
-    assert!(rt; draw.fill(&mut [0u8; 2]) == Err(Failed) && draws(&mut draw, &[7, 7]));
+    assert!(rt; draw.fill(&mut [0u8; 2]) == Err(Failed) && draws(&mut draw, &[2, 2]));
     let mut source = ReadSource::new(InterruptedReader { reads: 0 });
     assert!(rt;
-        source.read(&mut [0u8; 4]) == Err(Failed) && reads(&mut source, 2, 2, [7, 7, 0, 0])
+        source.read(&mut [0u8; 4]) == Err(Failed) && reads(&mut source, 2, 2, [2, 2, 0, 0])
     );
 }

@@ -1,4 +1,4 @@
-//! Callers of `rekey_core`, `inventory_core` and `passdb_core`: tests of their public calls, and the callers that their
+//! Callers of `rekey_core`, `inventory_core`, `passdb_core`, `x509_names` and `terminal_text`: tests of their public calls, and the callers that their
 //! READMEs show.
 //!
 //! They are here and not in those crates since a test is proved with the whole crate that it is in.
@@ -6,6 +6,8 @@
 
 #[cfg(test)]
 mod certificate_caller;
+#[cfg(test)]
+mod certificate_names;
 #[cfg(test)]
 mod faults;
 #[cfg(test)]
@@ -18,3 +20,5 @@ mod program_tests;
 mod run;
 #[cfg(test)]
 mod stores;
+#[cfg(test)]
+mod terminal_texts;

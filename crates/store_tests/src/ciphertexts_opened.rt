@@ -34,17 +34,21 @@ fn opens_triple_des<L: Ledger>(alloc: Global, steps: &mut Steps<L>) -> bool {
     }
 }
 
-/// Whether a MAC over `abc` agrees under `p`, by the call that takes UTF-16 and by that on its view.
-fn agrees_by_either_call<L: Ledger>(alloc: Global, mac: &MacData, steps: &mut Steps<L>) -> bool {
+/// Whether a MAC over `abc` agrees under `p`, by the call that takes UTF-16 and by those on its view.
+fn agrees_by_each_call<L: Ledger>(alloc: Global, mac: &MacData, steps: &mut Steps<L>) -> bool {
     mac.salt.len() == 8
         && mac.verify_mac_counted(alloc, b"abc", &PASSWORD, steps) == Ok(true)
         && mac.view().verify_counted(alloc, b"abc", "p", steps) == Ok(true)
+        && mac
+            .view()
+            .verify_mac_counted(alloc, b"abc", &PASSWORD, steps)
+            == Ok(true)
 }
 
 /// Whether the MAC under SHA-256 does.
 fn agrees_counted<L: Ledger>(alloc: Global, steps: &mut Steps<L>) -> bool {
     match MacData::with_salt_sha256(alloc, b"abc", &PASSWORD, &SALT, 3) {
-        Ok(mac) => agrees_by_either_call(alloc, &mac, steps),
+        Ok(mac) => agrees_by_each_call(alloc, &mac, steps),
         Err(_) => false,
     }
 }

@@ -8,7 +8,7 @@ use std::alloc::{AllocError, Global};
 use std::marker::Brand;
 use std::sync::ledger::{Blank, Ledger};
 use steps::Steps;
-use transfer::{MemorySink, MemorySource, Status, run};
+use transfer::{MemorySink, MemorySource, Source, Status, run};
 
 /// A number that no read, no write and no draw has here.
 const NEVER: u64 = 1000;
@@ -119,16 +119,41 @@ const WHOLE: Case<'static> = Case {
     written: "cert 3000\ncert 30020500\nkey 3081a3305f06092a864886f70d01050d3052303106092a864886f70d01050c30240410b0b1b2b3b4b5b6b7b8b9babbbcbdbebf02020800300c06082a864886f70d02090500301d060960864801650304012a0410a0a1a2a3a4a5a6a7a8a9aaabacadaeaf04401dc96642bbb6dcecdabd8b969bd14f851c57ef656de63d9f82e6494907dbc37a6c4b082cb41c3ea195c0db2e2fdd4a0fef142e7c23545d42fad5d1b81aceb9bf\n",
 };
 
+/// The piece of a text of that number, counted from 0: 100 octets of it, or what is left.
+fn piece_of(text: &[u8], number: usize) -> &[u8] {
+    let start = number.saturating_mul(100).min(text.len());
+    let end = start.saturating_add(100).min(text.len());
+    &text[start..end]
+}
+
+/// Whether the next read gives these octets.
+fn gives<S: Source>(source: &mut S, octets: &[u8]) -> bool {
+    let mut buffer = [0u8; 100];
+    match source.read(&mut buffer) {
+        Ok(count) => &buffer[..count] == octets,
+        Err(_) => false,
+    }
+}
+
+/// Whether a run ends at its read of that number, which fails: the next read gives the piece that this one did not take.
+fn ends_at_read(alloc: Global, number: usize) -> bool {
+    let case = Case {
+        failing_read: number as u64,
+        status: Status::ReadFault,
+        written: "error: ReadFault\n",
+        ..WHOLE
+    };
+    let Ok(mut streams) = streams_of(alloc, &case) else {
+        return false;
+    };
+    runs::<Brand>(alloc, &case, &mut streams, Blank::new(1))
+        && gives(&mut streams.source, piece_of(case.input.as_bytes(), number))
+}
+
 #[test]
-fn each_failed_read_is_named(rt: HostRuntime) {
-    for failing_read in 0..9 {
-        let case = Case {
-            failing_read,
-            status: Status::ReadFault,
-            written: "error: ReadFault\n",
-            ..WHOLE
-        };
-        assert!(rt; holds(rt.alloc(), &case));
+fn each_failed_read_is_named_and_is_the_last(rt: HostRuntime) {
+    for number in 0..9 {
+        assert!(rt; ends_at_read(rt.alloc(), number));
     }
 }
 

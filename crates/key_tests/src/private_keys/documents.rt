@@ -3,10 +3,10 @@ use super::KEY;
 use super::callers::sealed;
 use crate::values::{drawing, is_text, oid};
 use der_core::{OctetStringRef, canon_is_read, exact_spellings, texts_are_read};
-use pkcs5::pbes2;
+use pkcs5::pbes2::{self, EncryptionKey};
 use pkcs8::{
     EncryptedPrivateKeyInfo, EncryptedPrivateKeyInfoOwned, EncryptedPrivateKeyInfoRef, Error,
-    Result, SecretDocument,
+    PrivateKeyInfoRef, Result, SecretDocument,
 };
 use std::alloc::Global;
 use std::process::Abort;
@@ -91,6 +91,25 @@ fn documents_of_other_programs_are_opened_and_made_again(rt: HostRuntime) {
     assert!(rt;
         opens(&rt, alloc, SEALED) && seals(&rt, alloc, SEALED) && opens(&rt, alloc, BY_SCRYPT)
     );
+}
+
+/// The salt and the vector of `SEALED`.
+const SALT: &[u8] = b"\x79\xd9\x82\xe7\x0d\xf9\x1a\x88";
+
+const VECTOR: [u8; 16] = *b"\xb2\xd0\x2d\x78\xb2\xef\xd9\xdf\xf6\x94\xcf\x8e\x0a\xf4\x09\x25";
+
+/// The key under the parameters of `SEALED`, where the key of the cipher is derived first.
+fn sealed_under_key(alloc: Global, key: &PrivateKeyInfoRef<'_>) -> Result<SecretDocument> {
+    let parameters = pbes2::Parameters::generate_pbkdf2_sha256_aes256cbc(2048, SALT, VECTOR)?;
+    let derived = EncryptionKey::derive_from_password(alloc, b"hunter42", &parameters.kdf, 32)?;
+    key.encrypt_with_key(alloc, parameters, &derived)
+}
+
+#[test]
+fn a_key_is_sealed_under_a_derived_key(rt: HostRuntime) {
+    let key = super::read(&rt, KEY);
+    let document = sealed_under_key(rt.alloc(), &key).expect(&rt, "a document");
+    assert!(rt; document.as_bytes() == SEALED);
 }
 
 /// The document of a text, in memory of its own.
