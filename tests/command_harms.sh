@@ -116,7 +116,7 @@ import sys
 
 with open(sys.argv[1], encoding="utf-8") as file:
     found = json.load(file)
-assert list(found) == ["certificates", "private_keys", "not_exported"], found
+assert list(found) == ["certificates", "private_keys", "not_exported", "algorithms", "mac"], found
 first = found["certificates"][0]
 assert first == {"name": "cert-0", "friendly_name": "a\u202eb\u200bc\u2066d\ufeffe\u2028f\u0085g", "local_key_id": None, "is_certificate": True}
 assert found["certificates"][2]["friendly_name"] == "long" * 2000
@@ -201,6 +201,164 @@ others_folders() {
 }
 holds folders_of_other_users others_folders
 program=$home/crates/pkcs12/out/pkcs12
+# Where others could put something else in the place of what is written, nothing is asked, made or read.
+hands_of_others() {
+    is_root hands_of_others || return 0
+    mkdir -m 755 "$work/bobs" "$work/grouped" && chown 1234 "$work/bobs" && chgrp 1234 "$work/grouped" && chmod 775 "$work/grouped" &&
+        mkdir -m 777 "$work/for-all" && mkdir -m 755 "$work/for-all/roots" && ln -s bobs "$work/way" || return 1
+    for each in bobs way; do
+        fails 4 WriteFault "$work/bobs belongs to another user" export "$keyed" --out "$work/$each/pem" && says told "sudo -u '#1234'" &&
+            fails 4 WriteFault "$work/bobs belongs to another user" rekey "$keyed" --out "$work/$each/new.p12" || return 1
+    done
+    fails 4 WriteFault "everybody may write to the folder $work/for-all," export "$keyed" --out "$work/for-all/roots/pem" &&
+        fails 4 WriteFault "the group of the number 1234 may write to the folder $work/grouped," export "$keyed" --out "$work/grouped/pem" &&
+        says told "chmod +t '$work/grouped'" && nothing_at "$work/bobs/pem" && nothing_at "$work/grouped/pem" || return 1
+    # Where only who made a thing may rename it, all may write; and so may root's own group.
+    chmod +t "$work/grouped" && export_keyed "$work/grouped/pem" && mkdir -m 775 "$work/roots-group" && chmod 775 "$work/roots-group" &&
+        export_keyed "$work/roots-group/pem"
+}
+holds nothing_is_written_in_the_hands_of_others hands_of_others
+# What mkdir makes under the umask 002 of a user with a group of the same name is the user's own.
+own_groups() {
+    is_root own_groups || return 0
+    command -v setpriv >/dev/null || {
+        echo "skipped own_groups: there is no setpriv"
+        return 0
+    }
+    cp "$program" "$work/program" && chmod 755 "$work/program" "$work" && cp "$plain" "$work/readable.p12" && cp "$plain_password" "$work/known" &&
+        chmod 644 "$work/readable.p12" "$work/known" && mkdir -m 755 "$work/bobs-home" && mkdir -m 775 "$work/bobs-home/own" "$work/bobs-home/team" &&
+        chown -R 1234:1234 "$work/bobs-home" && chgrp 4321 "$work/bobs-home/team" && chmod 775 "$work/bobs-home/own" "$work/bobs-home/team" || return 1
+    as_bob() {
+        code=0
+        setsid -w setpriv --reuid 1234 --regid 1234 --clear-groups "$work/program" "$@" >"$work/said" 2>"$work/told" || code=$?
+    }
+    as_bob export "$work/readable.p12" --out "$work/bobs-home/own/pem" --password-file "$work/known"
+    [ "$code" -eq 0 ] && [ "$(mode_of "$work/bobs-home/own/pem")" = "700 UNKNOWN UNKNOWN" ] || return 1
+    as_bob export "$work/readable.p12" --out "$work/bobs-home/team/pem" --password-file "$work/known"
+    [ "$code" -eq 4 ] && says told "the group of the number 4321 may write" && nothing_at "$work/bobs-home/team/pem"
+}
+holds a_users_own_group_is_no_stranger own_groups
+# In /tmp a file or folder that another user has put there first is not filled.
+others_file() {
+    is_root others_file || return 0
+    mkdir -m 1777 "$work/as-tmp" && chmod 1777 "$work/as-tmp" && : >"$work/as-tmp/new.p12" && chown 1234 "$work/as-tmp/new.p12" || return 1
+    fails 23 OutputExists "is a file of another user" rekey "$keyed" --out "$work/as-tmp/new.p12" --force && [ ! -s "$work/as-tmp/new.p12" ] || return 1
+    : >"$work/as-tmp/own.p12" && ends 0 rekey "$keyed" --out "$work/as-tmp/own.p12" --force --password-file "$keyed_password" \
+        --new-password-file "$work/new" && [ "$(mode_of "$work/as-tmp/own.p12")" = "640 root root" ]
+}
+holds a_file_of_another_user_is_not_taken_over others_file
+# What was made is replaced by a link to a folder of other files, as soon as it is there: neither its mode nor what it holds changes.
+swapped() {
+    cat >"$work/swap.c" <<'END'
+#define _GNU_SOURCE
+#include <dlfcn.h>
+#include <stdio.h>
+#include <stdlib.h>
+#include <string.h>
+#include <sys/stat.h>
+#include <unistd.h>
+typedef int renames(const char *, const char *);
+static void swap(const char *path, const char *kind) {
+    char away[4096];
+    renames *next = (renames *)dlsym(RTLD_NEXT, "rename");
+    if (!getenv("SWAP") || strcmp(getenv("SWAP"), kind) || !strstr(path, kind)) return;
+    snprintf(away, sizeof away, "%s.away", path);
+    if (next(path, away) || symlink(getenv("VICTIM"), path)) abort();
+}
+int mkdir(const char *path, mode_t mode) {
+    int done = ((int (*)(const char *, mode_t))dlsym(RTLD_NEXT, "mkdir"))(path, mode);
+    if (!done) swap(path, ".part-");
+    return done;
+}
+int rename(const char *from, const char *to) {
+    int done = ((renames *)dlsym(RTLD_NEXT, "rename"))(from, to);
+    if (!done) swap(to, ".old-");
+    return done;
+}
+END
+    in_front swap || return 0
+    for kind in .part- .old-; do
+        mkdir -m 777 "$work/swapped$kind" && mkdir -m 700 "$work/victim$kind" && echo theirs >"$work/victim$kind/key-0.pem" &&
+            [ "$kind" = .part- ] || echo old >"$work/swapped$kind/key-0.pem" || return 1
+        code=0
+        SWAP=$kind VICTIM=$work/victim$kind LD_PRELOAD=$work/swap.so "$program" export "$keyed" --out "$work/swapped$kind" --force \
+            --password-file "$keyed_password" --same-password --rounds 1 >"$work/said" 2>"$work/told" || code=$?
+        [ "$(cat "$work/victim$kind/key-0.pem")" = theirs ] && [ "$(stat -c %a "$work/victim$kind")" = 700 ] &&
+            [ "$(ls "$work/victim$kind")" = key-0.pem ] && says told "something else is there now" || return 1
+        case $kind in .part-) [ "$code" -eq 4 ] || return 1 ;; esac
+    done
+}
+holds what_was_swapped_is_not_touched swapped
+# With an access control list the group's bits of the mode are what others may do at most, and the group itself may have less: what
+# replaces such a file or folder is for its owner alone.
+list_of() {
+    # the mode $2 in octal for the owner, the same for user 33, nothing for the group, the mask $3, nothing for others
+    "${PYTHON:-python3}" - "$1" "$2" "$3" 2>/dev/null <<'END'
+import os, struct, sys
+none, mode, mask = 0xffffffff, int(sys.argv[2]), int(sys.argv[3])
+entries = [(1, mode, none), (2, mode, 33), (4, 0, none), (16, mask, none), (32, 0, none)]
+os.setxattr(sys.argv[1], "system.posix_acl_access", struct.pack("<I", 2) + b"".join(struct.pack("<HHI", *each) for each in entries))
+END
+}
+access_control_lists() {
+    cp "$keyed" "$work/listed.p12" && chmod 600 "$work/listed.p12" && export_keyed "$work/listed" || return 1
+    list_of "$work/listed.p12" 6 4 && LC_ALL=C ls -ld "$work/listed.p12" | grep -q '^-rw-r-----+' || {
+        echo "skipped $name: there are no access control lists here, or ls does not show them"
+        return 0
+    }
+    ends 0 rekey "$work/listed.p12" --in-place --password-file "$keyed_password" --new-password-file "$work/new" &&
+        says told "listed.p12 had an access control list, which is not kept" && [ "$(stat -c %a "$work/listed.p12")" = 600 ] &&
+        ends 0 rekey "$work/listed.p12" --in-place --password-file "$work/new" --new-password-file "$keyed_password" &&
+        [ ! -s "$work/told" ] || return 1
+    chmod 640 "$work/listed/cert-0.pem" && list_of "$work/listed/key-0.pem" 6 4 && export_keyed "$work/listed" --force &&
+        says told "$work/listed had an access control list, which is not kept" &&
+        [ "$(stat -c %a "$work/listed" "$work/listed"/* | sort -u | tr '\n' ' ')" = "600 700 " ] || return 1
+    list_of "$work/listed" 7 5 && export_keyed "$work/listed" --force && says told "access control list" &&
+        [ "$(stat -c %a "$work/listed")" = 700 ] && export_keyed "$work/listed" --force && [ ! -s "$work/told" ]
+}
+holds an_access_control_list_is_no_mode access_control_lists
+# Another user puts links and folders at every name that root's run may use, and takes them away again, as fast as may be.
+raced() {
+    is_root raced || return 0
+    mkdir -m 1777 "$work/raced" && chmod 1777 "$work/raced" && mkdir -m 700 "$work/kept" && echo theirs >"$work/kept/key-0.pem" &&
+        cp "$keyed" "$work/kept/store.p12" && chmod 755 "$work" && find "$work/kept" -exec stat -c '%n %a %U %s' {} + >"$work/before" || return 1
+    # the numbers of processes that come next
+    first=$(sh -c 'echo $$')
+    "${PYTHON:-python3}" - "$work" "$first" <<'END' &
+import os, random, sys
+work, first = sys.argv[1], int(sys.argv[2])
+os.setgroups([]), os.setgid(1234), os.setuid(1234)
+os.chdir(work + "/raced")
+names = ["pem", "new.p12"] + [name + ending + str(first + n) for name in ("pem", "new.p12") for ending in (".part-", ".old-") for n in range(600)]
+while os.getppid() != 1:
+    for name in ["pem", "new.p12"] + random.sample(names, 200):
+        for make, take in ((lambda: os.symlink(work + "/kept", name), lambda: os.unlink(name)),
+                           (lambda: os.symlink(work + "/kept/store.p12", name), lambda: os.unlink(name)),
+                           (lambda: os.mkdir(name), lambda: os.rmdir(name))):
+            for each in (make, take):
+                try:
+                    each()
+                except OSError:
+                    pass
+END
+    racing=$!
+    done=0
+    for each in 1 2 3 4 5 6 7 8 9 10 11 12; do
+        for given in "export $keyed --out $work/raced/pem --force --same-password --rounds 1" \
+            "rekey $keyed --out $work/raced/new.p12 --force --new-password-file $work/new"; do
+            # shellcheck disable=SC2086
+            if setsid -w "$program" $given --password-file "$keyed_password" >"$work/said" 2>"$work/told"; then
+                done=$((done + 1))
+                [ "$(stat -c '%U' "$work/raced/pem" 2>/dev/null || echo root)" = root ] || return 1
+            fi
+            rm -rf "$work/raced/pem" "$work/raced/new.p12"
+        done
+    done
+    kill "$racing" && wait "$racing" 2>/dev/null || :
+    find "$work/kept" -exec stat -c '%n %a %U %s' {} + | cmp - "$work/before" && [ "$(cat "$work/kept/key-0.pem")" = theirs ] &&
+        cmp "$keyed" "$work/kept/store.p12"
+}
+holds who_swaps_links_meanwhile_gains_nothing raced
 # Each refusal of the place comes before a question: no password is given here.
 early() {
     fails 4 WriteFault "no-such" export "$keyed" --out "$work/no-such/out" && says told "mkdir -p '$work/no-such'" || return 1
@@ -364,6 +522,15 @@ many_keys() {
         [ "$(find "$work/many-keys" -type f | wc -l)" -eq 200 ]
 }
 holds sealing_is_bounded many_keys
+# An export of nothing is none, and takes nothing away.
+nothing_to_export() {
+    fails 25 NotExported 'no private key' export "$plain" --keys-only --out "$work/none" --password-file "$plain_password" \
+        --new-password-file "$work/new" && nothing_at "$work/none" || return 1
+    mkdir "$work/has-a-key" && echo precious >"$work/has-a-key/key-0.pem" || return 1
+    fails 25 NotExported 'no private key' export "$plain" --keys-only --force --out "$work/has-a-key" --password-file "$plain_password" \
+        --new-password-file "$work/new" && [ "$(cat "$work/has-a-key/key-0.pem")" = precious ]
+}
+holds an_export_of_nothing_is_refused nothing_to_export
 many_files() {
     fails 27 TooManyFiles "3000 certificates" export "$work/many.p12" --out "$work/none" --password-file "$work/p" --most-files 2999 &&
         nothing_at "$work/none" && ends 0 export "$work/many.p12" --out "$work/many" --password-file "$work/p" --most-files 3000

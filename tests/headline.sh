@@ -1,5 +1,5 @@
 #!/bin/sh
-# Whether docs/HEADLINE.md is what tests/headline.py writes of the definitions as they are.
+# Whether docs/HEADLINE.md and the pages that it names are what tests/headline.py writes of the definitions as they are.
 set -eu
 
 cd "$(dirname "$0")/.."

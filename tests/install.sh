@@ -36,10 +36,14 @@ lib/pkcs12/made 644
 lib/pkcs12/pkcs12 755
 lib/pkcs12/terminal.sh 644
 share/bash-completion/completions/pkcs12 644
+share/doc/pkcs12/CHANGELOG.md 644
+share/doc/pkcs12/LICENSE-APACHE 644
+share/doc/pkcs12/LICENSE-MIT 644
+share/doc/pkcs12/README.md 644
 share/man/man1/pkcs12.1 644'
 if [ -f "$home/crates/pkcs12_c/out/libpkcs12_c.a" ] && command -v "${CC:-cc}" >/dev/null; then
     expected=$(printf '%s\n' "$expected" 'include/pkcs12.h 644' 'lib/libpkcs12.a 644' 'lib/libpkcs12.so 777' 'lib/libpkcs12.so.1 644' \
-        'lib/pkgconfig/pkcs12.pc 644' 'lib/pkcs12/with-library 644' | sort)
+        'lib/pkgconfig/pkcs12.pc 644' 'lib/pkcs12/libdir 644' 'lib/pkcs12/with-library 644' | sort)
 else
     # no proof and no build for this test
     CC=/nowhere/cc
@@ -48,6 +52,23 @@ else
 fi
 files_and_modes() {
     (cd "$1" && find . '(' -type f -o -type l ')' -exec stat -c '%n %a' {} + | sed 's|^\./||' | sort)
+}
+
+# Puts what is installed of the tree into the folder $1, beside the program.
+copy_tree() {
+    mkdir -p "$1/crates/pkcs12/out" && cp -r "$home/pkcs12" "$home/wrapper" "$home/docs" "$home/README.md" "$home/CHANGELOG.md" \
+        "$home/LICENSE-APACHE" "$home/LICENSE-MIT" "$home/VERSION" "$1" && cp "$home/crates/pkcs12/out/pkcs12" "$1/crates/pkcs12/out"
+}
+# Notes that the program below the folder $1 was built of the sources there, with the kit in the folder $2.
+# shellcheck disable=SC2034
+built_of_sources() {
+    (
+        PATH=$2/bin:$PATH wrapper_name=install wrapper_home=$1 wrapper_crate=pkcs12
+        . "$1/wrapper/build.sh"
+        find_kit
+        find_sums "$(crates_below pkcs12)"
+        sum_of_built "$wrapper_program" pkcs12 >"$wrapper_program.sum"
+    )
 }
 
 # --- what is installed ---
@@ -137,13 +158,13 @@ holds the_library_is_found_by_pkg_config installed_library
 
 # Where the archive is not built, the crates below it are proved, and then it is. This compiler does that for the crate `low` alone.
 library_is_built() {
-    mkdir -p "$work/unbuilt/crates/pkcs12/out" "$work/unbuilt/crates/pkcs12_c/src" "$work/unbuilt/crates/low/src" "$work/unbuilt/bin"
-    cp -r "$home/pkcs12" "$home/wrapper" "$home/docs" "$work/unbuilt" && printf 'low:\npkcs12_c staticlib: low\npkcs12: low\n' >"$work/unbuilt/crates.txt" &&
-        cp "$home/crates/pkcs12/out/pkcs12" "$work/unbuilt/crates/pkcs12/out" || return 1
+    mkdir -p "$work/unbuilt/crates/pkcs12_c/src" "$work/unbuilt/crates/low/src" "$work/unbuilt/bin"
+    copy_tree "$work/unbuilt" && printf 'low:\npkcs12_c staticlib: low\npkcs12: low\n' >"$work/unbuilt/crates.txt" || return 1
     printf '#!/bin/sh\necho "%s/page"\n' "$work/unbuilt" >"$work/unbuilt/bin/rt"
     # shellcheck disable=SC2016
     printf '#!/bin/sh\necho "${PWD##*/} $*" >>"%s/calls"\n[ "${PWD##*/}" = low ] && mkdir out/rlib/statements/low.rlib\n' "$work/unbuilt" \
         >"$work/unbuilt/bin/rattle" && chmod 755 "$work/unbuilt/bin/rt" "$work/unbuilt/bin/rattle"
+    built_of_sources "$work/unbuilt" "$work/unbuilt" || return 1
     refused 1 env "PATH=$work/unbuilt/bin:$PATH" CC=sh "$work/unbuilt/pkcs12" install "$work/unbuilt/prefix" &&
         head -n 1 "$work/unbuilt/calls" | grep -q '^low build --statements ' &&
         tail -n 1 "$work/unbuilt/calls" | grep -q '^pkcs12_c build --crate-type staticlib ' && [ "$(wc -l <"$work/unbuilt/calls")" -eq 2 ] &&
@@ -273,7 +294,8 @@ no_temporary_folder() {
         echo "skipped $name: the library for C is not built, or there is no compiler"
         return 0
     }
-    refused 1 env TMPDIR=/nowhere "$home/pkcs12" install "$work/untemporary" && nothing_at "$work/untemporary"
+    status 0 env TMPDIR=/nowhere "$home/pkcs12" install "$work/untemporary" && [ "$(files_and_modes "$work/untemporary")" = "$expected" ] &&
+        status 0 "$work/untemporary/bin/pkcs12" uninstall && nothing_at "$work/untemporary"
 }
 holds no_folder_for_temporary_files no_temporary_folder
 folder_in_the_way() {
@@ -289,8 +311,7 @@ not_writable() {
         return 0
     }
     # a copy, since the tree may be in a folder that others cannot enter
-    mkdir -p "$work/copy/crates/pkcs12/out" && cp -r "$home/pkcs12" "$home/wrapper" "$home/docs" "$home/crates.txt" "$work/copy" &&
-        cp "$home/crates/pkcs12/out/pkcs12" "$work/copy/crates/pkcs12/out" && chmod 755 "$work"
+    cp "$home/crates.txt" "$work" && mkdir -p "$work/copy" && mv "$work/crates.txt" "$work/copy" && copy_tree "$work/copy" && chmod 755 "$work"
     refused 1 setpriv --reuid=65534 --regid=65534 --clear-groups "$work/copy/pkcs12" install "$work/closed" &&
         [ -z "$(ls -A "$work/closed")" ] && grep -qF "$work/closed cannot be written" "$work/told" && ! grep -q 'building' "$work/told"
 }
@@ -315,13 +336,13 @@ library_built() {
         echo "skipped $name: the library is not built"
         return 0
     }
-    mkdir -p "$work/fresh/crates/pkcs12/out" "$work/fresh/crates/pkcs12_c" "$work/kit/bin" &&
-        cp -r "$home/pkcs12" "$home/wrapper" "$home/docs" "$work/fresh" && printf 'pkcs12:\npkcs12_c staticlib:\n' >"$work/fresh/crates.txt" &&
+    mkdir -p "$work/fresh/crates/pkcs12_c" "$work/kit/bin" && copy_tree "$work/fresh" &&
+        printf 'pkcs12:\npkcs12_c staticlib:\n' >"$work/fresh/crates.txt" &&
         cp -r "$home/crates/pkcs12_c/include" "$home/crates/pkcs12_c/link" "$work/fresh/crates/pkcs12_c" &&
-        cp "$home/crates/pkcs12/out/pkcs12" "$work/fresh/crates/pkcs12/out" &&
         printf '#!/bin/sh\necho "%s/page"\n' "$work/kit" >"$work/kit/bin/rt" &&
         printf '#!/bin/sh\necho "${PWD##*/} $1" >>"%s"\nwhile [ "$1" != -o ]; do shift; done\ncp "%s" "$2"\n' \
-            "$work/calls" "$home/crates/pkcs12_c/out/libpkcs12_c.a" >"$work/kit/bin/rattle" && chmod +x "$work/kit/bin"/* || return 1
+            "$work/calls" "$home/crates/pkcs12_c/out/libpkcs12_c.a" >"$work/kit/bin/rattle" && chmod +x "$work/kit/bin"/* &&
+        built_of_sources "$work/fresh" "$work/kit" || return 1
     status 0 env "PATH=$work/kit/bin:$PATH" "$work/fresh/pkcs12" install "$work/of fresh" &&
         [ "$(cat "$work/calls")" = 'pkcs12_c build' ] && [ "$(files_and_modes "$work/of fresh")" = "$expected" ] &&
         status 0 "$work/fresh/pkcs12" uninstall "$work/of fresh" && nothing_at "$work/of fresh" || return 1
@@ -415,5 +436,97 @@ without_linking() {
         status 0 "$work/unlinked/bin/pkcs12" uninstall && nothing_at "$work/unlinked"
 }
 holds a_library_that_is_not_linked_is_told without_linking
+# A program and an archive that are older than the sources are built anew, and told where they cannot be.
+stale() {
+    [ "$expected" != "${expected#*libpkcs12.a}" ] || {
+        echo "skipped $name: the library is not built"
+        return 0
+    }
+    mkdir -p "$work/stale/crates/low/src" "$work/stale/crates/pkcs12_c/out" "$work/stale/kit/bin" && copy_tree "$work/stale" &&
+        cp -r "$home/crates/pkcs12_c/include" "$home/crates/pkcs12_c/link" "$work/stale/crates/pkcs12_c" &&
+        cp "$home/crates/pkcs12_c/out/libpkcs12_c.a" "$work/stale/crates/pkcs12_c/out" &&
+        printf 'low:\npkcs12: low\npkcs12_c staticlib: low\n' >"$work/stale/crates.txt" || return 1
+    printf '#!/bin/sh\necho "%s/page"\n' "$work/stale/kit" >"$work/stale/kit/bin/rt"
+    # shellcheck disable=SC2016
+    printf '#!/bin/sh\necho "${PWD##*/}" >>"%s/calls"\nwhile [ "$1" != -o ]; do shift; done\ncase $2 in\n*.rlib) mkdir "$2" ;;\n*.a.new) cp "%s" "$2" ;;\n*) cp "%s" "$2" ;;\nesac\n' \
+        "$work/stale" "$home/crates/pkcs12_c/out/libpkcs12_c.a" "$home/crates/pkcs12/out/pkcs12" >"$work/stale/kit/bin/rattle"
+    # shellcheck disable=SC2016
+    printf '#!/bin/sh\nwhile [ "$1" != -o ]; do shift; done\ncp "$3" "$2" && chmod +x "$2"\n' >"$work/stale/kit/bin/rattle-link"
+    chmod +x "$work/stale/kit/bin"/* && sleep 0.01 && echo >"$work/stale/crates/low/src/lib.rt" || return 1
+    status 0 env "PATH=$work/stale/kit/bin:$PATH" "$work/stale/pkcs12" install "$work/stale/prefix" &&
+        [ "$(tr '\n' ' ' <"$work/stale/calls")" = 'low pkcs12 pkcs12_c ' ] || return 1
+    status 0 env "PATH=$work/stale/kit/bin:$PATH" "$work/stale/pkcs12" install "$work/stale/prefix" && [ "$(wc -l <"$work/stale/calls")" -eq 3 ] &&
+        sleep 0.01 && echo changed >"$work/stale/crates/low/src/lib.rt" &&
+        status 0 env "PATH=/usr/bin:/bin" "$work/stale/pkcs12" install "$work/stale/prefix" &&
+        grep -q '^the program is older than crates/low/src/lib.rt, and is installed as it is' "$work/told" &&
+        grep -q '^the library for C is older than crates/low/src/lib.rt, and is installed as it is' "$work/told"
+}
+holds what_is_older_than_the_sources_is_built_anew stale
+# A library that lacks a call of the header is not installed.
+library_that_lacks_a_call() {
+    [ "$expected" != "${expected#*libpkcs12.a}" ] && command -v nm >/dev/null || {
+        echo "skipped $name: the library is not built, or there is no nm"
+        return 0
+    }
+    mkdir -p "$work/lacking/crate/out" "$work/lacking/made" && cp -r "$home/crates/pkcs12_c/include" "$home/crates/pkcs12_c/link" "$work/lacking/crate" &&
+        cp "$home/crates/pkcs12_c/out/libpkcs12_c.a" "$work/lacking/crate/out" &&
+        echo 'uint32_t pkcs12_not_there(void);' >>"$work/lacking/crate/include/pkcs12.h" || return 1
+    ! "$work/lacking/crate/link/make_library.sh" "$work/lacking/made" >"$work/said" 2>"$work/told" &&
+        grep -q 'lacks pkcs12_not_there of pkcs12.h' "$work/told" && [ -z "$(ls -A "$work/lacking/made")" ]
+}
+holds a_library_that_lacks_a_call_is_refused library_that_lacks_a_call
+other_folder_of_libraries() {
+    status 0 "$home/pkcs12" install --libdir lib/x86_64-linux-gnu "$work/multiarch" || return 1
+    if [ "$expected" != "${expected#*libpkcs12.a}" ]; then
+        [ -f "$work/multiarch/lib/x86_64-linux-gnu/libpkcs12.so.1" ] && [ ! -e "$work/multiarch/lib/libpkcs12.a" ] || return 1
+        if command -v pkg-config >/dev/null; then
+            export PKG_CONFIG_PATH="$work/multiarch/lib/x86_64-linux-gnu/pkgconfig"
+            [ "$(pkg-config --modversion pkcs12)" = "$(cat "$home/VERSION")" ] &&
+                [ "$(cd "$(pkg-config --variable=libdir pkcs12)" && pwd)" = "$work/multiarch/lib/x86_64-linux-gnu" ] &&
+                [ -f "$(pkg-config --variable=includedir pkcs12)/pkcs12.h" ] || return 1
+            unset PKG_CONFIG_PATH
+        fi
+    fi
+    status 0 "$work/multiarch/bin/pkcs12" uninstall && nothing_at "$work/multiarch" &&
+        refused 2 "$home/pkcs12" install --libdir ../lib "$work/multiarch" && refused 2 "$home/pkcs12" install --libdir /lib "$work/multiarch" &&
+        refused 2 "$home/pkcs12" install --libdir
+}
+holds libraries_in_another_folder other_folder_of_libraries
+# Of a package: dpkg knows the command.
+packaged() {
+    mkdir -p "$work/packaged" && status 0 "$home/pkcs12" install "$work/package" || return 1
+    # shellcheck disable=SC2016
+    printf '#!/bin/sh\n[ "$2" = "%s/package/bin/pkcs12" ]\n' "$work" >"$work/packaged/dpkg-query" && chmod +x "$work/packaged/dpkg-query"
+    refused 2 env "PATH=$work/packaged:$PATH" "$work/package/bin/pkcs12" uninstall && grep -q 'is of a package' "$work/told" &&
+        refused 2 env "PATH=$work/packaged:$PATH" "$home/pkcs12" install "$work/package" &&
+        [ "$(files_and_modes "$work/package")" = "$expected" ] && status 0 "$work/package/bin/pkcs12" uninstall
+}
+holds what_a_package_has_is_left packaged
+closed_outputs() {
+    for way in '>&-' '2>&-' '>/dev/full' '2>/dev/full' '>&- 2>&-'; do
+        sh -c "exec \"\$1\" install \"\$2\" $way" sh "$home/pkcs12" "$work/silent" && [ "$(files_and_modes "$work/silent")" = "$expected" ] &&
+            sh -c "exec \"\$1\" uninstall $way" sh "$work/silent/bin/pkcs12" && nothing_at "$work/silent" || {
+            echo "with $way" >&2
+            return 1
+        }
+    done
+}
+holds outputs_that_are_closed_or_full closed_outputs
+# What a killed run has left goes with the next.
+killed_install() {
+    status 0 "$home/pkcs12" install "$work/killed" && : >"$work/killed/bin/pkcs12.new-999999999" &&
+        : >"$work/killed/lib/pkcs12/pkcs12.new-999999999" && status 0 "$home/pkcs12" install "$work/killed" &&
+        [ "$(files_and_modes "$work/killed")" = "$expected" ] && : >"$work/killed/lib/pkcs12/ask.sh.new-999999999" &&
+        status 0 "$work/killed/bin/pkcs12" uninstall && nothing_at "$work/killed"
+}
+holds what_a_killed_run_left_is_removed killed_install
+# bin is a link, and the folder that it leads to is on PATH.
+linked_bin_on_path() {
+    mkdir -p "$work/linked-home/.local" "$work/linked-home/bin" && ln -s ../bin "$work/linked-home/.local/bin" &&
+        status 0 "$home/pkcs12" install "$work/linked-home/.local" &&
+        checks_a_store env "PATH=$work/linked-home/bin:/usr/bin:/bin" pkcs12 && status 0 "$work/linked-home/bin/pkcs12" uninstall &&
+        [ -z "$(ls -A "$work/linked-home/bin")" ] && [ "$(ls -A "$work/linked-home/.local")" = bin ]
+}
+holds a_bin_that_is_a_link_and_on_the_path linked_bin_on_path
 
 exit "$failed"

@@ -125,6 +125,33 @@ open(sys.argv[1], "wb").write(octets.replace(b"210203040506Z", b"210230040506Z")
 }
 holds a_time_that_is_none_is_not_judged no_time
 
+# --expires-within lists what ends by then alone, and has an exit number of its own.
+expiring() {
+    certificate soon /CN=soon -days 10 && certificate late /CN=late -days 400 && store ending soon "$work/soon.pem" "$work/late.pem" || return 1
+    ends 0 list "$work/ending.p12" --password-file "$work/p" --expires-within 9 && [ ! -s "$work/said" ] && [ ! -s "$work/told" ] || return 1
+    end=$(openssl x509 -in "$work/soon.pem" -noout -enddate -dateopt iso_8601 | sed 's/^notAfter=//; s/Z$/ UTC/')
+    fails 29 Expiring 'within 11 days' list "$work/ending.p12" --password-file "$work/p" --expires-within 11 &&
+        [ "$(cat "$work/said")" = "cert-0: valid to $end, subject CN=soon" ] || return 1
+    ends 29 list "$work/ending.p12" --password-file "$work/p" --expires-within 401 && [ "$(wc -l <"$work/said")" -eq 2 ]
+}
+holds certificates_that_end_soon expiring
+ended_or_untold() {
+    ends 29 list "$work/past.p12" --password-file "$work/p" --expires-within 0 &&
+        [ "$(cat "$work/said")" = 'cert-0: valid to 2021-02-03 04:05:06 UTC, subject CN=past' ] &&
+        ends 0 list "$work/early.p12" --password-file "$work/p" --expires-within 3650 &&
+        ends 29 list "$work/no_time.p12" --password-file "$work/p" --expires-within 0 &&
+        [ "$(cat "$work/said")" = 'cert-0: when it ends could not be read, subject CN=no_time' ]
+}
+holds certificates_that_have_ended_or_have_no_end ended_or_untold
+no_days() {
+    for days in '' x 36501 4294967297 1.5; do
+        fails 2 Usage 'takes a whole number from 0 to 36500' list "$work/past.p12" --password-file "$work/p" --expires-within "$days" || return 1
+    done
+    ends 2 list "$work/past.p12" --password-file "$work/p" --expires-within -1 &&
+        fails 2 Usage 'goes not with --json' list "$work/past.p12" --password-file "$work/p" --expires-within 1 --json
+}
+holds days_that_are_none no_days
+
 # A private key that is not encrypted is not passed over in silence.
 key_in_the_clear() {
     certificate clear /CN=clear && openssl pkcs12 -export -keypbe NONE -inkey "$work/clear.key" -in "$work/clear.pem" -out "$work/clear.p12" \
@@ -205,6 +232,31 @@ END
 }
 holds json_has_each_certificate json_is_json
 
+# Keys of one certificate: their chain is printed once, and --most-files counts a file for each.
+chains_of_many_keys() {
+    PYTHONPATH=$home/tests "${PYTHON:-python3}" - "$home/examples/openssl-default" "$work/many-keys.p12" <<'END' || return 1
+import sys
+from make_store import certificate_bag, data, identifier, local_key_id, number, octet_string, sealed_key, sequence, store_with_mac
+
+folder, to = sys.argv[1:]
+certificates = [open(f"{folder}/cert-{place}.der", "rb").read() for place in (0, 1)]
+key = sequence(number(0), sequence(identifier("1.2.3")), octet_string(b"key"))
+bags = [certificate_bag(certificates[0], local_key_id(b"one")), certificate_bag(certificates[1])]
+bags += [sealed_key(key, "p", b"salt", 1, local_key_id(b"one"))] * 3000
+open(to, "wb").write(store_with_mac(sequence(data(sequence(*bags))), "p", bytes(8), 1))
+END
+    ends 0 list "$work/many-keys.p12" --password-file "$work/p" && [ "$(grep -c '^  chain: as key-0$' "$work/said")" -eq 2999 ] &&
+        [ "$(grep -c '^  chain: cert-0 cert-1$' "$work/said")" -eq 1 ] || return 1
+    ends 0 list "$work/many-keys.p12" --password-file "$work/p" --json && "${PYTHON:-python3}" - "$work/said" <<'END' || return 1
+import json, sys
+keys = json.load(open(sys.argv[1]))["private_keys"]
+sys.exit(0 if len(keys) == 3000 and all(key["chain"] == ["cert-0", "cert-1"] and key["is_whole"] for key in keys) else 1)
+END
+    fails 27 TooManyFiles "3000 private keys" export "$work/many-keys.p12" --out "$work/none" --chain --password-file "$work/p" --same-password \
+        --rounds 1 --most-files 6001 && nothing_at "$work/none"
+}
+holds the_chain_of_many_keys_is_printed_once chains_of_many_keys
+
 # --- what is refused, and what is no certificate ---
 
 refusals() {
@@ -226,6 +278,21 @@ END
         "${PYTHON:-python3}" -c 'import json, sys; json.load(open(sys.argv[1]))' "$work/said"
 }
 holds what_is_no_certificate_is_told no_certificate
+# Equal lines are told once, with their number.
+many_odd_bags() {
+    PYTHONPATH=$home/tests "${PYTHON:-python3}" - "$work/odd-bags.p12" <<'END' || return 1
+import sys
+from make_store import certificate_bag, context, data, identifier, octet_string, sequence, store_with_mac
+unnamed = sequence(identifier("1.2.3.4"), context(0, octet_string(b"")))
+bags = sequence(*[unnamed] * 300, *[certificate_bag(b"no certificate")] * 300)
+open(sys.argv[1], "wb").write(store_with_mac(sequence(data(bags)), "p", bytes(8), 1))
+END
+    ends 0 list "$work/odd-bags.p12" --password-file "$work/p" && grep -qx 'not listed: 300, a bag of the kind 1.2.3.4' "$work/said" &&
+        ends 0 check "$work/odd-bags.p12" --password-file "$work/p" && [ "$(grep -c 'is no X.509 certificate$' "$work/said")" -eq 20 ] &&
+        grep -qx 'warning: 280 more are no X.509 certificates' "$work/said" || return 1
+    fails 25 NotExported '' export "$work/odd-bags.p12" --out "$work/none" --password-file "$work/p" && [ "$(wc -l <"$work/told")" -lt 10 ]
+}
+holds equal_lines_are_told_once many_odd_bags
 
 broken_pipe() {
     code=0

@@ -49,4 +49,23 @@ while IFS='|' read -r name words input status text; do
     try "${name#*: }" "$words" "$status"
 done <"$home/tests/vectors/programs.txt"
 
+# Where `-` stands for the octets to be drawn they come from the system: two runs make two hashes, whose salts differ.
+program=passdb
+printf '\nadd bob s3cret\n' >"$work/input"
+made=0
+for number in 1 2; do
+    code=0
+    run 'passdb 1000 -' <"$work/input" >"$work/drawn-$number" || code=$?
+    if [ "$code" = "$(code_of Done)" ] && grep -q '^bob:[$]pbkdf2-sha256[$]i=1000,l=32[$]' "$work/drawn-$number"; then
+        made=$((made + 1))
+    fi
+done
+salt() { grep '^bob:' "$1" | cut -d '$' -f 4; }
+if [ "$made" = 2 ] && [ "$(salt "$work/drawn-1")" != "$(salt "$work/drawn-2")" ]; then
+    echo "ok passdb: the system's random octets"
+else
+    echo "not ok passdb: the system's random octets: two runs draw the same, or end with $code"
+    failed=1
+fi
+
 exit "$failed"

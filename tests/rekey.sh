@@ -22,13 +22,18 @@ taken_out() {
         sed 's/<Empty Attributes>/<No Attributes>/' "$work/taken" | LC_ALL=C sort
 }
 
+# What check says of a store, but for the algorithms, of which those under PBES2 change.
+without_algorithms() {
+    grep -v -e '^encrypted under: ' -e '^MAC: ' -e '^old: ' "$work/said"
+}
+
 changes() {
     rm -f "$work/changed.p12"
     rekey "$1/store.p12" "$1/password" "$work/changed.p12" && [ ! -s "$work/told" ] &&
         [ "$(stat -c %a "$work/changed.p12")" = 600 ] && [ ! -e "$work/changed.p12".part-* ] || return 1
     # This program opens the same certificates, names and pairs under the new password, and not under the old one.
-    ends 0 check "$1/store.p12" --password-file "$1/password" && cp "$work/said" "$work/before" &&
-        ends 0 check "$work/changed.p12" --password-file "$work/new" && cmp "$work/before" "$work/said" &&
+    ends 0 check "$1/store.p12" --password-file "$1/password" && without_algorithms >"$work/before" &&
+        ends 0 check "$work/changed.p12" --password-file "$work/new" && without_algorithms | cmp "$work/before" - &&
         fails 16 MacMismatch password check "$work/changed.p12" --password-file "$1/password" || return 1
     have_openssl changes || return 0
     if ! openssl pkcs12 -in "$1/store.p12" -passin "file:$1/password" -noout 2>/dev/null; then
@@ -272,5 +277,175 @@ with_nul() {
         nothing_at "$work/nul.d"
 }
 holds a_new_password_with_a_nul_is_refused with_nul
+
+# --- new algorithms ---
+
+# A key, its certificate and another one with their names, in stores of OpenSSL: under Triple DES with a MAC of SHA-1, and as OpenSSL 3
+# makes them.
+legacy=$work/legacy.p12
+modern=$work/modern.p12
+openssl_stores() {
+    openssl pkey -inform DER -in "$home/examples/openssl-key/key-0.der" -out "$work/key.pem" &&
+        openssl x509 -inform DER -in "$home/examples/openssl-key/cert-0.der" -out "$work/cert.pem" &&
+        openssl x509 -inform DER -in "$home/examples/openssl-default/cert-1.der" -out "$work/issuer.pem" || return 1
+    set -- -export -inkey "$work/key.pem" -in "$work/cert.pem" -certfile "$work/issuer.pem" -name 'an older name' -passout "file:$work/p"
+    openssl pkcs12 "$@" -iter 7 -keypbe PBE-SHA1-3DES -certpbe PBE-SHA1-3DES -macalg sha1 -out "$legacy" &&
+        openssl pkcs12 "$@" -iter 7 -out "$modern"
+}
+[ -z "$(command -v openssl)" ] || holds stores_for_the_upgrades openssl_stores
+
+# Changes the store $1 under the password of the file $2 to $3, under new algorithms with 1,000 rounds, with the further words.
+upgrade() {
+    old_store=$1 old_password=$2 new_store=$3
+    shift 3
+    rm -f "$new_store"
+    ends 0 rekey "$old_store" --out "$new_store" --password-file "$old_password" --upgrade --rounds 1000 "$@"
+}
+
+# That OpenSSL opens the store $1 under the password of the file $2, and names no other algorithm, count or length of a salt than these:
+# SHA-256 for the MAC, and PBES2 with AES-256 for all that is encrypted.
+is_upgraded() {
+    openssl pkcs12 -in "$1" -passin "file:$2" -info -noout 2>"$work/info" || return 1
+    grep -qxF 'MAC: sha256, Iteration 1000' "$work/info" && grep -qxF 'MAC length: 32, salt length: 16' "$work/info" || return 1
+    ! grep -e Encrypted -e Shrouded -e Iteration "$work/info" | grep -v '^MAC: ' |
+        grep -vqxE '[A-Za-z0-9 ]+: PBES2, PBKDF2, AES-256-CBC, Iteration 1000, PRF hmacWithSHA256'
+}
+
+upgrades() {
+    have_openssl upgrades || return 0
+    for each in "$legacy" "$modern"; do
+        upgrade "$each" "$work/p" "$work/upgraded.p12" --new-password-file "$work/new" && [ ! -s "$work/told" ] &&
+            is_upgraded "$work/upgraded.p12" "$work/new" && [ "$(grep -c Iteration "$work/info")" -eq 3 ] || return 1
+        taken_out "$each" "$work/p" >"$work/one" && taken_out "$work/upgraded.p12" "$work/new" >"$work/two" &&
+            grep -qF 'an older name' "$work/two" && [ "$(grep -c 'BEGIN CERTIFICATE' "$work/two")" -eq 2 ] &&
+            cmp "$work/one" "$work/two" || return 1
+        openssl pkcs12 -in "$work/upgraded.p12" -passin "file:$work/new" -nodes -nocerts -out "$work/upgraded.pem" 2>"$work/told" &&
+            opens_to_the_key "$work/upgraded.pem" pass: || return 1
+    done
+}
+holds new_algorithms_keep_what_the_store_holds upgrades
+
+upgrades_example() {
+    have_openssl "upgrades_$1" || return 0
+    example=$home/examples/$1
+    openssl pkcs12 -in "$example/store.p12" -passin "file:$example/password" -noout 2>/dev/null || return 0
+    upgrade "$example/store.p12" "$example/password" "$work/upgraded.p12" --new-password-file "$work/new" &&
+        is_upgraded "$work/upgraded.p12" "$work/new" || return 1
+    taken_out "$example/store.p12" "$example/password" >"$work/one" && taken_out "$work/upgraded.p12" "$work/new" >"$work/two" &&
+        cmp "$work/one" "$work/two"
+}
+for example in "$home"/examples/*/store.p12; do
+    example=$(basename "$(dirname "$example")")
+    holds "new_algorithms_for_$example" upgrades_example "$example"
+done
+
+keytool_opens_upgraded() {
+    command -v keytool >/dev/null || {
+        echo "skipped keytool_opens_upgraded: there is no keytool"
+        return 0
+    }
+    example=$home/examples/keytool-default
+    upgrade "$example/store.p12" "$example/password" "$work/java.p12" --new-password-file "$work/new" || return 1
+    keytool -list -keystore "$work/java.p12" -storepass "$(cat "$work/new")" >"$work/one" 2>&1 &&
+        keytool -list -keystore "$example/store.p12" -storepass "$(cat "$example/password")" >"$work/two" 2>&1 || return 1
+    [ "$(grep -c fingerprint "$work/one")" -gt 0 ] && [ "$(grep fingerprint "$work/one")" = "$(grep fingerprint "$work/two")" ]
+}
+holds keytool_opens_the_upgraded_store keytool_opens_upgraded
+
+certtool_opens_upgraded() {
+    command -v certtool >/dev/null || {
+        echo "skipped certtool_opens_upgraded: there is no certtool"
+        return 0
+    }
+    example=$home/examples/gnutls-default
+    upgrade "$example/store.p12" "$example/password" "$work/gnu.p12" --new-password-file "$work/new" &&
+        certtool --p12-info --inder --infile "$work/gnu.p12" --password "$(cat "$work/new")" >"$work/one" 2>"$work/told"
+}
+holds certtool_opens_the_upgraded_store certtool_opens_upgraded
+
+# A store of one encrypted content and one key, and its MAC: 3 counts of 1,000.
+upgrade_limit() {
+    have_openssl upgrade_limit || return 0
+    rm -f "$work/limited.p12"
+    fails 15 WorkLimit '3000 steps' rekey "$legacy" --out "$work/limited.p12" --password-file "$work/p" --new-password-file "$work/new" \
+        --upgrade --rounds 1000 --limit 2999 && nothing_at "$work/limited.p12" &&
+        upgrade "$legacy" "$work/p" "$work/limited.p12" --new-password-file "$work/new" --limit 3000 &&
+        ends 0 check "$work/limited.p12" --password-file "$work/new" --limit 3000 &&
+        fails 15 WorkLimit limit check "$work/limited.p12" --password-file "$work/new" --limit 2999
+}
+holds a_store_that_could_not_be_opened_again_is_not_made upgrade_limit
+
+same_password() {
+    have_openssl same_password || return 0
+    upgrade "$legacy" "$work/p" "$work/same.p12" --same-password --verbose && grep -qF 'changed: every salt; ' "$work/told" &&
+        is_upgraded "$work/same.p12" "$work/p" || return 1
+    taken_out "$legacy" "$work/p" >"$work/one" && taken_out "$work/same.p12" "$work/p" >"$work/two" && cmp "$work/one" "$work/two"
+}
+holds the_password_can_stay same_password
+
+# At a terminal the store's password alone is asked for.
+asks_for_one() {
+    have_openssl asks_for_one || return 0
+    rm -f "$work/asked.p12"
+    "$home/tests/shared/at_terminal.py" --answer p -- "$home/pkcs12" rekey "$legacy" --out "$work/asked.p12" --upgrade --rounds 1000 \
+        --same-password >"$work/told" && is_upgraded "$work/asked.p12" "$work/p"
+}
+holds no_new_password_is_asked_for asks_for_one
+
+upgrade_in_place() {
+    have_openssl upgrade_in_place || return 0
+    cp "$legacy" "$work/replaced.p12" && chmod 640 "$work/replaced.p12" &&
+        ends 0 rekey "$work/replaced.p12" --in-place --password-file "$work/p" --upgrade --rounds 1000 --same-password &&
+        [ "$(stat -c %a "$work/replaced.p12")" = 640 ] && is_upgraded "$work/replaced.p12" "$work/p"
+}
+holds a_store_is_upgraded_in_place upgrade_in_place
+
+upgrade_default() {
+    have_openssl upgrade_default || return 0
+    rm -f "$work/default.p12"
+    ends 0 rekey "$legacy" --out "$work/default.p12" --password-file "$work/p" --new-password-file "$work/new" --upgrade &&
+        openssl pkcs12 -in "$work/default.p12" -passin "file:$work/new" -info -noout 2>"$work/info" &&
+        [ "$(grep -c 'Iteration 600000' "$work/info")" -eq 3 ]
+}
+holds rounds_that_are_not_given_are_600000 upgrade_default
+
+upgrade_usage() {
+    set -- rekey "$keyed" --out "$work/usage.p12" --password-file "$keyed_password"
+    fails 2 Usage '--rounds is for --upgrade' "$@" --new-password-file "$work/new" --rounds 1000 &&
+        fails 2 Usage '--same-password is for --upgrade' "$@" --same-password &&
+        fails 2 Usage '' "$@" --upgrade --same-password --new-password-file "$work/new" &&
+        fails 2 Usage '1 to 100000000' "$@" --new-password-file "$work/new" --upgrade --rounds 0 &&
+        fails 2 Usage '1 to 100000000' "$@" --new-password-file "$work/new" --upgrade --rounds 100000001 &&
+        nothing_at "$work/usage.p12"
+}
+holds options_of_an_upgrade_go_with_it upgrade_usage
+
+# Java opens no store under PBES2 whose password is not ASCII.
+not_ascii() {
+    printf 'p\303\244ssword\n' >"$work/accented"
+    rm -f "$work/accented.p12"
+    ends 0 rekey "$keyed" --out "$work/accented.p12" --password-file "$keyed_password" --new-password-file "$work/accented" \
+        --upgrade --rounds 1000 && grep -qF 'not ASCII' "$work/told" || return 1
+    command -v keytool >/dev/null || return 0
+    ! LC_ALL=C.UTF-8 keytool -list -keystore "$work/accented.p12" -storepass "$(cat "$work/accented")" >/dev/null 2>&1
+}
+holds a_password_that_is_not_ascii_is_warned_of not_ascii
+
+# What check says of the algorithms is what OpenSSL was told.
+algorithms_told() {
+    have_openssl algorithms_told || return 0
+    ends 0 check "$legacy" --password-file "$work/p" && [ "$(grep -c '^encrypted under: ' "$work/said")" -eq 1 ] &&
+        grep '^encrypted under: ' "$work/said" | grep -F 'Triple DES' | grep -qF ', 7 rounds' &&
+        grep '^MAC: ' "$work/said" | grep -F 'SHA-1' | grep -qF ', 7 rounds' && grep -qF -- 'rekey --upgrade' "$work/said" &&
+        ends 0 check "$modern" --password-file "$work/p" && [ "$(grep -c '^encrypted under: ' "$work/said")" -eq 1 ] &&
+        grep '^encrypted under: ' "$work/said" | grep -F 'AES-256-CBC' | grep -F 'HMAC-SHA-256' | grep -qF '7 rounds' &&
+        grep '^MAC: ' "$work/said" | grep -F 'SHA-256' | grep -qF ', 7 rounds' && ! grep -qF -- '--upgrade' "$work/said" &&
+        ends 0 check "$legacy" --password-file "$work/p" --json && "${PYTHON:-python3}" -c '
+import json, sys
+found = json.load(sys.stdin)
+[algorithm] = found["algorithms"]
+assert "Triple DES" in algorithm and "7 rounds" in algorithm and "SHA-1" in found["mac"] and "7 rounds" in found["mac"]' <"$work/said"
+}
+holds check_tells_the_algorithms algorithms_told
 
 exit "$failed"

@@ -122,6 +122,24 @@ static int check_list(const uint8_t *due, uint8_t *output, size_t len)
             !all_are(output, len, 7) ? wrong("a list with a limit of one step") : 0;
 }
 
+/* Octets that are no store, and a new password that is not UTF-8, which is tested first. */
+static int check_no_store(void)
+{
+    static const uint8_t none[] = "none", bad[] = "\377";
+    uint8_t output[8];
+    size_t needed = 9;
+    memset(output, 7, sizeof output);
+    if (pkcs12_open_pem(none, 4, guarded_password, password_len, 9, output, sizeof output, &needed) != PKCS12_MALFORMED || needed ||
+        !all_are(output, sizeof output, 7))
+        return wrong("octets that are no store");
+    needed = 9;
+    if (pkcs12_rekey(none, 4, guarded_password, password_len, bad, 1, 9, drawn, 0, output, sizeof output, &needed) != PKCS12_PASSWORD ||
+        needed || !all_are(output, sizeof output, 7))
+        return wrong("a new password that is not UTF-8");
+    needed = 9;
+    return pkcs12_list(none, 4, bad, 1, 9, output, 0, &needed) != PKCS12_PASSWORD || needed ? wrong("the password of a list") : 0;
+}
+
 int main(int argc, char **argv)
 {
     static uint8_t due[1 << 20];
@@ -135,6 +153,8 @@ int main(int argc, char **argv)
     guarded_password = before_guard(password, password_len);
     guarded_new = before_guard((const uint8_t *)"hunter42", 8);
     guarded_random = before_guard(drawn, sizeof drawn);
+    if (check_no_store())
+        return 1;
     if (check(due, before_guard(NULL, len), len) || check(due, after_guard(len), len))
         return 1;
     /* more room than that: what follows stays */
