@@ -42,11 +42,12 @@ while [ "${pkcs12_out%/}" != "$pkcs12_out" ]; do pkcs12_out=${pkcs12_out%/}; don
 
 # The program cannot ask whether what it replaces has an access control list, which shows in the group's bits of the mode; ls marks it
 # by a plus.
-pkcs12_modes=
-[ -z "$pkcs12_out" ] || [ ! -e "$pkcs12_out" ] ||
-    pkcs12_modes=$(LC_ALL=C ls -ld -- "$pkcs12_out" 2>/dev/null && { [ ! -d "$pkcs12_out" ] || LC_ALL=C ls -lA -- "$pkcs12_out" 2>/dev/null; }) ||
-    pkcs12_modes=
-! printf '%s\n' "$pkcs12_modes" | LC_ALL=C grep -q '^[-d][-rwxsStT]\{9\}+' || export PKCS12_LISTED=1
+is_listed() {
+    [ -n "$pkcs12_out" ] && [ -e "$pkcs12_out" ] || return 1
+    { LC_ALL=C ls -ld -- "$pkcs12_out" && { [ ! -d "$pkcs12_out" ] || LC_ALL=C ls -lA -- "$pkcs12_out"; }; } 2>/dev/null |
+        LC_ALL=C grep -q '^[-d][-rwxsStT]\{9\}+'
+}
+! is_listed || export PKCS12_LISTED=1
 
 # Prints the number by which the file system knows the folder $1.
 identity() {

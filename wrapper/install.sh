@@ -267,6 +267,7 @@ remove_left() {
 }
 
 install() {
+    open_output
     find_prefix "$@"
     refuse_packaged
     refuse_others "$pkcs12_made" "$pkcs12_files"

@@ -1,5 +1,0 @@
-use Rattle.p12.proofs.SpelledStores.{attribute_spelled}
-use Rattle.p12.proofs.spellings.attributes_are_spelled.Goals as goal
-
-pub returns : goal.returns
-returns c = attribute_spelled

@@ -1,5 +1,0 @@
-use Rattle.p12.proofs.Spelled.{encrypted_key_spelled}
-use Rattle.p12.proofs.spellings.encrypted_keys_are_spelled.Goals as goal
-
-pub returns : goal.returns
-returns c = encrypted_key_spelled

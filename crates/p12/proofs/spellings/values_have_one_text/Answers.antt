@@ -1,9 +1,0 @@
-use Rattle.p12.proofs.Spelled.{params_spelled}
-use Rattle.p12.proofs.SpelledStores.{cert_bag_spelled}
-use Rattle.p12.proofs.spellings.values_have_one_text.Goals as goal
-
-pub returns-clause-params : goal.returns-clause-params
-returns-clause-params c = params_spelled
-
-pub returns-clause-certificate : goal.returns-clause-certificate
-returns-clause-certificate c = cert_bag_spelled

@@ -1,5 +1,0 @@
-use Rattle.std.proofs.Common.{◌≡◌, map, take}
-use Rattle.transfer.proofs.store.seal.salts_of.Given as goal
-
-abbrev pub invariant-loop-one : goal.invariant-loop-one
-invariant-loop-one l = l.salts ≡ map (λ d. d.salt) (take l.one-index l.drawn)
