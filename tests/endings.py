@@ -22,7 +22,7 @@ def of_table():
 
 def of_program():
     """The numbers and names of the failures of the command, and of the refusals of a store."""
-    ending = text("crates/store_opening/src/ending.rt")
+    ending = text("crates/pkcs12_opening/src/ending.rt")
     status = text("crates/frame/src/status.rt")
     codes = dict(re.findall(r"Status::(\w+) => (\d+),", status))
     names = dict(re.findall(r'Status::(\w+) => "(\w+)",', status))

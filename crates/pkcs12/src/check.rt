@@ -1,10 +1,10 @@
 //! The subcommand `check`: opens a store, and says what is in it.
 use crate::reading::{given_to, opened_within};
 use pkcs12_arguments::Reading;
+use pkcs12_inspection::{Algorithms, json, summary};
+use pkcs12_opening::{Failure, Surroundings, listing_of, printed};
 use std::alloc::{AllocError, Global};
 use std::rt::Runtime;
-use store_inspection::{Algorithms, json, summary};
-use store_opening::{Failure, Surroundings, listing_of, printed};
 use transfer::OpenedSafe;
 
 /// The algorithms that an opened store was made with.

@@ -1,17 +1,17 @@
 //! The subcommand `export`: writes what an opened store has.
 use pkcs12_arguments::Export;
+use pkcs12_certificates::{Chain, ChainError, chain_text, chain_warnings, chains};
+use pkcs12_export::{
+    Exported, Output, find_folder, needs_new_password, new_password, open_and_seal, tell_exported,
+};
+use pkcs12_opening::{
+    Ending, Failure, Surroundings, new_password_missing, read_given, tell_long_work,
+};
+use pkcs12_output::Folder;
 use std::alloc::Global;
 use std::fs::File;
 use std::io;
 use std::rt::{Files, Runtime};
-use store_certificates::{Chain, ChainError, chain_text, chain_warnings, chains};
-use store_export::{
-    Exported, Output, find_folder, needs_new_password, new_password, open_and_seal, tell_exported,
-};
-use store_opening::{
-    Ending, Failure, Surroundings, new_password_missing, read_given, tell_long_work,
-};
-use store_output::Folder;
 
 /// The chains of the private keys that are exported, where they are asked for.
 fn chains_of(

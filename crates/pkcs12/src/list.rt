@@ -2,12 +2,12 @@
 use crate::clock::{now_text, text_after};
 use crate::reading::{given_to, opened_within};
 use pkcs12_arguments::{Days, List};
-use std::alloc::{AllocError, Global};
-use std::rt::Runtime;
-use store_certificates::{
+use pkcs12_certificates::{
     EndingCertificates, ending_by, listed_json, listed_text, read_certificates,
 };
-use store_opening::{Ending, Failure, Surroundings, listing_of, printed};
+use pkcs12_opening::{Ending, Failure, Surroundings, listing_of, printed};
+use std::alloc::{AllocError, Global};
+use std::rt::Runtime;
 use transfer::OpenedSafe;
 
 /// What `list` says of the certificates and private keys of an opened store; `now` is the time, where the clock tells it.

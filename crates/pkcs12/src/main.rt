@@ -12,10 +12,10 @@ mod rekeying;
 mod run;
 mod self_test;
 
+use pkcs12_opening::Surroundings;
 use std::io::IsTerminal;
 use std::process;
 use std::process::ExitCode;
-use store_opening::Surroundings;
 
 fn main(rt: HostRuntime) -> ExitCode {
     let around = Surroundings {

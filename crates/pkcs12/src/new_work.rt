@@ -1,11 +1,11 @@
 //! The work of opening a store once its algorithms are changed.
 ghost use Rattle.std.specs.Prelude.{◌≡◌, ◌*◌, ◌≤◌, ◌⊎◌, ◌↔◌, IfErr, IsTrue};
-ghost use Rattle.store_opening.specs.declared.ending.Ending.TheVariants.{Memory, Refused};
+ghost use Rattle.pkcs12_opening.specs.declared.ending.Ending.TheVariants.{Memory, Refused};
 ghost use Rattle.transfer.specs.declared.store.error.TransferError.TheVariants.{WorkLimit};
 
+use pkcs12_inspection::encrypted_contents;
+use pkcs12_opening::{Ending, Failure};
 use std::alloc::Global;
-use store_inspection::encrypted_contents;
-use store_opening::{Ending, Failure};
 use transfer::TransferError;
 
 /// Whether so many rounds for each of so many keys that are derived are within the limit.

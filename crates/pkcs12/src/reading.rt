@@ -1,9 +1,9 @@
 //! The store of the subcommands that write nothing.
 use pkcs12_arguments::Reading;
-use std::rt::Runtime;
-use store_opening::{
+use pkcs12_opening::{
     Failure, Given, Surroundings, inputs_differ, opened, read_given, tell_long_work,
 };
+use std::rt::Runtime;
 use transfer::OpenedSafe;
 
 /// Reads the store and its password.

@@ -9,6 +9,13 @@ use command_base::Password;
 use octet_core::{Draw, FileDraw};
 use p12::{CertBag, SafeBag, SafeBagKind};
 use pkcs12_arguments::{Rekey, UpgradeRounds};
+use pkcs12_inspection::{Listing, counts};
+use pkcs12_opening::{
+    Ending, Failure, Given, NewPassword, RANDOM, Surroundings, are_one, inputs_differ,
+    is_not_given_again, listing_of, new_password_missing, opened, opened_store, output_differs,
+    path_of_store, read_given, read_password, refused, tell_long_work, with_detail, without_nul,
+};
+use pkcs12_output::StoreFile;
 use rekey_core::{Rounds, rekey, upgrade};
 use std::alloc::{AllocError, Global};
 use std::fs::File;
@@ -16,13 +23,6 @@ use std::marker::Brand;
 use std::rt::{Env, Files, Runtime};
 use std::sync::ledger::{Blank, Ledger};
 use steps::Steps;
-use store_inspection::{Listing, counts};
-use store_opening::{
-    Ending, Failure, Given, NewPassword, RANDOM, Surroundings, are_one, inputs_differ,
-    is_not_given_again, listing_of, new_password_missing, opened, opened_store, output_differs,
-    path_of_store, read_given, read_password, refused, tell_long_work, with_detail, without_nul,
-};
-use store_output::StoreFile;
 use transfer::{Opened, TransferError};
 
 /// A change of the password of a store.

@@ -6,11 +6,11 @@ use crate::rekeying::run_rekey;
 use crate::self_test::self_test;
 use command_base::{Message, arguments};
 use pkcs12_arguments::{ArgumentsError, Request, request_of};
+use pkcs12_opening::{ASKING, Ending, Failure, Surroundings, printed, without_password_argument};
 use std::alloc::AllocError;
 use std::fs::File;
 use std::rt::{Env, Runtime};
 use std::{env, io};
-use store_opening::{ASKING, Ending, Failure, Surroundings, printed, without_password_argument};
 
 fn run_self_test<R: Print + AllocGlobal>(rt: &R) -> Result<(), Failure> {
     let lines = self_test(rt.alloc())?;

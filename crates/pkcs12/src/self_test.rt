@@ -4,11 +4,11 @@ ghost use Rattle.std.specs.Prelude.{◌≡◌, ◌<◌};
 
 use asn1_core::{Error, Items, Octets};
 use mac_modes::DrawnBytes;
+use pkcs12_opening::{Ending, Failure};
 use std::alloc::Global;
 use std::marker::Brand;
 use std::sync::ledger::{Blank, Ledger};
 use steps::Steps;
-use store_opening::{Ending, Failure};
 use transfer::{MemorySink, MemorySource, Status, run};
 
 /// How many keys the sample has.

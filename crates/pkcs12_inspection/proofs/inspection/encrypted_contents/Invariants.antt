@@ -1,0 +1,5 @@
+use Rattle.std.proofs.Common.{length}
+use Rattle.pkcs12_inspection.proofs.inspection.encrypted_contents.Given as goal
+
+abbrev pub decreases-loop-content : goal.decreases-loop-content
+decreases-loop-content l = length l.contents.left

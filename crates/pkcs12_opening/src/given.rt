@@ -1,0 +1,120 @@
+//! The store and its password, as they are read.
+ghost use Rattle.std.specs.Prelude.{◌≤◌, ℕ, IfOk, IfErr};
+ghost use Rattle.pkcs12_opening.specs.Ending.{FailsToOpen};
+ghost use Rattle.transfer.specs.Verdicts.{StoreOpens};
+
+use crate::ending::{Ending, Failure};
+use crate::input::is_read_once;
+use crate::opening::{opened_store, read_store};
+use crate::password::read_password;
+use crate::refusal::with_detail;
+use command_base::{Origin, Password};
+use pkcs12_inspection::mac_rounds;
+use std::alloc::Global;
+use std::env;
+use std::rt::{Env, Files};
+use transfer::{OpenedSafe, TransferError};
+
+/// Where this variable is set, the script that started the program asks for a password that is
+/// missing and runs it again, so the program itself keeps silent.
+pub const ASKING: &str = "PKCS12_ASKING";
+
+/// The octets of a store, which nothing has looked at, and its password.
+#[derive(Drop)]
+pub struct Given {
+    pub store: Vec<u8>,
+    pub password: Password,
+}
+
+fn password_missing() -> Failure {
+    Failure::new(
+        Ending::PasswordMissing,
+        "the store's password was not given, and there is no terminal to ask at",
+    )
+}
+
+/// `NewPasswordMissing`, where the script could not ask for it later.
+pub fn new_password_missing() -> Failure {
+    Failure::new(
+        Ending::NewPasswordMissing,
+        "the store or its password is read once alone, so the new password is needed from the \
+         beginning",
+    )
+}
+
+/// Whether the password can be read once alone.
+fn is_password_read_once<R: Files>(rt: &R, origin: Origin<'_>) -> bool {
+    match origin {
+        Origin::File(path) => is_read_once(rt, path),
+        Origin::Variable(_) => false,
+        Origin::Standard => true,
+    }
+}
+
+/// Whether the store or its password cannot be read again by a second run, where the script asks.
+pub fn is_not_given_again<R: Files + Env + AllocGlobal>(
+    rt: &R,
+    store: &str,
+    password: Option<Origin<'_>>,
+) -> bool {
+    match password {
+        Some(origin) if env::var(rt, ASKING).is_ok() => {
+            is_read_once(rt, store) || is_password_read_once(rt, origin)
+        }
+        Some(_) | None => false,
+    }
+}
+
+/// What refuses a store that has no password yet: what is seen with no work at all, else that the
+/// password is missing.
+fn refused_unasked(alloc: Global, store: &[u8], limit: u64) -> Failure {
+    let empty = Password::empty(alloc);
+    // Under this limit nothing is derived.
+    match opened_store(alloc, store, &empty, 0) {
+        Err(failure) => match failure.ending {
+            Ending::Refused(TransferError::WorkLimit) if mac_rounds(store) <= limit => {
+                password_missing()
+            }
+            Ending::Refused(TransferError::MacMismatch) => password_missing(),
+            _ => with_detail(alloc, failure, store, &empty, limit),
+        },
+        Ok(_) => password_missing(),
+    }
+}
+
+/// Reads the store at the path, or for `-` on the standard input, and its password, where that has an origin. `limit` is the most
+/// steps of opening it.
+///
+/// `ReadFault` where one of them cannot be read, `PasswordUnusable` where the password is not UTF-8 or has more than 1,024 octets.
+/// Without an origin it fails in any case: as `Refused` where the store is refused under any password, which takes no steps, and else
+/// as `PasswordMissing`.
+pub fn read_given<R: Files + Env + Input + AllocGlobal>(
+    rt: &R,
+    path: &str,
+    origin: Option<Origin<'_>>,
+    limit: u64,
+) -> Result<Given, Failure> {
+    if origin.is_none() && is_read_once(rt, path) {
+        return Err(password_missing());
+    }
+    let store = read_store(rt, path)?;
+    let Some(origin) = origin else {
+        return Err(refused_unasked(rt.alloc(), store.as_slice(), limit));
+    };
+    let password = read_password(rt, "password", origin)?;
+    Ok(Given { store, password })
+}
+
+/// Opens a store within the limit, in steps, as `opened_store` does. A refusal has what more there is to say of it.
+pub fn opened(alloc: Global, given: &Given, limit: u64) -> Result<OpenedSafe, Failure>
+    ensures ok { IfOk result (λ o. (n : ℕ)
+        × StoreOpens given.now.store.items given.now.password o.contents o.keys n × (n ≤ limit)) }
+    ensures err { IfErr result
+        (λ f. FailsToOpen given.now.store.items given.now.password limit f.ending) }
+{
+    let store = given.store.as_slice();
+    match opened_store(alloc, store, &given.password, limit) {
+        Ok(opened) => Ok(opened),
+        Err(failure) => Err(with_detail(alloc, failure, store, &given.password, limit)),
+    }
+}

@@ -1,5 +1,0 @@
-use Rattle.std.proofs.Common.{length}
-use Rattle.store_inspection.proofs.inspection.contents_not_opened.Given as goal
-
-abbrev pub decreases-loop-content : goal.decreases-loop-content
-decreases-loop-content l = length l.contents.left

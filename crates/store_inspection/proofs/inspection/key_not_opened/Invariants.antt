@@ -1,5 +1,0 @@
-use Rattle.std.proofs.Common.{length}
-use Rattle.store_inspection.proofs.inspection.key_not_opened.Given as goal
-
-abbrev pub decreases-loop-bag : goal.decreases-loop-bag
-decreases-loop-bag l = length l.bags.left
