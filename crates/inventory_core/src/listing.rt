@@ -1,12 +1,14 @@
 //! The inventory of a store.
-ghost use Rattle.std.specs.Prelude.{◌≡◌, ◌+◌, ◌≤◌, ◌<◌, ◌^◌, length, IfOk, IfErr};
+ghost use Rattle.std.specs.Prelude.{◌≡◌, ◌+◌, ◌≤◌, ◌<◌, ◌^◌, List, ℕ, length, IfOk, IfErr};
 ghost use Rattle.std.specs.String.{string_bytes};
 ghost use Rattle.frame.specs.DueText.{joined};
 ghost use Rattle.transfer.specs.Opening.{HasVerdict, RefusedAfter, refused};
 ghost use Rattle.transfer.specs.Transferred.{IsDecided};
 ghost use Rattle.inventory_core.specs.Answers.{Inventories};
+ghost use Rattle.inventory_core.specs.Sheet.{IsListed};
 
-use crate::table::table_of;
+use crate::listed::Listed;
+use crate::table::{table_of, table_within};
 use octet_core::{Items, Text};
 use std::alloc::{AllocError, Global};
 use std::sync::ledger::Ledger;
@@ -86,6 +88,38 @@ pub fn inventory<L: Ledger>(
     };
     match joined_text(alloc, lines.as_slice()) {
         Ok(text) => Ok(text),
+        Err(_) => Err(TransferError::Memory),
+    }
+}
+
+/// As `inventory`, where there is room for so many octets: of a table that has more, which one store may have by
+/// its chains, their number is returned, and it takes no more memory than the room.
+///
+/// Caller: the password has fewer than 2^57 octets.
+pub fn inventory_within<L: Ledger>(
+    alloc: Global,
+    store: &[u8],
+    password: &str,
+    limit: u64,
+    room: usize,
+    steps: &mut Steps<L>,
+) -> Result<Listed, TransferError>
+    requires { length password.now < 2 ^ 57 }
+    ensures made { IfOk result (λ listed. (text : List ℕ) × Inventories store.now password.now limit
+        steps.old steps.new text × IsListed room text listed) }
+    ensures refused { IfErr result
+        (RefusedAfter (λ e n. HasVerdict store.now password.now limit (refused e) n) steps.old
+        steps.new) }
+    ensures exact { IsDecided store.now password.now limit result }
+    ensures at_most { (steps.old ≤ steps.new) × (steps.new ≤ steps.old + limit) }
+{
+    // The proofs name both outcomes of this call.
+    let opened = match open_store(alloc, store, password, limit, steps) {
+        Ok(opened) => opened,
+        Err(e) => return Err(e),
+    };
+    match table_within(alloc, opened.contents.as_slice(), room) {
+        Ok(sheet) => Ok(sheet.finish()),
         Err(_) => Err(TransferError::Memory),
     }
 }

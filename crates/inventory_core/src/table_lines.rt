@@ -5,13 +5,16 @@ ghost use Rattle.hex.specs.Hex.{encode_lower};
 ghost use Rattle.std.specs.String.{string_bytes};
 ghost use Rattle.asn1_core.specs.Der.{IsShort};
 ghost use Rattle.asn1_core.specs.Texts.{seen_option};
+ghost use Rattle.frame.specs.DueText.{joined};
 ghost use Rattle.inventory_core.specs.Gathering.{HaveShortKeys};
 ghost use Rattle.spki.specs.Spelling.{public_key_text};
 ghost use Rattle.inventory_core.specs.Lines.{AreLines, CertificateLine, ChainLine, KeyLine, fingerprint, numbers};
+ghost use Rattle.inventory_core.specs.Sheet.{Holds};
 ghost use Rattle.inventory_core.specs.View.{seen_all, seen_certificate};
 
 use crate::certificate::CertificateView;
 use crate::first_ids::{first_ids, start_of};
+use crate::sheet::Sheet;
 use crate::subject_index::SubjectIndex;
 use octet_core::{Items, Octets, Text};
 use std::alloc::{AllocError, Global};
@@ -113,6 +116,54 @@ pub(crate) fn add_key_lines(
     for i in 0..key_ids.len() {
         let start = start_of(&firsts, &key_ids[i]);
         lines.push(chain_line(alloc, index, i, start)?)?;
+    }
+    Ok(())
+}
+
+/// Adds the lines of all certificates to a sheet.
+pub(crate) fn write_certificates(
+    alloc: Global,
+    index: &SubjectIndex<'_>,
+    sheet: &mut Sheet,
+) -> Result<(), AllocError>
+    requires { HaveShortKeys (seen_all index.now.certificates.now) }
+    ensures lines { OnOk result ((lines : List (List ℕ)) × AreLines (CertificateLine
+        (seen_all index.now.certificates.now)) 0 (seen_all index.now.certificates.now) lines
+        × ((all : List ℕ)
+        → Holds sheet.old.length sheet.old.room (string_bytes sheet.old.text) all
+        → Holds sheet.new.length sheet.new.room (string_bytes sheet.new.text)
+        (all ++ joined lines))) }
+    ensures room { sheet.new.room ≡ sheet.old.room }
+{
+    let certificates = index.certificates();
+    for j in 0..certificates.len() {
+        let line = certificate_line(alloc, index, j, &certificates[j])?;
+        sheet.add(line.as_str())?;
+    }
+    Ok(())
+}
+
+/// Adds the lines of all keys to a sheet.
+pub(crate) fn write_keys(
+    alloc: Global,
+    index: &SubjectIndex<'_>,
+    certificate_ids: &[Option<Octets>],
+    key_ids: &[Option<Octets>],
+    sheet: &mut Sheet,
+) -> Result<(), AllocError>
+    ensures lines { OnOk result ((lines : List (List ℕ)) × AreLines (KeyLine
+        (seen_all index.now.certificates.now) certificate_ids.now) 0 key_ids.now lines
+        × ((all : List ℕ)
+        → Holds sheet.old.length sheet.old.room (string_bytes sheet.old.text) all
+        → Holds sheet.new.length sheet.new.room (string_bytes sheet.new.text)
+        (all ++ joined lines))) }
+    ensures room { sheet.new.room ≡ sheet.old.room }
+{
+    let firsts = first_ids(alloc, certificate_ids)?;
+    for i in 0..key_ids.len() {
+        let start = start_of(&firsts, &key_ids[i]);
+        let line = chain_line(alloc, index, i, start)?;
+        sheet.add(line.as_str())?;
     }
     Ok(())
 }
