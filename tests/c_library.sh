@@ -70,7 +70,7 @@ exported_names() {
         return 0
     }
     nm -D --defined-only "$work/lib/libpkcs12.so.1" | awk '{ print $3 }' | sort >"$work/found"
-    printf '%s\n' pkcs12_list pkcs12_open_pem pkcs12_rekey pkcs12_room pkcs12_transfer_pem pkcs12_version | cmp - "$work/found" || return 1
+    printf '%s\n' pkcs12_list pkcs12_open_pem pkcs12_rekey pkcs12_room pkcs12_transfer_pem pkcs12_upgrade pkcs12_version | cmp - "$work/found" || return 1
     sed -nE 's/^(uint32_t|size_t) (pkcs12_[a-z_]*)\(.*/\2/p' "$crate/include/pkcs12.h" | sort | cmp - "$work/found" || return 1
     ! nm -D --undefined-only "$work/lib/libpkcs12.so.1" | awk '{ print $NF }' | sed 's/@.*//' |
         grep -vxE 'malloc|realloc|free|memcpy|memmove|memset|memcmp|bcmp|__cxa_finalize|_ITM_.*|__gmon_start__|__stack_chk_fail'
@@ -263,6 +263,7 @@ calls() {
         grep -q 'refused (16): the password is wrong, or the store was changed' "$work/told" || return 1
     # No more is read than a store may have.
     code=0
+    # shellcheck disable=SC3045 # dash has it
     (ulimit -v 4000000 && exec timeout 60 "$@" /dev/zero "$work/new" "$work/new") >"$work/$caller.pem" 2>"$work/told" || code=$?
     [ "$code" -eq 21 ] && [ ! -s "$work/$caller.pem" ] || return 1
     # A file that is not there, and a disk that is full.
@@ -419,6 +420,50 @@ END
     }
 }
 holds a_store_under_another_password rekeyed
+# Each store of examples/ under the algorithms of today has what it had; OpenSSL reads it, and says under which algorithms it is.
+upgraded() {
+    LIBPKCS12=$work/lib/libpkcs12.so.1 PYTHONDONTWRITEBYTECODE=1 PYTHONPATH=$crate/examples/python "${PYTHON:-python3}" - "$home" \
+        "$work" <<'END' || return 1
+import pathlib
+import sys
+import pkcs12
+
+home, work = sys.argv[1:]
+stores = sorted(pathlib.Path(home, "examples").glob("*/store.p12"))
+for path in stores:
+    store, password = path.read_bytes(), path.with_name("password").read_bytes().rstrip(b"\r\n")
+    changed = pkcs12.upgrade(store, password, b"newer", rounds=1000)
+    pathlib.Path(work, f"{path.parent.name}.upgraded").write_bytes(changed)
+    assert pkcs12.open_pem(changed, b"newer") == pkcs12.open_pem(store, password), path
+    assert pkcs12.list(changed, b"newer") == pkcs12.list(store, password), path
+    # the password may stay
+    same = pkcs12.upgrade(store, password, password, rounds=1)
+    assert pkcs12.open_pem(same, password) == pkcs12.open_pem(store, password), path
+assert len(stores) > 8
+for rounds in (0, 100_000_001, 2**32 - 1):
+    try:
+        pkcs12.upgrade(store, password, b"newer", rounds=rounds)
+        sys.exit(f"{rounds} rounds")
+    except pkcs12.Refused as refused:
+        assert refused.number == 2
+END
+    built upgrade "$sanitized" "$archive" && built open "$sanitized" "$archive" || return 1
+    for store in "$keyed:$keyed_password" "$work/short.p12:$work/p" "$work/nothing.p12:$work/p"; do
+        "$work/upgrade" "${store%:*}" "${store#*:}" "$work/new" >"$work/changed" 2>"$work/told" &&
+            "$work/open" "$work/changed" "$work/new" >"$work/text" 2>"$work/told" &&
+            "$work/open" "${store%:*}" "${store#*:}" 2>"$work/told" | cmp - "$work/text" || return 1
+    done
+    have_openssl "$name" || return 0
+    for each in openssl openssl-key keytool; do
+        openssl pkcs12 -in "$work/$each.upgraded" -passin pass:newer -info -noout >"$work/told" 2>&1 && grep -q '^MAC: sha256, Iteration 1000$' "$work/told" &&
+            [ "$(grep -c 'PBES2, PBKDF2, AES-256-CBC, Iteration 1000, PRF hmacWithSHA256' "$work/told")" -eq \
+                "$(grep -c 'Encrypted data\|Shrouded Keybag' "$work/told")" ] || return 1
+    done
+    openssl pkcs12 -in "$work/openssl-key.upgraded" -passin pass:newer -nodes -nocerts 2>"$work/told" | openssl pkey -outform DER \
+        2>"$work/told" >"$work/key.der" &&
+        openssl pkey -inform DER -in "$home/examples/openssl-key/key-0.der" -outform DER 2>"$work/told" | cmp - "$work/key.der"
+}
+holds a_store_under_the_algorithms_of_today upgraded
 from_rust() {
     has rustc || return 0
     rustc --edition 2021 -O -o "$work/from_rust" "$crate/examples/rust/transfer.rs" -L "$work/lib" -l static=pkcs12 2>"$work/told" &&
@@ -428,8 +473,10 @@ holds from_rust from_rust
 from_go() {
     has go && has pkg-config || return 0
     mkdir -p "$work/prefix/lib/pkgconfig" "$work/prefix/include" "$work/go" && cp "$work"/lib/* "$work/prefix/lib" &&
-        cp "$crate/include/pkcs12.h" "$work/prefix/include" && cp "$crate/link/pkcs12.pc" "$work/prefix/lib/pkgconfig" &&
-        cp "$crate"/examples/go/* "$work/go" || return 1
+        cp "$crate/include/pkcs12.h" "$work/prefix/include" && cp "$crate"/examples/go/* "$work/go" || return 1
+    # As ./pkcs12 install does.
+    sed -e 's|@UP@|../..|' -e 's|@LIBDIR@|lib|' -e "s|@VERSION@|$(cat "$home/VERSION")|" "$crate/link/pkcs12.pc" \
+        >"$work/prefix/lib/pkgconfig/pkcs12.pc" || return 1
     (cd "$work/go" && PKG_CONFIG_PATH=$work/prefix/lib/pkgconfig GOFLAGS=-mod=mod GOPROXY=off GOCACHE=$work/go-cache \
         go build -o "$work/from_go" .) >"$work/told" 2>&1 && calls go env "LD_LIBRARY_PATH=$work/prefix/lib" "$work/from_go"
 }

@@ -38,7 +38,7 @@ static uint8_t output[1 << 18], whole[1 << 18];
 /* At most so many lists of attributes are in the store. */
 static const long lists = 4;
 
-/* One of the four calls. */
+/* One of the five calls. */
 static uint32_t call(int which, size_t *needed)
 {
     if (which == 0)
@@ -47,14 +47,17 @@ static uint32_t call(int which, size_t *needed)
         return pkcs12_open_pem(store, store_len, password, password_len, LIMIT, output, sizeof output, needed);
     if (which == 2)
         return listed(output, sizeof output, needed);
-    return pkcs12_rekey(store, store_len, password, password_len, NEW_PASSWORD, LIMIT, drawn, sizeof drawn, output,
+    if (which == 3)
+        return pkcs12_rekey(store, store_len, password, password_len, NEW_PASSWORD, LIMIT, drawn, sizeof drawn, output,
+            sizeof output, needed);
+    return pkcs12_upgrade(store, store_len, password, password_len, NEW_PASSWORD, 3, LIMIT, drawn, sizeof drawn, output,
         sizeof output, needed);
 }
 
 int main(int argc, char **argv)
 {
     read_inputs(argc, argv);
-    for (int which = 0; which < 4; which++) {
+    for (int which = 0; which < 5; which++) {
         size_t needed, due;
         refused = requests = live = 0;
         if (call(which, &due) != PKCS12_DONE || live)

@@ -24,7 +24,7 @@ extern "C" {
 #endif
 
 /* The version of this interface: it rises with each call that is added. */
-#define PKCS12_VERSION 1
+#define PKCS12_VERSION 2
 
 /* The version of the interface that the library has: the header's calls are there where this is at least PKCS12_VERSION. */
 uint32_t pkcs12_version(void);
@@ -138,8 +138,8 @@ uint32_t pkcs12_open_pem(
  * Issuers are found by their names alone; no signature is tested. No name is written, and neither are friendly names, which
  * may be any octets that the store's maker chose: each line is ASCII text and ends with a line feed. A store with neither
  * certificates nor encrypted keys has a table of no octets. A chain may have all certificates of the store, so pkcs12_room
- * says nothing of a table, and the table is made in memory before its length is known: one of a store of 1 MB that others
- * made may have 100 MB. The rest is as for pkcs12_open_pem. */
+ * says nothing of a table: that of a store of 1 MB that others made may have 100 MB. No more of it is kept than output_len;
+ * where it has more octets, PKCS12_ROOM is returned, and *needed says how many. The rest is as for pkcs12_open_pem. */
 uint32_t pkcs12_list(
     const uint8_t *store, size_t store_len,
     const uint8_t *password, size_t password_len,
@@ -164,6 +164,23 @@ uint32_t pkcs12_rekey(
     const uint8_t *random, size_t random_len,
     uint8_t *output, size_t output_len, size_t *needed);
 
+/* As pkcs12_rekey, and brings the store to the algorithms of today: each key and content that is encrypted is sealed under PBES2,
+ * PBKDF2 with HMAC-SHA-256 and AES-256-CBC, whatever it was under, and the MAC is made with HMAC-SHA-256, all in so many rounds.
+ * The new password may be the old one.
+ *
+ *   rounds        for each part and for the MAC, 1 to 100,000,000
+ *   random        32 octets for each encrypted part, a key or a content, and 16 for the MAC; as many octets as the store has may
+ *                 be too few
+ *
+ * Opening the upgraded store takes `rounds` steps for each of these parts and for the MAC: no limit below that opens it again. */
+uint32_t pkcs12_upgrade(
+    const uint8_t *store, size_t store_len,
+    const uint8_t *password, size_t password_len,
+    const uint8_t *new_password, size_t new_password_len,
+    uint32_t rounds, uint64_t limit,
+    const uint8_t *random, size_t random_len,
+    uint8_t *output, size_t output_len, size_t *needed);
+
 /* ---- The same in one step, on the C side: written in C, and no part of what is proved.
  *
  * Define PKCS12_ONE_STEP before this header is included. On PKCS12_DONE *text, or *changed, is from malloc and has a NUL after
@@ -182,12 +199,14 @@ uint32_t pkcs12_rekey(
 #define PKCS12_PARTS_MAX 1000
 #endif
 
+/* Random octets for PKCS12_PARTS_MAX parts and the MAC. */
+#define PKCS12_RANDOM_MOST (32 * (size_t)PKCS12_PARTS_MAX + 16)
+
 /* How many random octets a store of so many is given: as many as it has are always enough, and no more than for
  * PKCS12_PARTS_MAX parts and the MAC. */
 static inline size_t pkcs12_random_len(size_t store_len)
 {
-    const size_t most = 32 * (size_t)PKCS12_PARTS_MAX + 16;
-    return store_len < most ? store_len : most;
+    return store_len < PKCS12_RANDOM_MOST ? store_len : PKCS12_RANDOM_MOST;
 }
 
 static inline int pkcs12_random(uint8_t *at, size_t len)
@@ -296,16 +315,16 @@ static inline uint32_t pkcs12_list_new(
     return number;
 }
 
-/* The changed store is octets and no text; there is a NUL after them all the same. */
-static inline uint32_t pkcs12_rekey_new(
+/* The store under another password, and of so many rounds, or with its algorithms and counts where they are none. */
+static inline uint32_t pkcs12_changed_new(
     const uint8_t *store, size_t store_len,
     const uint8_t *password, size_t password_len,
     const uint8_t *new_password, size_t new_password_len,
-    uint64_t limit, uint8_t **changed, size_t *len)
+    const uint32_t *rounds, uint64_t limit, uint8_t **changed, size_t *len)
 {
     /* parts may become longer than they were: where the changed store does not fit, the call is made again */
     size_t room = 2 * store_len + 4096, needed = 0;
-    const size_t random_len = pkcs12_random_len(store_len);
+    const size_t random_len = rounds ? PKCS12_RANDOM_MOST : pkcs12_random_len(store_len);
     uint32_t number;
     *changed = NULL;
     *len = 0;
@@ -317,6 +336,9 @@ static inline uint32_t pkcs12_rekey_new(
             number = PKCS12_MEMORY;
         else if (!pkcs12_random(random, random_len))
             number = PKCS12_RANDOM_SHORT;
+        else if (rounds)
+            number = pkcs12_upgrade(store, store_len, password, password_len, new_password, new_password_len, *rounds, limit,
+                random, random_len, output, room, &needed);
         else
             number = pkcs12_rekey(store, store_len, password, password_len, new_password, new_password_len, limit, random,
                 random_len, output, room, &needed);
@@ -325,6 +347,25 @@ static inline uint32_t pkcs12_rekey_new(
         room = needed;
     } while (number == PKCS12_ROOM);
     return number;
+}
+
+/* The changed store is octets and no text; there is a NUL after them all the same. */
+static inline uint32_t pkcs12_rekey_new(
+    const uint8_t *store, size_t store_len,
+    const uint8_t *password, size_t password_len,
+    const uint8_t *new_password, size_t new_password_len,
+    uint64_t limit, uint8_t **changed, size_t *len)
+{
+    return pkcs12_changed_new(store, store_len, password, password_len, new_password, new_password_len, NULL, limit, changed, len);
+}
+
+static inline uint32_t pkcs12_upgrade_new(
+    const uint8_t *store, size_t store_len,
+    const uint8_t *password, size_t password_len,
+    const uint8_t *new_password, size_t new_password_len,
+    uint32_t rounds, uint64_t limit, uint8_t **changed, size_t *len)
+{
+    return pkcs12_changed_new(store, store_len, password, password_len, new_password, new_password_len, &rounds, limit, changed, len);
 }
 #endif
 

@@ -6,8 +6,11 @@ use Rattle.transfer.specs.declared.store.error.TransferError.{TransferError}
 use Rattle.transfer.specs.declared.store.error.TransferError.TheVariants as cause
 use Rattle.transfer.specs.declared.store.opened.Opened.{Opened}
 use Rattle.transfer.specs.declared.store.transfer.Transferred.{Transferred}
-use Rattle.rekey_core.specs.Rekeyed.{IsSettled}
-use Rattle.pkcs12_c.specs.Changed.{ChangesDrawn, IsRefusedChange}
+use Rattle.rekey_core.specs.Rekeyed.{IsSettledTo}
+use Rattle.rekey_core.specs.declared.kinds.Kinds.{Kinds}
+use Rattle.rekey_core.specs.declared.kinds.Kinds.TheVariants.{Kept, Renewed}
+use Rattle.rekey_core.specs.declared.kinds.Rounds.{Rounds as Count}
+use Rattle.pkcs12_c.specs.Changed.{ChangesDrawnTo, IsRefusedChangeTo}
 use Rattle.pkcs12_c.specs.Drawn.{IsRefusedDrawn, TransfersDrawn}
 use Rattle.pkcs12_c.specs.Listed.{ListsWithin}
 use Rattle.pkcs12_c.specs.Opened.{IsRefusedOpening, OpensWithin}
@@ -107,21 +110,41 @@ pub record ListAnswers (b p : List ℕ) (limit : ℕ) (old new : List ℕ) (need
 
 -- ---- Another password
 
--- What the change of a store's password came to, and what was returned for it.
-pub record StoreChanged (b p q random : List ℕ) (limit : ℕ) (old new : List ℕ) (needed : ℕ)
-    (r : Result (Unit {0}) Refusal) : Type 0 where
+-- What the change of a store to these kinds came to, and what was returned for it.
+pub record StoreChangedTo (to : Kinds) (b p q random : List ℕ) (limit : ℕ) (old new : List ℕ)
+    (needed : ℕ) (r : Result (Unit {0}) Refusal) : Type 0 where
   pub changed : Result (List ℕ) TransferError
   -- it is changed to this text, over these random octets
-  pub changes : IfOk changed (ChangesDrawn b p q limit random)
+  pub changes : IfOk changed (ChangesDrawnTo to b p q limit random)
   -- it is refused for its first cause
-  pub refused : IfErr changed (IsRefusedChange b p limit random)
+  pub refused : IfErr changed (IsRefusedChangeTo to b p limit random)
   -- and each comes exactly where its cause holds, apart from being out of memory
-  pub exact : IsSettled b p limit (Some random) changed
+  pub exact : IsSettledTo to b p limit (Some random) changed
   pub follows : Follows (λ c. c) changed old new needed r
 
--- The result of a change: the passwords are tested first, then the store.
-pub record ChangeAnswers (b p q random : List ℕ) (limit : ℕ) (old new : List ℕ) (needed : ℕ)
-    (r : Result (Unit {0}) Refusal) : Type 0 where
+-- The result of a change to these kinds: the passwords are tested first, then the store.
+pub record ChangeAnswersTo (to : Kinds) (b p q random : List ℕ) (limit : ℕ) (old new : List ℕ)
+    (needed : ℕ) (r : Result (Unit {0}) Refusal) : Type 0 where
   pub password_first : (IsPassword p → ⊥) → Refuses old new needed r Password
   pub then_new_password : IsPassword p → (IsPassword q → ⊥) → Refuses old new needed r Password
-  pub then_store : IsPassword p → IsPassword q → StoreChanged b p q random limit old new needed r
+  pub then_store : IsPassword p → IsPassword q
+      → StoreChangedTo to b p q random limit old new needed r
+
+-- The same where each part and the MAC keeps its kind.
+abbrev pub StoreChanged : List ℕ → List ℕ → List ℕ → List ℕ → ℕ → List ℕ → List ℕ → ℕ
+    → Result (Unit {0}) Refusal → Type 0
+StoreChanged b p q random limit old new needed r =
+    StoreChangedTo Kept b p q random limit old new needed r
+
+abbrev pub ChangeAnswers : List ℕ → List ℕ → List ℕ → List ℕ → ℕ → List ℕ → List ℕ → ℕ
+    → Result (Unit {0}) Refusal → Type 0
+ChangeAnswers b p q random limit old new needed r =
+    ChangeAnswersTo Kept b p q random limit old new needed r
+
+-- The result of an upgrade: the rounds are tested first; then it is that of a change to parts and a
+-- MAC of so many rounds.
+pub record UpgradeAnswers (b p q random : List ℕ) (rounds limit : ℕ) (old new : List ℕ)
+    (needed : ℕ) (r : Result (Unit {0}) Refusal) : Type 0 where
+  pub rounds_first : (AreRounds rounds → ⊥) → Refuses old new needed r Rounds
+  pub then_change : AreRounds rounds → (k : Count) × (k.count ≡ rounds)
+      × ChangeAnswersTo (Renewed k) b p q random limit old new needed r

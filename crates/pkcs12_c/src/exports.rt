@@ -1,19 +1,22 @@
 //! The exports, and the typed calls that they number.
-ghost use Rattle.std.specs.Prelude.{◌≡◌, ◌≢◌, ◌≤◌, ◌⊎◌, Result, length};
-ghost use Rattle.pkcs12_c.specs.Answers.{ChangeAnswers, Fills, ListAnswers, OpenAnswers, TransferAnswers};
+ghost use Rattle.std.specs.Prelude.{◌≡◌, ◌≢◌, ◌≤◌, ◌⊎◌, IfNone, IfSome, Result, length};
+ghost use Rattle.pkcs12_c.specs.Answers.{AreRounds, ChangeAnswers, ChangeAnswersTo, ListAnswers, OpenAnswers, TransferAnswers, UpgradeAnswers};
+ghost use Rattle.rekey_core.specs.declared.kinds.Kinds.TheVariants.{Renewed};
 ghost use Rattle.pkcs12_c.specs.Refusal.{answer_number};
 ghost use Rattle.pkcs12_c.specs.Room.{HasRoom, room_for};
 ghost use Rattle.pkcs12_c.specs.declared.refusal.Refusal.{Refusal};
 
 use crate::changed::changed;
 use crate::drawn::transferred;
-use crate::filled::filled;
+use crate::filled::{filled, filled_within};
 use crate::laws::stores_suffice;
 use crate::listed::listed;
 use crate::opening::opened;
 use crate::password::password_of;
 use crate::pem::{opened_text_of, pem_text_of};
 use crate::refusal::{Refusal, number_of};
+use crate::upgraded::upgraded;
+use rekey_core::Rounds;
 use std::alloc::Global;
 use transfer::TransferError;
 
@@ -99,8 +102,8 @@ fn list(
     let Some(password) = password_of(password) else {
         return Err(Refusal::Password);
     };
-    match listed(alloc, store, &password, limit) {
-        Ok(table) => filled(table.as_str().as_bytes(), output, needed),
+    match listed(alloc, store, &password, limit, output.len()) {
+        Ok(table) => filled_within(&table, output, needed),
         Err(refusal) => Err(Refusal::Store(refusal)),
     }
 }
@@ -132,12 +135,91 @@ fn rekey(
     }
 }
 
+/// So many rounds; none where they are not 1 to 100,000,000.
+fn rounds_of(rounds: u32) -> Option<Rounds>
+    ensures some { IfSome result (λ k. (k.count ≡ rounds) × AreRounds rounds) }
+    ensures none { IfNone result (AreRounds rounds → ⊥) }
+{
+    if rounds > ROUNDS {
+        return None;
+    }
+    Rounds::new(rounds)
+}
+
+/// The store under another password, with parts and a MAC of so many rounds.
+fn upgrade_to(
+    alloc: Global,
+    store: &[u8],
+    password: &[u8],
+    new_password: &[u8],
+    rounds: Rounds,
+    limit: u64,
+    random: &[u8],
+    output: &mut [u8],
+    needed: &mut usize,
+) -> Result<(), Refusal>
+    ensures { ChangeAnswersTo (Renewed rounds) store.now password.now new_password.now random.now
+        limit output.old output.new needed.new result }
+{
+    *needed = 0;
+    let Some(password) = password_of(password) else {
+        return Err(Refusal::Password);
+    };
+    let Some(new_password) = password_of(new_password) else {
+        return Err(Refusal::Password);
+    };
+    match upgraded(
+        alloc,
+        store,
+        &password,
+        &new_password,
+        rounds,
+        limit,
+        random,
+    ) {
+        Ok(text) => filled(text.as_slice(), output, needed),
+        Err(refusal) => Err(Refusal::Store(refusal)),
+    }
+}
+
+/// The store under another password and the algorithms of today.
+fn upgrade(
+    alloc: Global,
+    store: &[u8],
+    password: &[u8],
+    new_password: &[u8],
+    rounds: u32,
+    limit: u64,
+    random: &[u8],
+    output: &mut [u8],
+    needed: &mut usize,
+) -> Result<(), Refusal>
+    ensures { UpgradeAnswers store.now password.now new_password.now random.now rounds limit
+        output.old output.new needed.new result }
+{
+    *needed = 0;
+    let Some(rounds) = rounds_of(rounds) else {
+        return Err(Refusal::Rounds);
+    };
+    upgrade_to(
+        alloc,
+        store,
+        password,
+        new_password,
+        rounds,
+        limit,
+        random,
+        output,
+        needed,
+    )
+}
+
 /// The version of the interface that `pkcs12.h` declares.
 #[unsafe(no_mangle)]
 pub extern "C" fn pkcs12_version() -> u32
-    ensures { result ≡ 1 }
+    ensures { result ≡ 2 }
 {
-    1
+    2
 }
 
 /// `pkcs12_room` of `pkcs12.h`.
@@ -241,6 +323,36 @@ pub extern "C" fn pkcs12_rekey(
         store,
         password,
         new_password,
+        limit,
+        random,
+        output,
+        needed,
+    ))
+}
+
+/// `pkcs12_upgrade` of `pkcs12.h`.
+#[unsafe(no_mangle)]
+pub extern "C" fn pkcs12_upgrade(
+    alloc: Global,
+    store: &[u8],
+    password: &[u8],
+    new_password: &[u8],
+    rounds: u32,
+    limit: u64,
+    random: &[u8],
+    output: &mut [u8],
+    needed: &mut usize,
+) -> u32
+    ensures { (r : Result (Unit {0}) Refusal) × (result ≡ answer_number r)
+        × UpgradeAnswers store.now password.now new_password.now random.now rounds limit
+        output.old output.new needed.new r }
+{
+    number_of(upgrade(
+        alloc,
+        store,
+        password,
+        new_password,
+        rounds,
         limit,
         random,
         output,

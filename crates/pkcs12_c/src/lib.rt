@@ -13,3 +13,4 @@ mod opening;
 mod password;
 mod pem;
 mod refusal;
+mod upgraded;

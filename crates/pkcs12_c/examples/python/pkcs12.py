@@ -11,7 +11,7 @@ import ctypes
 import os
 import sys
 
-__all__ = ["Refused", "transfer_pem", "open_pem", "rekey"]  # and `list`, which would hide Python's own
+__all__ = ["Refused", "transfer_pem", "open_pem", "rekey", "upgrade"]  # and `list`, which would hide Python's own
 
 DONE, ROOM = 0, 100
 STORE_MAX = 16_777_215
@@ -53,15 +53,16 @@ def _load():
     library.pkcs12_version.argtypes = []
     library.pkcs12_room.restype = size
     library.pkcs12_room.argtypes = [size]
-    for call in (library.pkcs12_transfer_pem, library.pkcs12_open_pem, library.pkcs12_list, library.pkcs12_rekey):
+    if library.pkcs12_version() < 2:
+        raise ImportError("libpkcs12 is older than this module")
+    for call in (library.pkcs12_transfer_pem, library.pkcs12_open_pem, library.pkcs12_list, library.pkcs12_rekey, library.pkcs12_upgrade):
         call.restype = ctypes.c_uint32
     sealing = [octets, size] * 3 + [ctypes.c_uint32, ctypes.c_uint64, octets, size]
     library.pkcs12_transfer_pem.argtypes = sealing + output
     library.pkcs12_open_pem.argtypes = [octets, size] * 2 + [ctypes.c_uint64] + output
     library.pkcs12_list.argtypes = library.pkcs12_open_pem.argtypes
     library.pkcs12_rekey.argtypes = [octets, size] * 3 + [ctypes.c_uint64, octets, size] + output
-    if library.pkcs12_version() < 1:
-        raise ImportError("libpkcs12 is older than this module")
+    library.pkcs12_upgrade.argtypes = library.pkcs12_transfer_pem.argtypes
     return library
 
 
@@ -81,10 +82,13 @@ def _number(name, value, most):
     return value
 
 
+# Random octets for PARTS_MAX parts and the MAC: of a store with more parts 20 is returned.
+RANDOM_MOST = 32 * PARTS_MAX + 16
+
+
 def _random(store):
-    """As many octets as the store has are always enough; and no more than for PARTS_MAX parts and the MAC: of a store with more parts
-    20 is returned."""
-    return os.urandom(min(len(store), 32 * PARTS_MAX + 16))
+    """As many octets as the store has are always enough, but for an upgrade."""
+    return os.urandom(min(len(store), RANDOM_MOST))
 
 
 def _output(call, store, *arguments):
@@ -131,6 +135,16 @@ def rekey(store, password, new_password, limit=100_000_000):
     return _output(
         _library.pkcs12_rekey, store, password, len(password), new_password, len(new_password),
         _number("limit", limit, 2**64 - 1), random, len(random),
+    )
+
+
+def upgrade(store, password, new_password, rounds=600_000, limit=100_000_000):
+    """The same under the algorithms of today, AES-256 and HMAC-SHA-256, in so many rounds; `new_password` may be the old one."""
+    store, password, new_password = _octets("store", store), _octets("password", password), _octets("new_password", new_password)
+    random = os.urandom(RANDOM_MOST)
+    return _output(
+        _library.pkcs12_upgrade, store, password, len(password), new_password, len(new_password),
+        _number("rounds", rounds, 2**32 - 1), _number("limit", limit, 2**64 - 1), random, len(random),
     )
 
 
