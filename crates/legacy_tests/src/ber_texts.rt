@@ -63,7 +63,7 @@ fn other_texts_are_refused(rt: HostRuntime) -> Result<(), Fail> {
         &[0, 0],
         // contents that do not end
         &[0x30, 0x80, 0x05, 0x00],
-        // an octet behind the text
+        // an octet after the text
         &[0x05, 0x00, 0x00],
         // an indefinite length of a primitive element
         &[0x04, 0x80, 0, 0],

@@ -1,4 +1,4 @@
-//! Tests of the public calls of `ber_core` and `legacy_ciphers`.
+//! Tests of the public calls of `ber_core`, `legacy_ciphers` and `legacy_store`.
 //!
 //! They have a crate of their own since a test is proved with the whole crate that it is in.
 #![tactic(auto)]
@@ -6,4 +6,10 @@
 #[cfg(test)]
 mod ber_texts;
 #[cfg(test)]
+mod nss_store;
+#[cfg(test)]
+mod old_stores;
+#[cfg(test)]
 mod rc2_blocks;
+#[cfg(test)]
+mod stores_opened;

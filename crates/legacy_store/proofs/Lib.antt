@@ -1,0 +1,14 @@
+mod Results
+mod Joins
+mod JoinedRows
+mod Normal
+mod Schemes
+mod Hashes
+mod Parts
+mod Opened
+mod Locks
+mod Rows
+pub mod Unparted
+pub mod Verdict
+pub mod Closed
+pub mod Conservative

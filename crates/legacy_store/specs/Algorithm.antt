@@ -1,0 +1,93 @@
+-- What the algorithms of a store open: those of p12 as there, and beside them the old schemes.
+use Rattle.std.specs.Prelude.{◌≡◌, ℕ, ◌<◌, ◌*◌, nat_lt, Bool, true, List, [], length, Option, Some, None}
+use Rattle.p12.specs.declared.algorithm_identifier.AlgorithmIdentifier.{AlgorithmIdentifier}
+use Rattle.p12.specs.declared.algorithm_identifier.AlgorithmIdentifier.TheVariants.{PbeWithSHAAnd3KeyTripleDESCBC, Pbes2}
+use Rattle.p12.specs.AlgorithmIdentifier.{cost, count, openable, salt_of, taken, taken_pbe, unlock, unlock_pbe}
+use Rattle.legacy_store.specs.declared.scheme.Scheme.{Scheme}
+use Rattle.legacy_store.specs.declared.scheme.Scheme.TheVariants as scheme
+use Rattle.legacy_store.specs.Forms.{Forms}
+use Rattle.legacy_store.specs.Scheme.{SchemeParts, old_scheme, old_taken, old_unlock, salt_limit, seen_old}
+
+-- the scheme under which a text is: an old one, or the algorithm as p12 opens it
+pub data SchemeOf : Type 0 where
+  of_old : SchemeParts → SchemeOf
+  of_p12 : AlgorithmIdentifier → SchemeOf
+
+abbrev pub old_or_p12 : AlgorithmIdentifier → Option SchemeParts → SchemeOf
+old_or_p12 a (Some s) = of_old s
+old_or_p12 a None = of_p12 a
+
+unfoldable pub scheme_of : AlgorithmIdentifier → SchemeOf
+scheme_of a = old_or_p12 a (old_scheme a)
+
+abbrev pub seen_scheme : Scheme → SchemeOf
+seen_scheme (scheme.Old s) = of_old (seen_old s)
+seen_scheme (scheme.Own a) = of_p12 a.now
+
+-- ---- as p12 opens it, in the form of the password that the algorithm takes
+
+unfoldable pub p12_unlock : Forms → AlgorithmIdentifier → List ℕ → Option (List ℕ)
+p12_unlock f (PbeWithSHAAnd3KeyTripleDESCBC p) c =
+    unlock_pbe (PbeWithSHAAnd3KeyTripleDESCBC p) f.units c
+p12_unlock f (Pbes2 par) c = unlock (Pbes2 par) f.utf8 c
+p12_unlock f _ c = None
+
+unfoldable pub p12_taken : AlgorithmIdentifier → List ℕ → ℕ
+p12_taken (PbeWithSHAAnd3KeyTripleDESCBC p) c = taken_pbe (PbeWithSHAAnd3KeyTripleDESCBC p) c
+p12_taken (Pbes2 par) c = taken (Pbes2 par) c
+p12_taken _ c = 0
+
+-- ---- a scheme
+
+unfoldable pub scheme_openable : SchemeOf → Bool
+scheme_openable (of_old s) = nat_lt (length s.salt) salt_limit
+scheme_openable (of_p12 a) = openable a
+
+unfoldable pub scheme_count : SchemeOf → ℕ
+scheme_count (of_old s) = s.iterations
+scheme_count (of_p12 a) = count a
+
+unfoldable pub scheme_cost : SchemeOf → ℕ
+scheme_cost (of_old s) = 2 * s.iterations
+scheme_cost (of_p12 a) = cost a
+
+unfoldable pub scheme_taken : SchemeOf → List ℕ → ℕ
+scheme_taken (of_old s) c = old_taken s c
+scheme_taken (of_p12 a) c = p12_taken a c
+
+unfoldable pub scheme_unlock : Forms → SchemeOf → List ℕ → Option (List ℕ)
+scheme_unlock f (of_old s) c = old_unlock s f.units c
+scheme_unlock f (of_p12 a) c = p12_unlock f a c
+
+-- the salt that p12 derives a key from
+unfoldable pub scheme_salt : SchemeOf → List ℕ
+scheme_salt (of_old s) = []
+scheme_salt (of_p12 a) = salt_of a
+
+-- ---- an algorithm
+
+-- whether a text under it can be opened
+abbrev pub legacy_openable : AlgorithmIdentifier → Bool
+legacy_openable a = scheme_openable (scheme_of a)
+
+-- its count of rounds
+abbrev pub legacy_count : AlgorithmIdentifier → ℕ
+legacy_count a = scheme_count (scheme_of a)
+
+-- its share of the work
+abbrev pub legacy_cost : AlgorithmIdentifier → ℕ
+legacy_cost a = scheme_cost (scheme_of a)
+
+-- the steps of opening a text
+unfoldable pub legacy_taken : AlgorithmIdentifier → List ℕ → ℕ
+legacy_taken a c = scheme_taken (scheme_of a) c
+
+-- a text opened under a password
+unfoldable pub legacy_unlock : Forms → AlgorithmIdentifier → List ℕ → Option (List ℕ)
+legacy_unlock f a c = scheme_unlock f (scheme_of a) c
+
+-- what opening a text shows
+pub record IsSchemeOpened (s : SchemeOf) (c : List ℕ) : Type 0 where
+  pub openable : scheme_openable s ≡ true
+  pub some_rounds : 0 < scheme_count s
+  pub all : scheme_taken s c ≡ scheme_cost s

@@ -1,0 +1,22 @@
+-- The password of an old store, in the forms in which its algorithms take it.
+use Rattle.std.specs.Prelude.{ℕ, List, []}
+use Rattle.pkcs12_kdf.specs.Password.{bmp_password}
+use Rattle.legacy_store.specs.declared.secret.Secret.{Secret}
+
+pub record Forms : Type 0 where
+  -- as PBES2 takes it
+  pub utf8 : List ℕ
+  -- as the MAC and the schemes of RFC 7292 take it
+  pub units : List ℕ
+
+-- a password in its UTF-8
+abbrev pub forms_of : List ℕ → Forms
+forms_of p = record { utf8 = p; units = bmp_password p }
+
+-- The null password. Some writers take the empty password as no octets at all, and not as the two
+-- zero octets that RFC 7292 appendix B.1 puts after each password.
+abbrev pub null_forms : Forms
+null_forms = record { utf8 = []; units = [] }
+
+abbrev pub seen_forms : Secret → Forms
+seen_forms s = record { utf8 = s.text.now; units = s.units.now }

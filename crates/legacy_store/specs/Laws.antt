@@ -1,0 +1,39 @@
+-- What was opened before is opened as before; and a store opens in one way.
+use Rattle.std.specs.Prelude.{◌≡◌, ℕ, ◌≤◌, ◌↔◌, List, Some}
+use Rattle.p12.specs.AlgorithmIdentifier.{unlock}
+use Rattle.p12.specs.declared.algorithm_identifier.AlgorithmIdentifier.{AlgorithmIdentifier}
+use Rattle.p12.specs.ContentInfo.{IsContents}
+use Rattle.p12.specs.declared.content_info.ContentInfo.{ContentInfo}
+use Rattle.p12.specs.declared.safe_bag.SafeBag.{SafeBag}
+use Rattle.transfer.specs.Opening.{HasVerdict, opened}
+use Rattle.transfer.specs.Verdicts.{Sole}
+use Rattle.legacy_store.specs.Algorithm.{legacy_unlock}
+use Rattle.legacy_store.specs.Forms.{forms_of}
+use Rattle.legacy_store.specs.Joined.{JoinedSafe}
+use Rattle.legacy_store.specs.Opening.{HasLegacyVerdict}
+use Rattle.legacy_store.specs.Verdicts.{LegacyOpens}
+
+-- A text that p12 opens opens to the same octets.
+abbrev pub OpensTextsAsBefore : Type 0
+OpensTextsAsBefore = (a : AlgorithmIdentifier) (p c m : List ℕ) → unlock a p c ≡ Some m
+    → legacy_unlock (forms_of p) a c ≡ Some m
+
+-- A store that `transfer` opens opens to the same bags and keys, by the same work.
+abbrev pub OpensStoresAsBefore : Type 0
+OpensStoresAsBefore = (b p : List ℕ) (limit : ℕ) (gss : List (List SafeBag)) (ks : List (List ℕ))
+    (n : ℕ) → HasVerdict b p limit (opened gss ks) n
+    → HasLegacyVerdict b p limit (opened gss ks) n
+
+-- One store has one verdict, after one number of steps.
+abbrev pub OneLegacyVerdict : Type 0
+OneLegacyVerdict = (b p : List ℕ) (limit : ℕ) → Sole (HasLegacyVerdict b p limit)
+
+-- A store comes to be opened exactly where it opens within the limit, and then its work is the
+-- number of steps.
+abbrev pub LegacyOpenedExactly : Type 0
+LegacyOpenedExactly = (b p : List ℕ) (limit : ℕ) (gss : List (List SafeBag)) (ks : List (List ℕ))
+    (n : ℕ) → HasLegacyVerdict b p limit (opened gss ks) n ↔ (LegacyOpens b p gss ks n × (n ≤ limit))
+
+-- A list of contents in DER is its own text: nothing is joined in it.
+abbrev pub DerListsStay : Type 0
+DerListsStay = (v : List ℕ) (cs : List ContentInfo) → IsContents v cs → JoinedSafe v v

@@ -1,0 +1,11 @@
+pub mod Forms
+pub mod Scheme
+pub mod Algorithm
+pub mod Mac
+pub mod Joined
+pub mod JoinedReading
+pub mod Texts
+pub mod Budget
+pub mod Opening
+pub mod Verdicts
+pub mod Laws

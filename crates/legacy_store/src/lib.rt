@@ -1,0 +1,21 @@
+//! Old PKCS#12 stores (RFC 7292): what `transfer` opens, and beside it texts in BER, RC2, Triple DES with two keys, MACs under SHA-224,
+//! SHA-384 and SHA-512, and the null password. They are opened to be written anew: nothing is written under these algorithms.
+//!
+//! The causes of a refusal are in order in `specs/Opening.antt`.
+#![tactic(auto)]
+
+mod budget;
+mod contents;
+mod identifiers;
+mod joined;
+mod keys;
+pub mod laws;
+mod lock;
+mod mac;
+mod old_text;
+mod open;
+mod scheme;
+mod secret;
+mod texts;
+
+pub use open::{LegacyOpened, open_legacy};

@@ -1,0 +1,203 @@
+//! Opening an old store: each cause to refuse it in its order, and the exact steps.
+ghost use Rattle.std.specs.Prelude.{◌≡◌, ◌+◌, ◌≤◌, ◌<◌, ◌^◌, ℕ, length, IfOk, IfErr, OnOk, true};
+ghost use Rattle.legacy_store.specs.Mac.{is_legacy_digest};
+ghost use Rattle.transfer.specs.Opening.{RefusedAfter, opened, refused};
+ghost use Rattle.legacy_store.specs.Forms.{seen_forms};
+ghost use Rattle.legacy_store.specs.Opening.{HasLegacyVerdict, LegacyMacTable, LegacyTextTable, NullTable};
+ghost use Rattle.legacy_store.specs.Verdicts.{IsLegacyDecided, LegacyOpens};
+
+use crate::budget::Budget;
+use crate::contents::open_contents;
+use crate::keys::open_keys;
+use crate::mac::{agrees, is_legacy_digest};
+use crate::secret::Secret;
+use crate::texts::{read_safe, read_store};
+use asn1_core::{Items, Octets};
+use p12::{ContentInfo, MacData, SafeBag};
+use pkcs12_kdf::utf16_password;
+use std::alloc::Global;
+use std::sync::ledger::Ledger;
+use steps::Steps;
+use transfer::TransferError;
+
+/// The most octets that a store may have.
+const STORE_LIMIT: usize = 16_777_215;
+
+/// An opened store.
+#[derive(Drop)]
+pub struct LegacyOpened {
+    /// The bags of each content, in store order.
+    pub contents: Items<Items<SafeBag>>,
+    /// The plain octets of each encrypted key among them, in store order: the text of a private key (RFC 5958 section 2).
+    pub keys: Items<Octets>,
+}
+
+/// Opens what the text of a store lists, whose MAC agrees.
+fn open_listed<L: Ledger>(
+    alloc: Global,
+    text: &[u8],
+    secret: &Secret<'_>,
+    allowed: Budget,
+    steps: &mut Steps<L>,
+) -> Result<LegacyOpened, TransferError>
+    requires text { length text.now < 2 ^ 32 }
+    requires password { length secret.now.text.now < 2 ^ 57 }
+    requires units { length secret.now.units.now < 2 ^ 59 }
+    ensures opened { IfOk result (λ o. (n : ℕ)
+        × LegacyTextTable (seen_forms secret.now) allowed.limit allowed.spent text.now
+        (opened o.contents o.keys) (allowed.spent + n) × (steps.new ≡ steps.old + n)) }
+    ensures refused { IfErr result (RefusedAfter
+        (λ e n. LegacyTextTable (seen_forms secret.now) allowed.limit allowed.spent text.now
+        (refused e) (allowed.spent + n)) steps.old steps.new) }
+    ensures at_most { (steps.old ≤ steps.new)
+        × (steps.new + allowed.spent ≤ steps.old + allowed.limit) }
+{
+    let mut budget = allowed;
+    let listed = read_safe(alloc, text)?;
+    let parts = listed.as_slice();
+    let contents = open_contents(alloc, parts, secret, &mut budget, steps)?;
+    let bags = contents.as_slice();
+    let keys = open_keys(alloc, bags, secret, &mut budget, steps)?;
+    Ok(LegacyOpened { contents, keys })
+}
+
+/// Opens a store whose MAC did not agree under the password: under the null password, if that is empty.
+fn open_null<L: Ledger>(
+    alloc: Global,
+    text: &[u8],
+    mac: &MacData,
+    password: &str,
+    allowed: Budget,
+    steps: &mut Steps<L>,
+) -> Result<LegacyOpened, TransferError>
+    requires known { is_legacy_digest mac.now.mac.digest_algorithm ≡ true }
+    requires rounds { 1 ≤ mac.now.iterations }
+    requires text { length text.now < 2 ^ 32 }
+    requires salt { length mac.now.salt < 2 ^ 59 }
+    requires spent { allowed.spent ≡ mac.now.iterations }
+    ensures opened { IfOk result (λ o. (n : ℕ)
+        × NullTable password.now allowed.limit text.now mac.now (opened o.contents o.keys)
+        (mac.now.iterations + n) × (steps.new ≡ steps.old + n)) }
+    ensures refused { IfErr result (RefusedAfter
+        (λ e n. NullTable password.now allowed.limit text.now mac.now (refused e)
+        (mac.now.iterations + n)) steps.old steps.new) }
+    ensures at_most { (steps.old ≤ steps.new)
+        × (steps.new + allowed.spent ≤ steps.old + allowed.limit) }
+{
+    if password.len() > 0 {
+        return Err(TransferError::MacMismatch);
+    }
+    let mut budget = allowed;
+    budget.share(u128::from(mac.iterations))?;
+    let null: &[u8] = &[];
+    let good = agrees(alloc, mac, text, null, steps)?;
+    if !good {
+        return Err(TransferError::MacMismatch);
+    }
+    let secret = Secret {
+        text: "",
+        units: null,
+    };
+    open_listed(alloc, text, &secret, budget, steps)
+}
+
+/// Opens a store by its MAC and the text that this is of.
+fn open_under_mac<L: Ledger>(
+    alloc: Global,
+    text: &[u8],
+    mac: &MacData,
+    password: &str,
+    limit: u64,
+    steps: &mut Steps<L>,
+) -> Result<LegacyOpened, TransferError>
+    requires text { length text.now < 2 ^ 32 }
+    requires salt { length mac.now.salt < 2 ^ 59 }
+    requires password { length password.now < 2 ^ 56 }
+    ensures opened { IfOk result (λ o. (n : ℕ)
+        × LegacyMacTable password.now limit text.now mac.now (opened o.contents o.keys) n
+        × (steps.new ≡ steps.old + n)) }
+    ensures refused { IfErr result (RefusedAfter
+        (λ e n. LegacyMacTable password.now limit text.now mac.now (refused e) n)
+        steps.old steps.new) }
+    ensures at_most { (steps.old ≤ steps.new) × (steps.new ≤ steps.old + limit) }
+{
+    if !is_legacy_digest(&mac.mac.digest_algorithm) {
+        return Err(TransferError::MacUnsupported);
+    }
+    if mac.iterations == 0 {
+        return Err(TransferError::ZeroIterations);
+    }
+    let mut budget = Budget::new(limit);
+    budget.share(u128::from(mac.iterations))?;
+    let units = utf16_password(alloc, password)?;
+    let octets = units.as_slice();
+    let good = agrees(alloc, mac, text, octets, steps)?;
+    if good {
+        let secret = Secret {
+            text: password,
+            units: octets,
+        };
+        return open_listed(alloc, text, &secret, budget, steps);
+    }
+    open_null(alloc, text, mac, password, budget, steps)
+}
+
+/// `open_legacy`, with its contract by the table of causes.
+fn open_by_cause<L: Ledger>(
+    alloc: Global,
+    store: &[u8],
+    password: &str,
+    limit: u64,
+    steps: &mut Steps<L>,
+) -> Result<LegacyOpened, TransferError>
+    requires { length password.now < 2 ^ 56 }
+    ensures opened { IfOk result (λ o. (n : ℕ)
+        × HasLegacyVerdict store.now password.now limit (opened o.contents o.keys) n
+        × (steps.new ≡ steps.old + n)) }
+    ensures refused { IfErr result (RefusedAfter
+        (λ e n. HasLegacyVerdict store.now password.now limit (refused e) n) steps.old steps.new) }
+    ensures at_most { (steps.old ≤ steps.new) × (steps.new ≤ steps.old + limit) }
+{
+    if store.len() > STORE_LIMIT {
+        return Err(TransferError::TooLong);
+    }
+    let found = read_store(alloc, store)?;
+    let ContentInfo::Data(text) = &found.auth_safe else {
+        return Err(TransferError::Unsupported);
+    };
+    let Some(mac) = &found.mac_data else {
+        return Err(TransferError::MacMissing);
+    };
+    let octets = text.as_slice();
+    open_under_mac(alloc, octets, mac, password, limit, steps)
+}
+
+/// Opens an old store: the bags of each content, and the octets of each encrypted private key. It opens what `transfer::open_store`
+/// opens, and stores beyond these: the text of the store and that of its list of contents in BER, with encrypted octets in parts; texts
+/// under RC2 with 40 or 128 bits and under Triple DES with two keys; MACs under SHA-224, SHA-384 and SHA-512; and, where the password is
+/// empty, stores whose writer took the empty password as no octets at all.
+///
+/// `limit` is the most steps. A step is one digest of an iteration of RFC 7292 appendix B, or one output of the pseudorandom
+/// function of PBKDF2; the MAC of a store with an empty password may take its count twice. The refusals are those of
+/// `transfer::open_store`, in their order; each comes exactly where it is the first cause, but running out of memory may come in its
+/// place.
+///
+/// Caller: the password has fewer than 2^56 octets.
+pub fn open_legacy<L: Ledger>(
+    alloc: Global,
+    store: &[u8],
+    password: &str,
+    limit: u64,
+    steps: &mut Steps<L>,
+) -> Result<LegacyOpened, TransferError>
+    requires { length password.now < 2 ^ 56 }
+    ensures opened { IfOk result (λ o. (n : ℕ)
+        × LegacyOpens store.now password.now o.contents o.keys n
+        × (n ≤ limit) × (steps.new ≡ steps.old + n)) }
+    ensures refused { IfErr result (RefusedAfter
+        (λ e n. HasLegacyVerdict store.now password.now limit (refused e) n) steps.old steps.new) }
+    ensures exact { IsLegacyDecided store.now password.now limit result }
+    ensures at_most { (steps.old ≤ steps.new) × (steps.new ≤ steps.old + limit) }
+{
+    open_by_cause(alloc, store, password, limit, steps)
+}
