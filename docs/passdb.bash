@@ -12,12 +12,13 @@ _passdb() {
         --rounds) return ;;
     esac
     if [ "$COMP_CWORD" -eq 1 ]; then
-        mapfile -t COMPREPLY < <(compgen -W "add check change remove list uninstall --help --version" -- "$word")
+        mapfile -t COMPREPLY < <(compgen -W "add check change reset remove list uninstall --help --version" -- "$word")
     elif [ "${word#-}" = "$word" ]; then
         mapfile -t COMPREPLY < <(compgen -f -- "$word")
     else
         case ${COMP_WORDS[1]} in
-            add | check) mapfile -t COMPREPLY < <(compgen -W "$common" -- "$word") ;;
+            add | reset) mapfile -t COMPREPLY < <(compgen -W "$common" -- "$word") ;;
+            check) mapfile -t COMPREPLY < <(compgen -W "$common --even --no-renew" -- "$word") ;;
             change)
                 mapfile -t COMPREPLY < <(compgen -W "$common --new-password-file --new-password-env --new-password-stdin" -- "$word")
                 ;;

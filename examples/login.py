@@ -21,8 +21,8 @@ REFUSED = (10, 11, 22)
 def login(users, name, password):
     """Whether the password is that of the name in the file `users`, for any two texts.
 
-    Raises OSError where nothing can be said: passdb is not there, or the file cannot be read. For an unknown name it is done sooner than for
-    a wrong password.
+    For an unknown name it takes as long as for a wrong password. Raises OSError where nothing can be said: passdb is not there, or the
+    file cannot be read.
     """
     # What is no name is nobody's, and no argument; a password is one line.
     if not re.fullmatch("[a-z0-9-]{1,32}", name) or re.search("[\0\n\r]", password):
@@ -32,7 +32,7 @@ def login(users, name, password):
     except UnicodeEncodeError:
         return False
     # After -- a name is never an option.
-    run = subprocess.run([PASSDB, "check", "--password-stdin", "--", users, name], input=line,
+    run = subprocess.run([PASSDB, "check", "--even", "--password-stdin", "--", users, name], input=line,
                          stdout=subprocess.DEVNULL, stderr=subprocess.PIPE, check=False)
     if run.returncode == 0:
         return True

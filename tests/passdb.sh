@@ -78,8 +78,10 @@ adds() {
     add bob && add ann && [ "$(cut -d: -f1 "$file" | tr '\n' ' ')" = "ann bob " ] && [ "$(stat -c %a "$file")" = 600 ] && nothing_beside "$file"
 }
 holds adds_names_in_order adds
-lists() { ends 0 list "$file" && printf 'ann\nbob\n' | cmp -s - "$work/said"; }
-holds lists_names lists
+lists() { ends 0 list "$file" && printf 'ann\tpbkdf2-sha256\t1000\nbob\tpbkdf2-sha256\t1000\n' | cmp -s - "$work/said"; }
+holds lists_names_with_algorithm_and_rounds lists
+lists_no_names() { : >"$work/no-names" && ends 0 list "$work/no-names" && [ ! -s "$work/said" ]; }
+holds lists_nothing_of_an_empty_file lists_no_names
 right() { ends 0 check "$file" bob --password-file "$work/one" --rounds 1000; }
 holds takes_the_right_password right
 holds refuses_a_wrong_password fails 10 WrongPassword 'not that of the name' check "$file" bob --password-file "$work/two"
@@ -107,7 +109,21 @@ draws_salts() {
     [ "$(cut -d '$' -f 4 "$work/drawn" | grep -c .)" -eq 2 ] && [ "$(cut -d '$' -f 4 "$work/drawn" | sort -u | grep -c .)" -eq 2 ]
 }
 holds entries_of_one_password_differ_in_their_salts draws_salts
-removes() { ends 0 remove "$file" ann && ends 0 list "$file" && [ "$(cat "$work/said")" = bob ] && fails 11 NameUnknown '' remove "$file" ann; }
+resets() {
+    cp "$file" "$work/before"
+    fails 11 NameUnknown 'does not have' reset "$file" eve --password-file "$work/one" && fails 22 PasswordUnusable 'empty' reset "$file" bob \
+        --password-file "$work/empty" && fails 11 NameUnknown '' reset "$file" eve && fails 9 NewPasswordMissing '--password-stdin' reset "$file" bob &&
+        fails 3 ReadFault 'add makes one' reset "$work/none" bob --password-file "$work/one" && [ ! -e "$work/none" ] &&
+        cmp -s "$file" "$work/before" && nothing_beside "$file" || return 1
+    code=0
+    echo third | "$PASSDB" reset "$file" bob --password-stdin --rounds 1000 >"$work/said" 2>"$work/told" || code=$?
+    [ "$code" -eq 0 ] && ends 0 check "$file" bob --password-file "$work/third" --rounds 1000 &&
+        fails 10 WrongPassword '' check "$file" bob --password-file "$work/two" && [ "$(cut -d: -f1 "$file" | tr '\n' ' ')" = "ann bob " ] &&
+        [ "$(grep '^ann:' "$file")" = "$(grep '^ann:' "$work/before")" ] && nothing_beside "$file" &&
+        ends 0 reset --password-file "$work/two" --rounds 1000 -- "$file" bob
+}
+holds resets_a_password_that_was_forgotten resets
+removes() { ends 0 remove "$file" ann && ends 0 list "$file" && [ "$(cut -f 1 "$work/said")" = bob ] && fails 11 NameUnknown '' remove "$file" ann; }
 holds removes_a_name removes
 by_variable() {
     (WORD='a longer one' && export WORD && ends 0 check "$file" bob --password-env WORD --rounds 1000) &&
@@ -150,23 +166,69 @@ salt = bytes(range(16))
 print("zoe:$pbkdf2-sha512$i=2000,l=64$" + "$".join(
     base64.b64encode(it).decode().rstrip("=") for it in (salt, hashlib.pbkdf2_hmac("sha512", b"s3cret", salt, 2000, 64))))
 END
-    ends 0 check "$work/made" zoe --password-file "$work/one" --rounds 2000 && fails 10 WrongPassword '' check "$work/made" zoe --password-file "$work/two"
+    ends 0 check "$work/made" zoe --password-file "$work/one" --rounds 2000 && fails 10 WrongPassword '' check "$work/made" zoe --password-file "$work/two" &&
+        ends 0 list "$work/made" && printf 'zoe\tpbkdf2-sha512\t2000\n' | cmp -s - "$work/said"
 }
 holds takes_entries_of_hashlib made_by_python
 renews() { ends 0 check "$file" cid --password-file "$work/one" --rounds 3000 && is_derived cid s3cret 3000 && nothing_beside "$file"; }
 holds makes_an_entry_with_few_rounds_anew renews
 
+# --- how a password is tested ---
+
+stays_as_it_is() {
+    cp "$file" "$work/before" && chmod 400 "$file" && : >"$file.lock" || return 1
+    ends 0 check "$file" cid --password-file "$work/one" --no-renew && [ ! -s "$work/told" ] && cmp -s "$file" "$work/before" &&
+        [ "$(stat -c %a "$file")" = 400 ] && ends 10 check "$file" cid --password-file "$work/two" --no-renew &&
+        ends 11 check "$file" eve --password-file "$work/two" --no-renew
+    outcome=$?
+    rm -f "$file.lock"
+    chmod 600 "$file"
+    return "$outcome"
+}
+holds no_renew_writes_nothing stays_as_it_is
+evenly() {
+    for each in bob cid dan; do
+        ends 10 check "$file" "$each" --password-file "$work/third" --even --no-renew || return 1
+    done
+    ends 0 check "$file" bob --password-file "$work/two" --even --no-renew && fails 11 NameUnknown 'does not have' check "$file" eve --password-file "$work/two" --even &&
+        fails 11 NameUnknown '' check "$work/no-names" eve --password-file "$work/one" --even --rounds 1000 && fails 3 ReadFault 'add makes one' check "$work/none" eve \
+        --password-file "$work/one" --even && cmp -s "$file" "$work/before"
+}
+holds even_has_the_reply_that_there_is_without evenly
+# As long for an unknown name as for a wrong password, by processor time: the least of three.
+even_time() {
+    "${PYTHON:-python3}" - "$work/even" "$work/one" "$work/two" "$home/crates/passdb_command/out/passdb_command" <<'END' >"$work/told"
+import resource, subprocess, sys
+file, one, two, program = sys.argv[1:]
+def run(due, *words):
+    before = resource.getrusage(resource.RUSAGE_CHILDREN).ru_utime
+    ended = subprocess.run([program, *words], stdin=subprocess.DEVNULL, stderr=subprocess.DEVNULL).returncode
+    assert ended == due, (words, ended)
+    return resource.getrusage(resource.RUSAGE_CHILDREN).ru_utime - before
+run(0, "add", file, "bob", "--password-file", one, "--rounds", "400000")
+run(0, "add", file, "sam", "--password-file", one, "--rounds", "1600000")
+def least(due, name, *words):
+    return min(run(due, "check", file, name, "--password-file", two, *words) for turn in range(3))
+few, many = least(10, "bob", "--even"), least(10, "sam", "--even")
+# ann would be at bob's place, eve and zoe at sam's
+ann, eve, zoe, at_once = least(11, "ann", "--even"), least(11, "eve", "--even"), least(11, "zoe", "--even"), least(11, "eve")
+print(f"wrong {few:.3f} and {many:.3f}, unknown {ann:.3f}, {eve:.3f}, {zoe:.3f}, and without --even {at_once:.3f}")
+assert 0.6 * few < ann < 1.6 * few and 0.6 * many < eve < 1.6 * many and 0.6 * many < zoe < 1.6 * many and at_once < 0.3 * few
+END
+}
+holds even_takes_as_long_for_an_unknown_name even_time
+
 # --- arguments ---
 
 no_arguments() {
-    ends 2 && grep -qx 'passdb: Usage (2): give a subcommand: add, check, change, remove or list; see ./passdb --help' "$work/told"
+    ends 2 && grep -qx 'passdb: Usage (2): give a subcommand: add, check, change, reset, remove or list; see passdb --help' "$work/told"
 }
 holds refuses_no_arguments no_arguments
 holds refuses_another_subcommand ends 2 frobnicate "$file"
 for bad in '' Bob b_b "$(printf 'b%.0s' $(seq 33))" 'b:b' 'b b' 'bö'; do
     holds "refuses_the_name_${bad:-empty}" fails 2 Usage '1 to 32 characters' add "$file" "$bad" --password-file "$work/one"
 done
-# Whatever stands where a script puts a name from outside, check ends with 0 only for the right password of a name.
+# Whatever is in the place where a script puts a name from outside, check ends with 0 only for the right password of a name.
 options_for_names() {
     for each in --help -h --version -V -- - --password-stdin --password-file=/dev/null --rounds --rounds=1000 '' -- "--password-file $work/one" help; do
         for order in first last; do
@@ -182,7 +244,14 @@ options_for_names() {
             }
         done
     done
-    fails 2 Usage 'alone' remove "$file" --help && fails 2 Usage 'alone' check "$file" bob --help && fails 2 Usage 'alone' add "$file" -h &&
+    for each in --even --no-renew --rounds=1000; do
+        fails 2 Usage '' remove "$file" bob "$each" && fails 2 Usage '' list "$file" "$each" || return 1
+    done
+    for each in --even --no-renew; do
+        fails 2 Usage '' add "$file" eve "$each" && fails 2 Usage '' change "$file" bob "$each" && fails 2 Usage '' reset "$file" bob "$each" &&
+            fails 2 Usage '' check "$file" "$each" && fails 2 Usage '' check "$file" bob "$each=1" || return 1
+    done
+    fails 2 Usage 'alone' reset "$file" --help && fails 2 Usage '' list "$file" --version && fails 2 Usage '' list --version && fails 2 Usage 'alone' remove "$file" --help && fails 2 Usage 'alone' check "$file" bob --help && fails 2 Usage 'alone' add "$file" -h &&
         ends 0 check --help && ends 0 --help && ends 0 --version
 }
 holds a_name_that_is_an_option_is_refused options_for_names
@@ -211,8 +280,11 @@ told_first() {
         fails 4 WriteFault 'No such file' add "$work/no/users" bob
 }
 holds what_is_not_there_is_told_before_a_question told_first
-holds says_that_there_is_no_password fails 8 PasswordMissing 'no terminal' check "$file" bob
-holds says_that_there_is_no_new_password fails 9 NewPasswordMissing 'no terminal' add "$file" eve
+holds says_that_there_is_no_password fails 8 PasswordMissing 'no terminal to ask at: give --password-file' check "$file" bob
+holds says_that_there_is_no_new_password fails 9 NewPasswordMissing 'no terminal to ask at: give --password-file' add "$file" eve
+holds says_which_options_give_a_new_password fails 9 NewPasswordMissing 'give --new-password-file' change "$file" bob --password-file "$work/one"
+# An even test tells nothing of the name, not even before a password is asked for.
+holds an_even_test_asks_for_any_name fails 8 PasswordMissing '' check --even "$file" eve
 
 # --- passwords ---
 
@@ -329,6 +401,22 @@ many_names() {
         ends 0 list "$work/many" && [ "$(wc -l <"$work/said")" -eq 100000 ] && LC_ALL=C sort -c "$work/said" && nothing_beside "$work/many"
 }
 holds a_hundred_thousand_names many_names
+# 10 MB are read, and there is room for 30 MB in all.
+out_of_memory() {
+    cp "$work/many" "$work/before"
+    for each in 'list' 'check m000001 --no-renew' 'check m000001 --even' 'check eve --even' 'reset m000001' 'remove m000001' 'add yak'; do
+        code=0
+        # shellcheck disable=SC2086 # two words or three
+        set -- $each
+        subcommand=$1
+        shift
+        case $subcommand in list | remove) ;; *) set -- "$@" --password-file "$work/one" ;; esac
+        # shellcheck disable=SC3045 # dash has it
+        (ulimit -v 30000 && exec "$home/crates/passdb_command/out/passdb_command" "$subcommand" "$work/many" "$@") >"$work/said" 2>"$work/told" </dev/null || code=$?
+        [ "$code" -eq 7 ] && grep -q '^passdb: Memory (7): ' "$work/told" && cmp -s "$work/many" "$work/before" && nothing_beside "$work/many" || return 1
+    done
+}
+holds out_of_memory_is_told out_of_memory
 # Holds the lock of the file $1 for $2 seconds, as another run does.
 hold_lock() {
     command -v flock >/dev/null || {
@@ -343,7 +431,7 @@ locked() {
     hold_lock "$file" 30 || return 0
     cp "$file" "$work/before"
     fails 5 Locked 'another run has been changing' add "$file" eve --password-file "$work/one" && cmp -s "$file" "$work/before" && [ -e "$file.lock" ] &&
-        ! grep -q 'rm ' "$work/told"
+        ! grep -q 'rm ' "$work/told" && fails 5 Locked '' reset "$file" bob --password-file "$work/one" && cmp -s "$file" "$work/before"
     outcome=$?
     kill "$holder" && wait "$holder" || :
     rm -f "$file.lock"
@@ -584,6 +672,8 @@ read_only() {
     # The password is right though its entry cannot be made anew.
     as_nobody check "$work/theirs/users" bob --password-file "$work/two" --rounds 5000
     [ "$code" -eq 0 ] && grep -q 'not made anew' "$work/told" || return 1
+    as_nobody check "$work/theirs/users" bob --password-file "$work/two" --rounds 5000 --no-renew
+    [ "$code" -eq 0 ] && [ ! -s "$work/told" ] || return 1
     chmod 600 "$work/theirs/users"
     as_nobody list "$work/theirs/users"
     [ "$code" -eq 3 ] && cmp -s "$file" "$work/theirs/users"
@@ -616,6 +706,16 @@ asks_twice() {
     [ "$code" -eq 0 ] && is_derived eve new 1000
 }
 holds asks_for_a_new_password_twice asks_twice
+asks_for_the_new_one_alone() {
+    asks --answer newer --answer newer -- "$PASSDB" reset "$file" eve --rounds 1000
+    [ "$code" -eq 0 ] && is_derived eve newer 1000 && grep -q "New password of eve in $file: " "$work/told" && ! grep -q '^Password' "$work/told"
+}
+holds reset_asks_for_the_new_password_alone asks_for_the_new_one_alone
+asks_for_any_name() {
+    asks --answer other -- "$PASSDB" check --even "$file" nobody
+    [ "$code" -eq 11 ] && grep -q "Password of nobody in $file: " "$work/told" && grep -q '^passdb: NameUnknown (11): ' "$work/told"
+}
+holds an_even_test_asks_for_the_password_of_any_name asks_for_any_name
 asks_and_differ() {
     asks --answer one --answer two -- "$PASSDB" add "$file" fay --rounds 1000
     [ "$code" -eq 22 ] && grep -q differ "$work/told" && ! grep -q '^fay:' "$file"
@@ -653,7 +753,7 @@ no_file_of_a_password() {
 }
 holds no_password_in_a_file_of_TMPDIR no_file_of_a_password
 closed_standard_input() {
-    "$PASSDB" list "$file" <&- >"$work/said" 2>"$work/told" && grep -qx gil "$work/said"
+    "$PASSDB" list "$file" <&- >"$work/said" 2>"$work/told" && cut -f 1 "$work/said" | grep -qx gil
 }
 holds closed_standard_input closed_standard_input
 closed_input() {
@@ -664,7 +764,7 @@ closed_input() {
 holds a_closed_standard_input_is_no_empty_one closed_input
 few_descriptors() {
     # shellcheck disable=SC2016
-    setsid -w sh -c 'ulimit -S -n 12 && exec sh "$@"' sh "$PASSDB" list "$file" </dev/null >"$work/said" 2>"$work/told" && grep -qx gil "$work/said"
+    setsid -w sh -c 'ulimit -S -n 12 && exec sh "$@"' sh "$PASSDB" list "$file" </dev/null >"$work/said" 2>"$work/told" && cut -f 1 "$work/said" | grep -qx gil
 }
 holds few_descriptors few_descriptors
 
@@ -710,13 +810,15 @@ keeps_or_fails() {
     mkdir "$work/for_all" && chmod 777 "$work/for_all" && chmod 755 "$work" && cp "$work/service" "$work/for_all/users" &&
         cp "$home/crates/passdb_command/out/passdb_command" "$work/for_all/program" && chmod 644 "$work/for_all/users" &&
         cp "$work/one" "$work/for_all/one" && chmod 644 "$work/for_all/one" && cp "$work/for_all/users" "$work/before" || return 1
-    code=0
-    setpriv --reuid=65534 --regid=65534 --clear-groups "$work/for_all/program" add "$work/for_all/users" eve --password-file "$work/for_all/one" \
-        --rounds 1000 >"$work/said" 2>"$work/told" </dev/null || code=$?
-    [ "$code" -eq 4 ] && cmp "$work/before" "$work/for_all/users" && nothing_beside "$work/for_all/users"
+    for each in 'add eve' 'reset bob'; do
+        code=0
+        setpriv --reuid=65534 --regid=65534 --clear-groups "$work/for_all/program" "${each% *}" "$work/for_all/users" "${each#* }" \
+            --password-file "$work/for_all/one" --rounds 1000 >"$work/said" 2>"$work/told" </dev/null || code=$?
+        [ "$code" -eq 4 ] && cmp "$work/before" "$work/for_all/users" && nothing_beside "$work/for_all/users" || return 1
+    done
 }
 holds a_file_of_another_owner_stays keeps_or_fails
-# Where others could put something else in the place of the file, nothing is asked or written; a login stands.
+# Where others could put something else in the place of the file, nothing is asked or written; a login holds all the same.
 hands_of_others() {
     [ "$(id -u)" -eq 0 ] || {
         echo "skipped $name: only root can give folders away"
@@ -726,7 +828,7 @@ hands_of_others() {
         chmod 777 "$work/for_others" && ln -s bobs "$work/way" && cp "$work/service" "$work/bobs/users" && chown 1234 "$work/bobs/users" || return 1
     for each in "bobs/users:belongs to another user" "way/users:belongs to another user" "grouped/users:the group of the number 1234 may write" \
         "for_others/users:everybody may write"; do
-        fails 4 WriteFault "${each#*:}" add "$work/${each%%:*}" eve || return 1
+        fails 4 WriteFault "${each#*:}" add "$work/${each%%:*}" eve && fails 4 WriteFault "${each#*:}" reset "$work/${each%%:*}" ann || return 1
     done
     grep -qF "chmod +t '$work/for_others'" "$work/told" && cp "$work/bobs/users" "$work/before" &&
         ends 0 check "$work/bobs/users" ann --password-file "$work/one" --rounds 5000 && grep -q 'not made anew' "$work/told" &&
@@ -759,7 +861,7 @@ END
         ends 0 add "$work/listed" cid --password-file "$work/one" --rounds 1000 && [ "$(stat -c %a "$work/listed")" = 640 ] && [ ! -s "$work/told" ]
 }
 holds an_access_control_list_is_no_mode access_control_list
-# What draws nothing needs no random octets, and a right password stands where there are none.
+# What draws nothing needs no random octets, and a right password is right where there are none.
 without_random_octets() {
     command -v cc >/dev/null || {
         echo "skipped $name: there is no C compiler"
@@ -867,9 +969,10 @@ sha512 $pbkdf2-sha512$2500$nDPmvNc65xzjPIewdi5lzA$LqLVZqfjvca9A1uAnabvyxBBr82wry
 END
     "${PYTHON:-python3}" "$work/convert.py" <"$work/hashes" >"$work/brought" 2>"$work/told" || return 1
     for each in passlib django-old dots django sha512; do
-        ends 0 check "$work/brought" "$each" --password-file "$work/one" --rounds 1000 && ends 10 check "$work/brought" "$each" --password-file "$work/two" --rounds 1000 || return 1
+        ends 0 check "$work/brought" "$each" --password-file "$work/one" --no-renew && ends 10 check "$work/brought" "$each" --password-file "$work/two" --no-renew || return 1
     done
-    ends 0 list "$work/brought" && [ "$(tr '\n' ' ' <"$work/said")" = 'django django-old dots passlib sha512 ' ]
+    ends 0 list "$work/brought" && printf '%s\tpbkdf2-sha256\t%s\n' django 260000 django-old 2000 dots 2000 passlib 29000 >"$work/due" &&
+        printf 'sha512\tpbkdf2-sha512\t2500\n' >>"$work/due" && cmp -s "$work/due" "$work/said"
 }
 holds hashes_of_django_and_passlib_are_brought_in brought_in
 # What cannot be brought in, or is not converted, is refused.
@@ -924,7 +1027,7 @@ logins() {
         for each in '' 's3cret ' "$(head -c 1100 /dev/zero | tr '\0' a)" "$(printf 'caf\351')"; do
             login "$script" ann "$each" && [ "$code" -eq 1 ] || return 1
         done
-        for each in -h --help -V --version -- - --password-stdin --password-env=HOME --rounds '' ' ' ' ann' 'ann ' Ann ann: 'ann:x' '*' '$(id)' '; true' '../ann' \
+        for each in -h --help -V --version -- - --even --password-stdin --password-env=HOME --rounds '' ' ' ' ann' 'ann ' Ann ann: 'ann:x' '*' '$(id)' '; true' '../ann' \
             "ann$(printf '\nx')" "$(printf '\nann')" "$(printf 'ann\r')" "$(printf 'ann\351')" "$(printf 'a%.0s' $(seq 33))" "$(head -c 100000 /dev/zero | tr '\0' a)" eve; do
             login "$script" "$each" s3cret
             [ "$code" -eq 1 ] || {
@@ -1009,10 +1112,10 @@ holds install_puts_its_files_in_place installs
 installed_works() {
     ln -s "$work/prefix/bin/passdb" "$work/installed-link"
     for each in "$work/prefix/bin/passdb" "$work/installed-link"; do
-        (cd / && PASSDB=$each && ends 0 check "$work/members" ann --password-file "$work/one" --rounds 1000 && [ ! -s "$work/told" ] &&
+        (cd / && PASSDB=$each && ends 0 check "$work/members" ann --password-file "$work/one" --no-renew && [ ! -s "$work/told" ] &&
             fails 10 WrongPassword '' check "$work/members" ann --password-file "$work/two") || return 1
     done
-    asks --answer s3cret -- "$work/prefix/bin/passdb" check "$work/members" ann --rounds 1000
+    asks --answer s3cret -- "$work/prefix/bin/passdb" check "$work/members" ann --no-renew
     [ "$code" -eq 0 ] && grep -q 'echo off while asking, on afterwards$' "$work/told" || return 1
     (unset PASSDB && PATH=$work/prefix/bin:/usr/bin:/bin && sh "$work/prefix/share/doc/passdb/login.sh" "$work/members" ann <"$work/one")
 }
@@ -1022,15 +1125,15 @@ completes() {
         echo "skipped $name: there is no bash"
         return 0
     }
-    bash -c '. "$1"; COMP_WORDS=(passdb re); COMP_CWORD=1; _passdb; [ "${COMPREPLY[*]}" = remove ] || exit 1
-        COMP_WORDS=(passdb check --r); COMP_CWORD=2; _passdb; [ "${COMPREPLY[*]}" = --rounds ] || exit 1
+    bash -c '. "$1"; COMP_WORDS=(passdb re); COMP_CWORD=1; _passdb; [ "${COMPREPLY[*]}" = "reset remove" ] || exit 1
+        COMP_WORDS=(passdb check --e); COMP_CWORD=2; _passdb; [ "${COMPREPLY[*]}" = --even ] || exit 1
         COMP_WORDS=(passdb change --new-password-s); COMP_CWORD=2; _passdb; [ "${COMPREPLY[*]}" = --new-password-stdin ]' bash \
         "$work/prefix/share/bash-completion/completions/passdb"
 }
 holds the_completion_is_that_of_passdb completes
 # Each option of the help is completed, and is on the manual page.
 options_named() {
-    for each in add check change remove list; do
+    for each in add check change reset remove list; do
         ends 0 "$each" --help || return 1
         for option in $(grep -oE '(^|[ ,])--[a-z-]+' "$work/said" | tr -d ' ,' | sort -u); do
             [ "$option" != -- ] || continue

@@ -88,7 +88,7 @@ run() {
     passdb_subcommand=${1-}
     [ $# -eq 0 ] || shift
     passdb_option=--new-password-env
-    [ "$passdb_subcommand" != add ] || passdb_option=--password-env
+    case $passdb_subcommand in add | reset) passdb_option=--password-env ;; esac
     [ -z "$passdb_has_new_password" ] || set -- "$passdb_option" passdb_new_password "$@"
     [ -z "$passdb_has_password" ] || set -- --password-env passdb_password "$@"
     [ -z "$passdb_subcommand" ] || set -- "$passdb_subcommand" "$@"

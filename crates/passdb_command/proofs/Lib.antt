@@ -1,1 +1,3 @@
 pub mod Logins
+pub mod Outcomes
+pub mod Resets

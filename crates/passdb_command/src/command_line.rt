@@ -5,9 +5,9 @@ use std::alloc::{AllocError, Global};
 
 /// What is under the options of each subcommand that takes a password.
 const NOTES: &str = "\
-A password is never an argument, since other users can read those. Without any of its options, ./passdb asks for it
+A password is never an argument, since other users can read those. Without any of its options, passdb asks for it
 at a terminal. Of a file, its first line is the password, without LF or CR LF; /dev/fd/3 and other pipes work;
-./passdb uses descriptor 7 itself.";
+passdb uses descriptor 7 itself.";
 
 /// What is under the whole help.
 const AFTER: &str = "\
@@ -20,20 +20,22 @@ ten seconds for another. A file is changed only below folders that nobody else c
 runs the command, without write permission for others or with the sticky bit.
 
 In a script, a NAME from outside is one word, in quotation marks. Whatever it is, check ends with 0 only where the
-password is that of the name. Help is asked for alone; -- comes before a FILE and a NAME that begin with -.
+password is that of the name. Help is asked for alone; -- comes before a FILE and a NAME that begin with -. Tell
+a user the same for 10 and 11, and give check --even, or the time tells which names there are.
 
 Examples:
-  ./passdb add users ann
-  ./passdb check users \"$NAME\" --password-stdin
-  ./passdb change users ann --password-file old --new-password-file new
-  ./passdb remove users ann
-  ./passdb list users
+  passdb add users ann
+  passdb check --even --password-stdin -- users \"$NAME\"
+  passdb change users ann --password-file old --new-password-file new
+  passdb reset users ann
+  passdb remove users ann
+  passdb list users | cut -f 1
 
-The script ./passdb has a subcommand of its own: build.
+In the folder of the sources ./passdb also has before-proof, build, install [PREFIX] and uninstall [PREFIX].
 
 Exit numbers:
    0  Done                done; of check, the password is that of the name
-   1  BuildFailed         ./passdb could not build the program
+   1  BuildFailed         the program could not be built, or is not installed whole
    2  Usage               bad arguments, or help that is not asked for alone
    3  ReadFault           the file or a password cannot be read
    4  WriteFault          the file cannot be written; it is as it was
@@ -104,6 +106,20 @@ const NEW_PASSWORD_STDIN: Argument = Argument {
     help: "The new password is the first line of the standard input",
 };
 
+const EVEN: Argument = Argument {
+    name: "even",
+    form: Form::Flag,
+    group: None,
+    help: "Take as long for a name that the file does not have as for a wrong password",
+};
+
+const NO_RENEW: Argument = Argument {
+    name: "no-renew",
+    form: Form::Flag,
+    group: None,
+    help: "Never write the file: an entry with few rounds stays",
+};
+
 const ROUNDS: Argument = Argument {
     name: "rounds",
     form: Form::Number("ROUNDS", "600000"),
@@ -111,13 +127,25 @@ const ROUNDS: Argument = Argument {
     help: "Rounds of PBKDF2 for a new entry; check makes an entry anew that has fewer: 1000 to 10000000",
 };
 
-/// Those of `add` and `check`, in the order of the help.
-static OF_ONE_PASSWORD: [Argument; 6] = [
+/// Those of `add` and `reset`, in the order of the help.
+static OF_NEW_PASSWORD: [Argument; 6] = [
     FILE,
     NAME,
     PASSWORD_FILE,
     PASSWORD_ENV,
     PASSWORD_STDIN,
+    ROUNDS,
+];
+
+/// Those of `check`.
+static OF_CHECK: [Argument; 8] = [
+    FILE,
+    NAME,
+    PASSWORD_FILE,
+    PASSWORD_ENV,
+    PASSWORD_STDIN,
+    EVEN,
+    NO_RENEW,
     ROUNDS,
 ];
 
@@ -161,14 +189,17 @@ fn with_subcommand<'a>(
 /// The command with its subcommands.
 fn with_subcommands<'a>(alloc: Global, command: Command<'a>) -> Result<Command<'a>, AllocError> {
     let about = "Add a name with a password";
-    let command = with_subcommand(alloc, command, "add", about, &OF_ONE_PASSWORD)?;
+    let command = with_subcommand(alloc, command, "add", about, &OF_NEW_PASSWORD)?;
     let about = "Test a password, and make the entry anew where it has few rounds";
-    let command = with_subcommand(alloc, command, "check", about, &OF_ONE_PASSWORD)?;
+    let command = with_subcommand(alloc, command, "check", about, &OF_CHECK)?;
     let about = "Change the password of a name";
     let command = with_subcommand(alloc, command, "change", about, &OF_CHANGE)?;
+    let about = "Give a name another password, whatever the old one was";
+    let command = with_subcommand(alloc, command, "reset", about, &OF_NEW_PASSWORD)?;
     let about = "Remove a name";
     let command = with_subcommand(alloc, command, "remove", about, &OF_REMOVE)?;
-    let about = "Print the names, one a line";
+    let about =
+        "Print a line for each name: the name, its algorithm and its rounds, a tab between them";
     with_subcommand(alloc, command, "list", about, &OF_LIST)
 }
 

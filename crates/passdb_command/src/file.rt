@@ -1,5 +1,6 @@
 //! The password file: it is there whole, as it was or as it is to be.
-ghost use Rattle.std.specs.Prelude.{◌≤◌};
+ghost use Rattle.std.specs.Prelude.{◌≤◌, IfOk};
+ghost use Rattle.passdb_core.specs.Entries.{AreEntries};
 
 use crate::ending::{Ending, Failure};
 use crate::malformed::{malformed, not_text};
@@ -149,6 +150,7 @@ pub fn octets_of<R: Files + AllocGlobal>(rt: &R, path: &str) -> Result<Option<Ve
 fn parsed(alloc: Global, path: &str, octets: &[u8], rounds: u32) -> Result<Db, Failure>
     requires some { 1000 ≤ rounds }
     requires few { rounds ≤ 10000000 }
+    ensures { IfOk result (λ d. AreEntries d.entries) }
 {
     let Ok(text) = std::str::from_utf8(octets) else {
         return Err(not_text(alloc, path));
@@ -157,6 +159,17 @@ fn parsed(alloc: Global, path: &str, octets: &[u8], rounds: u32) -> Result<Db, F
         Ok(db) => Ok(db),
         Err(DbError::Malformed) => Err(malformed(alloc, path, text)),
         Err(error) => Err(Failure::from(error)),
+    }
+}
+
+/// The text of these octets of a file; the empty one where there are none, or they are no text.
+pub fn text_in(octets: &Option<Vec<u8>>) -> &str {
+    let Some(octets) = octets else {
+        return "";
+    };
+    match std::str::from_utf8(octets.as_slice()) {
+        Ok(text) => text,
+        Err(_) => "",
     }
 }
 
@@ -170,6 +183,7 @@ pub fn db_of(
 ) -> Result<Db, Failure>
     requires some { 1000 ≤ rounds }
     requires few { rounds ≤ 10000000 }
+    ensures { IfOk result (λ d. AreEntries d.entries) }
 {
     match octets {
         Some(octets) => parsed(alloc, path, octets.as_slice(), rounds),
@@ -193,6 +207,7 @@ pub fn read<R: Files + AllocGlobal>(
 ) -> Result<Db, Failure>
     requires some { 1000 ≤ rounds }
     requires few { rounds ≤ 10000000 }
+    ensures { IfOk result (λ d. AreEntries d.entries) }
 {
     let octets = octets_of(rt, path)?;
     db_of(rt.alloc(), path, &octets, rounds, make)

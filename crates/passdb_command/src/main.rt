@@ -1,11 +1,14 @@
-//! The command for people: `passdb add`, `check`, `change`, `remove` and `list`.
+//! The command for people: `passdb add`, `check`, `change`, `reset`, `remove` and `list`.
 #![tactic(auto)]
 
 mod command_line;
+mod decoy;
 mod ending;
 mod file;
+mod listing;
 mod lock;
 mod malformed;
+mod order;
 mod origins;
 mod password;
 mod request;

@@ -1,12 +1,20 @@
 //! The subcommands, from the arguments to the end.
+ghost use Rattle.std.specs.Prelude.{◌≡◌, ◌≤◌, ℕ, IfOk, List, None, Option, length};
+ghost use Rattle.passdb_core.specs.Commands.{check};
+ghost use Rattle.passdb_command.specs.Request.{IsWorkOf};
+ghost use Rattle.passdb_command.specs.Work.{IsTested, refusal_of, reply_of};
+
 use crate::command_line::command;
+use crate::decoy::decoy_of;
 use crate::ending::{Ending, Failure};
-use crate::file::{Place, db_of, in_safe_place, octets_of, read, real_path};
+use crate::file::{Place, db_of, in_safe_place, octets_of, read, real_path, text_in};
+use crate::listing::listing;
 use crate::lock::Lock;
+use crate::order::Order;
 use crate::origins::origins_differ;
 use crate::password::{as_new_password, read_password};
-use crate::request::{Action, Order, Request, request_of};
-use crate::work::{Work, done, is_change, tested};
+use crate::request::{Action, Manner, Request, request_of};
+use crate::work::{Finding, Work, done, is_change, tested, tested_evenly};
 use clap::ArgMatches;
 use clap::error::ErrorKind;
 use command_base::{Origin, Password, arguments, refusal_text};
@@ -30,14 +38,26 @@ const RANDOM: &str = "/dev/urandom";
 fn password_missing() -> Failure {
     Failure::new(
         Ending::PasswordMissing,
-        "the password was not given, and there is no terminal to ask at",
+        "the password was not given, and there is no terminal to ask at: give --password-file FILE, \
+         --password-env VARIABLE or --password-stdin",
     )
 }
 
+/// The failure of a password that `change` is to give.
 fn new_password_missing() -> Failure {
     Failure::new(
         Ending::NewPasswordMissing,
-        "the new password was not given, and there is no terminal to ask at",
+        "the new password was not given, and there is no terminal to ask at: give --new-password-file \
+         FILE, --new-password-env VARIABLE or --new-password-stdin",
+    )
+}
+
+/// The failure of the only password of `add` or `reset`, whose options have no `new` in their names.
+fn only_password_missing() -> Failure {
+    Failure::new(
+        Ending::NewPasswordMissing,
+        "the new password was not given, and there is no terminal to ask at: give --password-file FILE, \
+         --password-env VARIABLE or --password-stdin",
     )
 }
 
@@ -56,10 +76,12 @@ fn given<R: Files + Env + Input + AllocGlobal>(
 fn given_new<R: Files + Env + Input + AllocGlobal>(
     rt: &R,
     origin: Option<Origin<'_>>,
-) -> Result<Password, Failure> {
+) -> Result<Password, Failure>
+    ensures { IfOk result (λ w. 1 ≤ length w) }
+{
     match origin {
         Some(origin) => as_new_password(read_password(rt, "new password", origin)?),
-        None => Err(new_password_missing()),
+        None => Err(only_password_missing()),
     }
 }
 
@@ -67,10 +89,12 @@ fn given_new<R: Files + Env + Input + AllocGlobal>(
 fn work_of<R: Files + Env + Input + AllocGlobal>(
     rt: &R,
     action: Action<'_>,
-) -> Result<Work, Failure> {
+) -> Result<Work, Failure>
+    ensures { IfOk result (IsWorkOf action.entry) }
+{
     match action {
         Action::Add(new) => Ok(Work::Add(given_new(rt, new)?)),
-        Action::Check(password) => Ok(Work::Check(given(rt, password)?)),
+        Action::Check(password, _) => Ok(Work::Check(given(rt, password)?)),
         Action::Change(old, new) => {
             // Before one is read: a second run could not read it again.
             if old.is_none() {
@@ -82,15 +106,27 @@ fn work_of<R: Files + Env + Input + AllocGlobal>(
             let old = given(rt, old)?;
             Ok(Work::Change(old, given_new(rt, new)?))
         }
+        Action::Reset(new) => Ok(Work::Reset(given_new(rt, new)?)),
         Action::Remove => Ok(Work::Remove),
     }
 }
 
+/// Whether a run may tell at once that the file does not have the name.
+fn tells_name(action: Action<'_>) -> bool {
+    match action {
+        Action::Check(_, manner) => !manner.is_even,
+        _ => true,
+    }
+}
+
 /// `NameUnknown` where the file does not have the name, and `NameExists` where it has it and it is to be added. It is asked before
-/// a password is: nobody types one for nothing.
+/// a password is: nobody types one for nothing. A test that is even tells nothing of the name.
 fn look<R: Files + AllocGlobal>(rt: &R, path: &str, order: &Order<'_>) -> Result<(), Failure> {
     let make = matches!(order.action, Action::Add(_));
     let mut db = read(rt, path, order.rounds, make)?;
+    if !tells_name(order.action) {
+        return Ok(());
+    }
     let is_there = matches!(db.remove(&order.name), Reply::Removed);
     let refusal = match (make, is_there) {
         (true, true) => Reply::Exists,
@@ -172,23 +208,76 @@ fn tell_not_renewed<R: Eprint>(rt: &R, why: &str) {
     }
 }
 
-/// Tests a password. An entry with few rounds is made anew under the lock; where that fails the password was right all the
-/// same, and a line says so.
+/// What the password comes to in the file with this text.
+fn finding<R: Files<File = File> + AllocGlobal>(
+    rt: &R,
+    db: &mut Db,
+    text: &str,
+    order: &Order<'_>,
+    password: &Password,
+    is_even: bool,
+) -> Result<Finding, Failure>
+    ensures reply { IfOk result (λ f.
+        f.reply ≡ reply_of db.old (check order.now.name password.now)) }
+    ensures done { IfOk result (λ f. (rest : Option (List ℕ)) × IsTested db.old order.now.name
+        password.now None rest db.new f) }
+{
+    let name = &order.name;
+    let mut draw = FileDraw::new(rt, RANDOM);
+    let blank = Blank::new(1);
+    if !is_even {
+        return Ok(tested::<_, Brand>(db, &mut draw, name, password, blank)?);
+    }
+    // Made for each name, so that its making tells nothing of the name.
+    let mut decoy = decoy_of(rt.alloc(), text, name, order.rounds)?;
+    Ok(tested_evenly::<_, Brand>(db, &mut decoy, &mut draw, name, password, blank)?)
+}
+
+/// The same where the password is right; else why it is not.
+fn right<R: Files<File = File> + AllocGlobal>(
+    rt: &R,
+    db: &mut Db,
+    text: &str,
+    order: &Order<'_>,
+    password: &Password,
+    is_even: bool,
+) -> Result<Finding, Failure>
+    ensures reply { IfOk result (λ f.
+        f.reply ≡ reply_of db.old (check order.now.name password.now)) }
+    ensures done { IfOk result (λ f. (rest : Option (List ℕ)) × IsTested db.old order.now.name
+        password.now None rest db.new f) }
+    ensures right { IfOk result (λ f. refusal_of f.reply ≡ None) }
+{
+    let found = finding(rt, db, text, order, password, is_even)?;
+    let _ = is_change(found.reply)?;
+    Ok(found)
+}
+
+/// Tests a password. An entry with few rounds is made anew under the lock, if it is to be; where that fails the password was right
+/// all the same, and a line says so.
 fn check<R: Runtime<File = File> + AllocGlobal>(
     rt: &R,
     place: Place<'_>,
     order: &Order<'_>,
     work: &Work,
     password: &Password,
+    manner: Manner,
 ) -> Result<(), Failure> {
     let before = octets_of(rt, place.path)?;
-    let mut db = db_of(rt.alloc(), place.path, &before, order.rounds, false)?;
-    let mut draw = FileDraw::new(rt, RANDOM);
-    let tested = tested::<_, Brand>(&mut db, &mut draw, &order.name, password, Blank::new(1))?;
-    if !is_change(tested.reply)? {
+    let rounds = manner.enough_rounds(order.rounds);
+    let mut db = db_of(rt.alloc(), place.path, &before, rounds, false)?;
+    let found = right(
+        rt,
+        &mut db,
+        text_in(&before),
+        order,
+        password,
+        manner.is_even,
+    )?;
+    if !matches!(found.reply, Reply::Renewed) || !manner.renews {
         return Ok(());
     }
-    if !tested.is_done {
+    if !found.is_done {
         tell_not_renewed(rt, "the system gave no random octets");
     } else if let Err(failure) = renewed_locked(rt, place, order, work, &before, &db) {
         tell_not_renewed(rt, failure.message.as_str());
@@ -199,7 +288,9 @@ fn check<R: Runtime<File = File> + AllocGlobal>(
 /// Whether a password is still to be asked for.
 fn lacks_password(action: Action<'_>) -> bool {
     match action {
-        Action::Add(password) | Action::Check(password) => password.is_none(),
+        Action::Add(password) | Action::Check(password, _) | Action::Reset(password) => {
+            password.is_none()
+        }
         Action::Change(old, new) => old.is_none() || new.is_none(),
         Action::Remove => false,
     }
@@ -213,7 +304,7 @@ fn run_one<R: Runtime<File = File> + AllocGlobal>(
     origins_differ(rt, order.action)?;
     let path = real_path(rt, order.file)?;
     let path = path.as_str();
-    if !matches!(order.action, Action::Check(_)) {
+    if !matches!(order.action, Action::Check(_, _)) {
         in_safe_place(rt, path)?;
     }
     if lacks_password(order.action) {
@@ -221,8 +312,10 @@ fn run_one<R: Runtime<File = File> + AllocGlobal>(
     }
     let place = Place { path, process };
     let work = work_of(rt, order.action)?;
-    match &work {
-        Work::Check(password) => check(rt, place, order, &work, password),
+    match (&work, order.action) {
+        (Work::Check(password), Action::Check(_, manner)) => {
+            check(rt, place, order, &work, password, manner)
+        }
         _ => answered_locked(rt, place, order, &work),
     }
 }
@@ -238,21 +331,17 @@ fn printed(alloc: Global, outcome: io::Result<()>) -> Result<(), Failure> {
 fn run_list<R: Runtime + AllocGlobal>(rt: &R, file: &str) -> Result<(), Failure> {
     let alloc = rt.alloc();
     let path = real_path(rt, file)?;
-    let db = read(rt, path.as_str(), 1000, false)?;
-    let names = db.names(alloc)?;
-    let mut text = String::new(alloc);
-    for name in names.as_slice() {
-        text.push_str(name.as_str())?;
-        text.push('\n')?;
-    }
-    printed(alloc, rt.print(text.as_str()))
+    let path = path.as_str();
+    let octets = octets_of(rt, path)?;
+    let _ = db_of(alloc, path, &octets, 1000, false)?;
+    printed(alloc, rt.print(listing(alloc, text_in(&octets))?.as_str()))
 }
 
 const NO_SUBCOMMAND: &str = "\
-give a subcommand: add, check, change, remove or list; see ./passdb --help";
+give a subcommand: add, check, change, reset, remove or list; see passdb --help";
 
 const HELP_IS_ALONE: &str = "\
-help is asked for alone, as ./passdb --help or ./passdb check --help; -- comes before a file and a name that may begin with -";
+help is asked for alone, as passdb --help or passdb check --help; -- comes before a file and a name that may begin with -";
 
 /// Whether these arguments, the program's name among them, are an option alone, or a subcommand with one option. A script puts a
 /// name from outside after a file: whatever it is, it asks for no help, which would end as a right password does.
