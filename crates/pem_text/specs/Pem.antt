@@ -32,7 +32,7 @@ is_in_line c = cond (c == 10) false true
 abbrev pub joined : List ℕ → List ℕ
 joined = filter is_in_line
 
--- The text t says octets under a label: between its boundaries stand lines whose characters decode
+-- The text t says octets under a label: between its boundaries are lines whose characters decode
 -- to these octets.
 pub record Says (t label octets : List ℕ) : Type 0 where
   pub lines : List ℕ

@@ -47,12 +47,12 @@ without_end_blanks line = reverse (skip_blanks (reverse line))
 
 -- ---- boundaries
 
--- the label that stands before the five hyphens at the end
+-- the label before the five hyphens at the end
 abbrev pub label_before_hyphens : List ℕ → Option (List ℕ)
 label_before_hyphens s =
     cond (pointwise nat_eq (drop (length s - 5) s) (codes "-----")) (Some (take (length s - 5) s)) None
 
--- the label of a line that is a boundary which begins so; white space may stand at its end
+-- the label of a line that is a boundary which begins so; white space may be at its end
 abbrev pub label_in : List ℕ → List ℕ → Option (List ℕ)
 label_in before line =
     cond (pointwise nat_eq (take (length before) line) before)

@@ -5,7 +5,7 @@ ghost use Rattle.pem_text.specs.declared.block.PemError.TheVariants.{Memory};
 use asn1_core::Octets;
 use std::alloc::AllocError;
 
-/// A block of a text: its label, and the octets that its Base64 stands for.
+/// A block of a text: its label, and the octets of which it has the Base64.
 #[derive(Debug, Drop)]
 pub struct Block {
     pub label: Octets,
@@ -15,7 +15,7 @@ pub struct Block {
 /// Why a text is not read. The label is that of the block.
 #[derive(Debug, Drop)]
 pub enum PemError {
-    /// What stands between the boundaries is no Base64.
+    /// What is between the boundaries is no Base64.
     Base64(Octets),
     /// The text ends, or another block begins, before the block ends.
     NoEnd(Octets),

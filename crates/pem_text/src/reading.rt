@@ -166,7 +166,7 @@ fn read_line(
     }
 }
 
-/// The blocks of a text, in order. What stands before, between and after them is passed over, and so is white space in them.
+/// The blocks of a text, in order. What is before, between and after them is passed over, and so is white space in them.
 pub fn blocks_of(alloc: Global, text: &[u8]) -> Result<Vec<Block>, PemError>
     ensures ok { IfOk result (λ v. blocks text.now ≡ Ok v.items) }
     ensures err { IfErr result (λ e. IsCause (blocks text.now) e) }

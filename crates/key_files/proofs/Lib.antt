@@ -1,0 +1,4 @@
+pub mod KeyTexts
+pub mod Matches
+pub mod Refusals
+pub mod Wrapped
