@@ -10,8 +10,8 @@ _pkcs12() {
             return
             ;;
         --out)
-            # a file of rekey, and else a folder
-            if [ "${COMP_WORDS[1]}" = rekey ]; then
+            # a file of rekey and create, and else a folder
+            if [ "${COMP_WORDS[1]}" = rekey ] || [ "${COMP_WORDS[1]}" = create ]; then
                 mapfile -t COMPREPLY < <(compgen -f -- "$word")
             else
                 mapfile -t COMPREPLY < <(compgen -d -- "$word")
@@ -22,10 +22,14 @@ _pkcs12() {
             mapfile -t COMPREPLY < <(compgen -e -- "$word")
             return
             ;;
-        --rounds | --limit | --seal-limit | --most-files | --expires-within) return ;;
+        --rounds | --limit | --seal-limit | --most-files | --expires-within | --name) return ;;
+        --key | --certificate)
+            mapfile -t COMPREPLY < <(compgen -f -- "$word")
+            return
+            ;;
     esac
     if [ "$COMP_CWORD" -eq 1 ]; then
-        mapfile -t COMPREPLY < <(compgen -W "check list export rekey self-test uninstall --help --version" -- "$word")
+        mapfile -t COMPREPLY < <(compgen -W "check list export rekey create self-test uninstall --help --version" -- "$word")
     elif [ "${COMP_WORDS[1]}" = self-test ]; then
         mapfile -t COMPREPLY < <(compgen -W "--help" -- "$word")
     elif [ "${word#-}" = "$word" ]; then
@@ -37,6 +41,9 @@ _pkcs12() {
     elif [ "${COMP_WORDS[1]}" = rekey ]; then
         mapfile -t COMPREPLY < <(compgen -W "$common --out --in-place --force --upgrade --rounds --verbose --new-password-file \
             --new-password-env --new-password-stdin --same-password --allow-empty-password" -- "$word")
+    elif [ "${COMP_WORDS[1]}" = create ]; then
+        mapfile -t COMPREPLY < <(compgen -W "$common --key --certificate --chain --name --out --force --rounds --verbose --new-password-file \
+            --new-password-env --new-password-stdin --allow-empty-password" -- "$word")
     elif [ "${COMP_WORDS[1]}" = list ]; then
         mapfile -t COMPREPLY < <(compgen -W "$common --json --expires-within" -- "$word")
     else

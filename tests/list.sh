@@ -294,6 +294,27 @@ END
 }
 holds equal_lines_are_told_once many_odd_bags
 
+# A serial number with more zeros before it than DER allows has the same digits as text and as JSON; its first octet is its sign.
+zeros_of_a_serial_number() {
+    PYTHONPATH=$home/tests "${PYTHON:-python3}" - "$home/examples/openssl/cert-1.der" "$work/zeros.p12" <<'END' || return 1
+import sys
+from pathlib import Path
+
+import make_store as make
+from read_store import element, only
+
+outer = only(Path(sys.argv[1]).read_bytes())
+inside = outer.sequence()
+version, _, *more = (inside.element() for _ in range(7))
+certificate = make.sequence(make.sequence(version, element(0x02, bytes([0, 0, 5])), *more), outer.element() + outer.element())
+contents = make.sequence(make.data(make.sequence(make.certificate_bag(certificate))))
+Path(sys.argv[2]).write_bytes(make.store_with_mac(contents, "p", bytes(8), 1))
+END
+    ends 0 list "$work/zeros.p12" --password-file "$work/p" && [ "$(field "$work/said" 0 'serial number')" = 0005 ] &&
+        ends 0 list "$work/zeros.p12" --json --password-file "$work/p" && grep -qF '"serial_number": "0005"' "$work/said"
+}
+holds zeros_of_a_serial_number zeros_of_a_serial_number
+
 broken_pipe() {
     code=0
     "$home/pkcs12" list "$keyed" --password-file "$keyed_password" >/dev/full 2>"$work/told" || code=$?

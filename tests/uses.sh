@@ -41,7 +41,8 @@ run_section() {
     folder=$work/in-$number
     number=$((number + 1))
     mkdir "$folder" && cp "$work/made.p12" "$folder/store.p12" && base64 "$work/made.p12" >"$folder/store.b64" &&
-        echo battery-staple >"$folder/pass" && echo 'a new password' >"$folder/key-pass" || return 1
+        echo battery-staple >"$folder/pass" && echo 'a new password' >"$folder/key-pass" &&
+        cp "$work/server.key" "$folder/privkey.pem" && cat "$work/authority.pem" "$work/server.pem" >"$folder/fullchain.pem" || return 1
     blocks "$1" sh >"$folder/commands"
     [ -s "$folder/commands" ] || {
         echo "no commands in the section $1" >"$work/told"
@@ -144,6 +145,17 @@ java_reads() {
     run_section Java && grep -qi 'the server' "$work/said" && grep -q PrivateKeyEntry "$work/said"
 }
 holds java java_reads
+
+java_of_pem() {
+    command -v keytool >/dev/null || {
+        echo "skipped java_of_pem: there is no keytool"
+        return 0
+    }
+    run_section 'A store for Java of PEM files' && grep -q '^server, .*PrivateKeyEntry' "$work/said" &&
+        openssl pkcs12 -in "$folder/server.p12" -passin "file:$folder/pass" -nokeys -out "$folder/taken.pem" 2>"$work/told" &&
+        is_chain "$folder/taken.pem"
+}
+holds java_of_pem java_of_pem
 
 cron_tells() {
     run_section 'Expiry, by cron' && grep -q '^cert-[01]: valid to .*, subject CN=server.example' "$work/said" &&

@@ -32,7 +32,7 @@ for pkcs12_word in "$@"; do
         :--out=*) pkcs12_out=${pkcs12_word#--out=} ;;
         :--password-env | :--new-password-env) pkcs12_expected=variable ;;
         :--password-env=* | :--new-password-env=*) test_variable "${pkcs12_word#*=}" ;;
-        :--*-file | :--*limit | :--rounds | :--format | :--most-files) pkcs12_expected=value ;;
+        :--*-file | :--*limit | :--rounds | :--format | :--most-files | :--key | :--certificate | :--chain | :--name) pkcs12_expected=value ;;
         :-*) ;;
         *) pkcs12_place=$pkcs12_word ;;
     esac
@@ -151,14 +151,19 @@ if (: 7<&0) 2>/dev/null; then
 else
     exec 7>/dev/null
 fi
+pkcs12_question="Password of the store"
 case ${1-} in
     rekey) pkcs12_new_question="New password of the store" ;;
+    create)
+        pkcs12_question="Password of the private keys"
+        pkcs12_new_question="Password of the new store"
+        ;;
     *) pkcs12_new_question="New password for the private keys" ;;
 esac
 while :; do
     run "$@"
     if [ "$pkcs12_status" -eq 8 ] && [ -n "$wrapper_terminal" ] && [ -z "$pkcs12_has_password" ]; then
-        ask "Password of the store"
+        ask "$pkcs12_question"
         pkcs12_password=$wrapper_answered
         pkcs12_has_password=yes
     elif [ "$pkcs12_status" -eq 9 ] && [ -n "$wrapper_terminal" ] && [ -z "$pkcs12_has_new_password" ]; then

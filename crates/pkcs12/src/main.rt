@@ -1,9 +1,10 @@
-//! The command for people: `pkcs12 check STORE`, `list`, `export`, `rekey` and
-//! `self-test`.
+//! The command for people: `pkcs12 check STORE`, `list`, `export`, `rekey`,
+//! `create` and `self-test`.
 #![tactic(auto)]
 
 mod check;
 mod clock;
+mod creating;
 mod exporting;
 mod list;
 mod new_work;

@@ -1,5 +1,6 @@
 //! The command, from its arguments to its end.
 use crate::check::run_check;
+use crate::creating::run_create;
 use crate::exporting::run_export;
 use crate::list::run_list;
 use crate::rekeying::run_rekey;
@@ -41,6 +42,7 @@ fn answer<R: Runtime<File = File> + AllocGlobal>(
 ) -> Result<(), Failure> {
     match request {
         Request::Check(asked) => run_check(rt, around, asked),
+        Request::Create(asked) => run_create(rt, around, asked),
         Request::Export(asked) => run_export(rt, around, asked),
         Request::List(asked) => run_list(rt, around, asked),
         Request::Rekey(asked) => run_rekey(rt, around, asked),

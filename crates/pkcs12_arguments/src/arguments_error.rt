@@ -1,4 +1,8 @@
 //! Why there is nothing to do.
+ghost use Rattle.std.specs.Prelude.{◌≡◌};
+ghost use Rattle.pkcs12_arguments.specs.Pairs.{IsWrong};
+ghost use Rattle.pkcs12_arguments.specs.declared.arguments_error.ArgumentsError.TheVariants.{Memory};
+
 use clap::error::ErrorKind;
 use command_base::{Message, refusal_text};
 use std::alloc::{AllocError, AllocFailed, Global};
@@ -28,7 +32,9 @@ pub enum ArgumentsError {
 
 impl ArgumentsError {
     /// The arguments are wrong as this text says.
-    pub(crate) fn new(text: &'static str) -> ArgumentsError {
+    pub(crate) fn new(text: &'static str) -> ArgumentsError
+        ensures { IsWrong result }
+    {
         ArgumentsError::Wrong(Message::Fixed(text), None)
     }
 
@@ -60,7 +66,7 @@ impl ArgumentsError {
             }
             ErrorKind::DisplayHelpOnMissingArgumentOrSubcommand | ErrorKind::MissingSubcommand => {
                 ArgumentsError::new(
-                    "give a subcommand: check, list, export, rekey or self-test",
+                    "give a subcommand: check, list, export, rekey, create or self-test",
                 ).advised(SHORT_USAGE)
             }
             ErrorKind::UnknownArgument => {
@@ -72,12 +78,16 @@ impl ArgumentsError {
 }
 
 impl From<AllocError> for ArgumentsError {
+    ghost from_gives = { λ _ e. e ≡ Memory };
+
     fn from(_refused: AllocError) -> ArgumentsError {
         ArgumentsError::Memory
     }
 }
 
 impl<T: Drop> From<AllocFailed<T>> for ArgumentsError {
+    ghost from_gives = { λ _ e. e ≡ Memory };
+
     fn from(_refused: AllocFailed<T>) -> ArgumentsError {
         ArgumentsError::Memory
     }

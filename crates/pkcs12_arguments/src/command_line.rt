@@ -1,11 +1,11 @@
 //! The arguments of the command, as `--help` shows them.
-use crate::{export, reading, rekey};
+use crate::{create, export, reading, rekey};
 use clap::Command;
 use command_base::{Argument, Form, with_arguments};
 use std::alloc::{AllocError, Global};
 
 /// What is below the options of each subcommand.
-const NOTES: &str = "\
+pub(crate) const NOTES: &str = "\
 A password is never an argument, since other users can read those. Without any of its options,
 pkcs12 asks for it at a terminal. Of a file, its first line is the password, without LF or CR LF;
 /dev/fd/3 and other pipes work; pkcs12 uses descriptor 7 itself.";
@@ -19,6 +19,7 @@ Examples:
   pkcs12 export store.p12 --out der --format der --password-file old --new-password-file new
   pkcs12 export - --out pem --password-env OLD --new-password-env NEW <store.p12
   pkcs12 rekey store.p12 --out new.p12
+  pkcs12 create --key key.pem --certificate cert.pem --chain chain.pem --name NAME --out store.p12
   pkcs12 self-test
 
 Exported private keys are always encrypted. OpenSSL takes the password off one:
@@ -29,12 +30,12 @@ Exit numbers:
    0  Done                the store was opened, and all output was written
    1  BuildFailed         the program could not be built, installed or uninstalled
    2  Usage               bad arguments
-   3  ReadFault           the store or a password cannot be read
+   3  ReadFault           the store, a file of create or a password cannot be read
    4  WriteFault          the output cannot be written; nothing of it is left
    7  Memory              there was not enough memory
    8  PasswordMissing     no password was given, and there is no terminal to ask at
    9  NewPasswordMissing  a new password is needed, and none was given
-  10  Malformed           the file is not a PKCS#12 store in DER
+  10  Malformed           the file is not a PKCS#12 store in DER, or for create not the PEM that is needed
   11  Unsupported         something is of a kind, or encrypted by an algorithm, that is not opened
   12  MacMissing          the store has no MAC, so a change to it would go unnoticed
   13  MacUnsupported      the MAC is made neither with SHA-1 nor with SHA-256
@@ -42,10 +43,10 @@ Exit numbers:
   15  WorkLimit           opening takes more work than --limit allows
   16  MacMismatch         the password is wrong, or the store was changed
   17  ContentMalformed    the MAC agrees, but the contents are damaged
-  18  DecryptFailed       the password agrees with the MAC, but a part does not decrypt with it
-  19  KeyMalformed        a private key opens, but is not a PKCS#8 key
+  18  DecryptFailed       a part of a store whose MAC agrees, or a private key of create, does not decrypt with the password
+  19  KeyMalformed        a private key opens, but is not a PKCS#8 key, or for create not what its label names
   20  Rng                 the system gave no random octets
-  21  TooLong             the store has more than 16,777,215 octets
+  21  TooLong             the store or a file of create has more than 16,777,215 octets
   22  PasswordUnusable    a password is not UTF-8 or too long, or a new one is empty or has a NUL
   23  OutputExists        the output is there and cannot be replaced
   24  SelfTestFailed      the self-test gave a wrong result
@@ -149,6 +150,7 @@ fn with_subcommands<'a>(alloc: Global, command: Command<'a>) -> Result<Command<'
     for each in subcommands() {
         command = with_subcommand(alloc, command, each.name, each.about, each.arguments)?;
     }
+    let command = command.subcommand(create::subcommand(alloc)?)?;
     command.subcommand(self_test(alloc))
 }
 
@@ -157,7 +159,9 @@ pub fn command<'a>(alloc: Global) -> Result<Command<'a>, AllocError> {
     let command = Command::new(alloc, "pkcs12")
         .bin_name("pkcs12")?
         .version("0.2.0")
-        .about("Open a PKCS#12 store, and take out its certificates and private keys")
+        .about(
+            "Open a PKCS#12 store, and take out its certificates and private keys, or make one of them",
+        )
         .after_help(AFTER)
         .subcommand_required(true)
         .arg_required_else_help(true)

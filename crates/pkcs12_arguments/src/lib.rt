@@ -3,15 +3,19 @@
 
 mod arguments_error;
 mod command_line;
+mod create;
 mod export;
 mod numbers;
+mod pairs;
 mod reading;
 mod rekey;
 mod request;
 mod target;
 
 pub use arguments_error::ArgumentsError;
+pub use create::Create;
 pub use export::{Bounds, Export};
+pub use pairs::{Pair, pairs_of};
 pub use reading::{Days, List, Reading};
 pub use rekey::{Rekey, UpgradeRounds};
 pub use request::{Request, request_of};

@@ -1,6 +1,7 @@
 //! The arguments of a run.
 use crate::arguments_error::ArgumentsError;
 use crate::command_line::command;
+use crate::create::Create;
 use crate::export::Export;
 use crate::reading::{List, Reading};
 use crate::rekey::Rekey;
@@ -11,6 +12,7 @@ use std::alloc::Global;
 #[derive(Drop)]
 pub enum Request<'a> {
     Check(Reading<'a>),
+    Create(Create<'a>),
     Export(Export<'a>),
     List(List<'a>),
     Rekey(Rekey<'a>),
@@ -24,6 +26,7 @@ fn matched<'a>(alloc: Global, matches: &ArgMatches<'a>) -> Result<Request<'a>, A
     };
     match name {
         "export" => Ok(Request::Export(Export::of(alloc, inner)?)),
+        "create" => Ok(Request::Create(Create::of(alloc, inner)?)),
         "check" => Ok(Request::Check(Reading::of(alloc, inner)?)),
         "list" => Ok(Request::List(List::of(alloc, inner)?)),
         "rekey" => Ok(Request::Rekey(Rekey::of(alloc, inner)?)),
@@ -33,7 +36,7 @@ fn matched<'a>(alloc: Global, matches: &ArgMatches<'a>) -> Result<Request<'a>, A
 }
 
 fn no_subcommand() -> ArgumentsError {
-    ArgumentsError::new("give export, check, list, rekey or self-test; see --help")
+    ArgumentsError::new("give export, check, list, rekey, create or self-test; see --help")
 }
 
 /// What the arguments of a run ask for, of which the first is the program's name. `Shown` where that is help or the version,

@@ -21,16 +21,26 @@ fn without_sign(octets: &[u8]) -> &[u8] {
     }
 }
 
+/// Two digits for each octet.
+#[derive(Clone, Copy)]
+struct Digits<'a>(&'a [u8]);
+
+impl fmt::Display for Digits<'_> {
+    fn fmt<W: fmt::Write>(&self, f: &mut fmt::Formatter<W>) -> fmt::Result {
+        for octet in self.0 {
+            write!(f, "{octet:02X}")?;
+        }
+        Ok(())
+    }
+}
+
 /// The digits of a serial number, given by its value octets.
 #[derive(Clone, Copy)]
 pub struct SerialNumber<'a>(pub &'a [u8]);
 
 impl fmt::Display for SerialNumber<'_> {
     fn fmt<W: fmt::Write>(&self, f: &mut fmt::Formatter<W>) -> fmt::Result {
-        for octet in without_sign(self.0) {
-            write!(f, "{octet:02X}")?;
-        }
-        Ok(())
+        Digits(without_sign(self.0)).fmt(f)
     }
 }
 
@@ -50,7 +60,7 @@ struct ShortSerialNumber<'a>(&'a [u8]);
 impl fmt::Display for ShortSerialNumber<'_> {
     fn fmt<W: fmt::Write>(&self, f: &mut fmt::Formatter<W>) -> fmt::Result {
         let octets = without_sign(self.0);
-        SerialNumber(front_of(octets)).fmt(f)?;
+        Digits(front_of(octets)).fmt(f)?;
         if octets.len() <= MOST_OCTETS {
             return Ok(());
         }

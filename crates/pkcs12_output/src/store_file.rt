@@ -46,7 +46,7 @@ enum Begun {
 }
 
 fn write_fault(alloc: Global, path: &str, error: io::Error) -> OutputError {
-    OutputError::write_fault(alloc, "the changed store", path, error)
+    OutputError::write_fault(alloc, "the new store", path, error)
 }
 
 /// The error where something is at the path that is not replaced.
@@ -118,7 +118,7 @@ impl<'a> StoreFile<'a> {
                 "--out takes the path of a file, with a name at its end",
             ));
         }
-        let real = safe_place(rt, "the changed store", path)?;
+        let real = safe_place(rt, "the new store", path)?;
         let kept = match fs::symlink_metadata(rt, real.as_str()) {
             Ok(there) => Some(replaceable(rt, path, real.as_str(), &there, may_replace)?),
             Err(error) if error.kind() == io::ErrorKind::NotFound => None,

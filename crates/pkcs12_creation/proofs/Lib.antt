@@ -1,0 +1,4 @@
+pub mod Blocks
+pub mod Choices
+pub mod Noted
+pub mod Orders
