@@ -1,6 +1,7 @@
 #!/bin/sh
 # What the command ./pkcs12 takes, by its built program, or by PROGRAM: `check` beside `openssl pkcs12`, `check` and `list` by the number of
-# private keys, the memory of `export`, and what the wrapper of an installed command adds. Needs Python 3 with the package cryptography.
+# private keys, `list` of many keys of one chain, `export` into deep folders, the memory of `export`, and what the wrapper of an installed
+# command adds. Needs Python 3 with the package cryptography.
 set -eu
 
 home=$(cd "$(dirname "$0")/.." && pwd)
@@ -14,9 +15,16 @@ PROGRAM=${PROGRAM:-$home/crates/pkcs12/out/pkcs12}
 echo p >"$work/password"
 echo q >"$work/new-password"
 
-# `SECONDS MIB` of the subcommand $1 on the store $2.
+# `SECONDS MIB` of the subcommand $1, with its options, on the store $2.
 takes() {
-    "$home/bench/measure.py" "$runs" /dev/null "$program" "$1" "$work/$2" --password-file "$work/password"
+    # shellcheck disable=SC2086
+    "$home/bench/measure.py" "$runs" /dev/null "$program" $1 "$work/$2" --password-file "$work/password"
+}
+# The same of `export` of the store $2 into a folder of $1.
+exports_to() {
+    # shellcheck disable=SC2016
+    "$home/bench/measure.py" "$runs" /dev/null sh -c 'rm -rf "$1/out" && shift && exec "$@"' sh "$1" "$program" export "$work/$2" \
+        --out "$1/out" --password-file "$work/password" --new-password-file "$work/new-password" --rounds 1
 }
 # The same of one run of `export` with the further words, into a folder that is not there.
 exports() {
@@ -38,6 +46,27 @@ for number in 6000 60000; do
     make_store pairs "$number" pairs
     measured "  $number: check" takes check pairs
     measured "  $number: list" takes list pairs
+done
+echo
+
+row 'one chain that each of as many private keys begins' seconds MiB
+for number in 1000 5000; do
+    "$home/bench/make_inventory_store.py" chains "$number" "$work/chains"
+    measured "  $number: list" takes list chains
+    measured "  $number: list --json" takes 'list --json' chains
+done
+echo
+
+# Each folder above the output is looked at, and each file is made below the folder that is held open.
+row 'export of 1,000 private keys, each into a file' seconds MiB
+make_store keys 1000 keys
+deep=$work
+for folders in 0 10 100; do
+    while [ "$(printf '%s' "${deep#"$work"}" | tr -dc / | wc -c)" -lt "$folders" ]; do
+        deep=$deep/a
+    done
+    mkdir -p "$deep"
+    measured "  $folders folders deeper" exports_to "$deep" keys
 done
 echo
 

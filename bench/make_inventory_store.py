@@ -9,6 +9,7 @@ and whose keys and signatures are those of the example. The kinds:
     chain          one private key, and a chain of all certificates, each issued by the next one
     alternating    one private key, and certificates of two names that issue each other by turns: the chain has all of them
     keys           a private key for each certificate, which have all one issuer, the last one
+    chains         the chain of the first kind, which as many private keys begin
 """
 
 import os
@@ -73,6 +74,8 @@ def bags_of(kind, count):
     if kind == "keys":
         certificates = [certificate_bag(at, f"name {at}", f"name {count - 1}") for at in numbers]
         return certificates + [key_bag(at) for at in numbers]
+    if kind == "chains":
+        return bags_of("chain", count) + [key_bag(0)] * (count - 1)
     sys.exit(__doc__)
 
 

@@ -1,7 +1,7 @@
 #!/bin/sh
 # shellcheck disable=SC2154,SC2317 # the checks are called by name, and tests/shared/checks.sh sets names
 # What ./pkcs12 package makes: a Debian package, which is installed below another root and removed again, and a tarball of the sources. It
-# takes the built program and library, and proves nothing.
+# takes the built programs and the library, and proves nothing.
 # Prints `ok NAME` or `not ok NAME` for each, `skipped NAME` with the reason for what this machine has no means for, and ends with 1
 # where one is not ok.
 set -eu
@@ -69,20 +69,23 @@ installed() {
     mkdir -p "$root/var/lib/dpkg/info" "$root/var/lib/dpkg/updates" "$root/var/lib/dpkg/triggers" && : >"$root/var/lib/dpkg/status" &&
         in_root -i "$first_deb" && [ "$("$root/usr/bin/pkcs12" --version 2>"$work/told")" = "pkcs12 $version" ] &&
         setsid -w "$root/usr/bin/pkcs12" check "$plain" --password-file "$plain_password" >"$work/said" 2>"$work/told" &&
-        grep -q '^certificates: ' "$work/said" &&
+        grep -q '^certificates: ' "$work/said" && [ "$("$root/usr/bin/passdb" --version 2>"$work/told")" = "passdb $version" ] &&
+        echo secret >"$work/secret" && setsid -w "$root/usr/bin/passdb" add "$work/users" ann --password-file "$work/secret" --rounds 1000 &&
+        setsid -w "$root/usr/bin/passdb" check "$work/users" ann --password-file "$work/secret" &&
         (cd "$root" && md5sum -c --quiet - <"$root/var/lib/dpkg/info/pkcs12-proved.md5sums") >"$work/told" 2>&1
 }
-read_page() {
-    gzip -dc "$root/usr/share/man/man1/pkcs12-proved.1.gz" >"$work/page" && grep -q '^\.TH' "$work/page" || return 1
-    command -v man >/dev/null || return 0
-    man -l --warnings "$work/page" >"$work/said" 2>"$work/told" && [ ! -s "$work/told" ]
+read_pages() {
+    for page in pkcs12-proved passdb; do
+        gzip -dc "$root/usr/share/man/man1/$page.1.gz" >"$work/page" && grep -q '^\.TH' "$work/page" || return 1
+        ! command -v man >/dev/null || { man -l --warnings "$work/page" >"$work/said" 2>"$work/told" && [ ! -s "$work/told" ]; } || return 1
+    done
 }
 removed() {
     in_root --purge pkcs12-proved && [ ! -e "$root/usr" ] && [ ! -s "$root/var/lib/dpkg/info/pkcs12-proved.list" ]
 }
 if [ "$(id -u)" -eq 0 ]; then
     holds a_package_is_installed_and_opens_a_store installed
-    holds its_manual_page_is_read read_page
+    holds its_manual_pages_are_read read_pages
     holds nothing_is_left_of_it removed
 else
     echo "skipped a_package_is_installed: dpkg installs as root alone"

@@ -9,6 +9,10 @@ work=$(mktemp -d)
 trap 'rm -rf "$work"' EXIT
 # shellcheck source=tests/shared/checks.sh
 . "$home/tests/shared/checks.sh"
+# shellcheck source=tests/shared/pem_files.sh
+. "$home/tests/shared/pem_files.sh"
+# shellcheck source=tests/shared/other_programs.sh
+. "$home/tests/shared/other_programs.sh"
 
 # Changes the store $1 under the password of the file $2 to $work/new, as $3.
 rekey() {
@@ -30,7 +34,7 @@ without_algorithms() {
 changes() {
     rm -f "$work/changed.p12"
     rekey "$1/store.p12" "$1/password" "$work/changed.p12" && [ ! -s "$work/told" ] &&
-        [ "$(stat -c %a "$work/changed.p12")" = 600 ] && [ ! -e "$work/changed.p12".part-* ] || return 1
+        [ "$(stat -c %a "$work/changed.p12")" = 600 ] && ! ls "$work/changed.p12".part-* 2>/dev/null || return 1
     # This program opens the same certificates, names and pairs under the new password, and not under the old one.
     ends 0 check "$1/store.p12" --password-file "$1/password" && without_algorithms >"$work/before" &&
         ends 0 check "$work/changed.p12" --password-file "$work/new" && without_algorithms | cmp "$work/before" - &&
@@ -204,7 +208,7 @@ full_disk() {
         setsid -w "$home/pkcs12" rekey "$work/full.p12" --in-place --password-file "$work/full-password" \
             --new-password-file "$work/new" >/dev/null 2>"$work/nothing-said"
     ) || code=$?
-    [ "$code" -eq 4 ] && cmp "$keyed" "$work/full.p12" && [ ! -e "$work/full.p12".part-* ]
+    [ "$code" -eq 4 ] && cmp "$keyed" "$work/full.p12" && ! ls "$work/full.p12".part-* 2>/dev/null
 }
 holds a_full_disk_leaves_the_store full_disk
 
@@ -339,29 +343,139 @@ for example in "$home"/examples/*/store.p12; do
     holds "new_algorithms_for_$example" upgrades_example "$example"
 done
 
-keytool_opens_upgraded() {
-    command -v keytool >/dev/null || {
-        echo "skipped keytool_opens_upgraded: there is no keytool"
-        return 0
-    }
-    example=$home/examples/keytool-default
-    upgrade "$example/store.p12" "$example/password" "$work/java.p12" --new-password-file "$work/new" || return 1
-    keytool -list -keystore "$work/java.p12" -storepass "$(cat "$work/new")" >"$work/one" 2>&1 &&
-        keytool -list -keystore "$example/store.p12" -storepass "$(cat "$example/password")" >"$work/two" 2>&1 || return 1
-    [ "$(grep -c fingerprint "$work/one")" -gt 0 ] && [ "$(grep fingerprint "$work/one")" = "$(grep fingerprint "$work/two")" ]
-}
-holds keytool_opens_the_upgraded_store keytool_opens_upgraded
+# --- stores of other programs, upgraded, are read by each of them ---
 
-certtool_opens_upgraded() {
-    command -v certtool >/dev/null || {
-        echo "skipped certtool_opens_upgraded: there is no certtool"
-        return 0
-    }
-    example=$home/examples/gnutls-default
-    upgrade "$example/store.p12" "$example/password" "$work/gnu.p12" --new-password-file "$work/new" &&
-        certtool --p12-info --inder --infile "$work/gnu.p12" --password "$(cat "$work/new")" >"$work/one" 2>"$work/told"
+# Each maker makes the store $1 under the password in the file $work/old, and the lines of what it puts in, in $1.due. Names are in small
+# letters, since a store of Java's knows no others.
+echo 'old password' >"$work/old"
+
+# A key with its chain.
+chained() {
+    pair 'an older name' "$work/ec.pem" "$work/ec-cert.pem" "$work/middle.pem" "$work/root.pem" >"$1.due"
 }
-holds certtool_opens_the_upgraded_store certtool_opens_upgraded
+of_openssl() {
+    made=$1
+    shift
+    chained "$made" && openssl pkcs12 -export -inkey "$work/ec.pem" -in "$work/ec-cert.pem" -certfile "$work/issuers.pem" \
+        -name 'an older name' -iter 7 -passout "file:$work/old" -out "$made" "$@" 2>"$work/told"
+}
+openssl_default() {
+    of_openssl "$1"
+}
+openssl_triple_des() {
+    of_openssl "$1" -keypbe PBE-SHA1-3DES -certpbe PBE-SHA1-3DES -macalg sha1
+}
+openssl_legacy() {
+    of_openssl "$1" -legacy
+}
+
+# Three keys, with the chain of one.
+three_keys() {
+    {
+        pair first "$work/rsa.pem" "$work/rsa-cert.pem" && pair second "$work/ec.pem" "$work/ec-cert.pem" "$work/middle.pem" "$work/root.pem" &&
+            pair third "$work/ed.pem" "$work/ed-cert.pem"
+    } >"$1.due"
+}
+of_keytool() {
+    made=$1
+    shift
+    rm -f "$made" && three_keys "$made" || return 1
+    for each in 'first rsa' 'second ec' 'third ed'; do
+        openssl pkcs12 -export -name "${each% *}" -inkey "$work/${each#* }.pem" -in "$work/${each#* }-cert.pem" \
+            -certfile "$work/issuers.pem" -passout "file:$work/old" -out "$work/one-key.p12" 2>"$work/told" &&
+            keytool -importkeystore -noprompt -srckeystore "$work/one-key.p12" -srcstorepass:file "$work/old" -destkeystore "$made" \
+                -deststoretype PKCS12 -deststorepass:file "$work/old" "$@" >"$work/told" 2>&1 || return 1
+    done
+}
+keytool_default() {
+    of_keytool "$1"
+}
+keytool_triple_des() {
+    of_keytool "$1" -J-Dkeystore.pkcs12.certProtectionAlgorithm=PBEWithSHA1AndDESede -J-Dkeystore.pkcs12.certPbeIterationCount=7 \
+        -J-Dkeystore.pkcs12.keyProtectionAlgorithm=PBEWithSHA1AndDESede -J-Dkeystore.pkcs12.keyPbeIterationCount=7 \
+        -J-Dkeystore.pkcs12.macAlgorithm=HmacPBESHA1 -J-Dkeystore.pkcs12.macIterationCount=7
+}
+keytool_legacy() {
+    of_keytool "$1" -J-Dkeystore.pkcs12.legacy
+}
+
+of_bouncycastle() {
+    of_keytool "$work/to-import.p12" && mv "$work/to-import.p12.due" "$1.due" && java_class MakeStore &&
+        java -cp "$work/java:$bouncycastle_jar" MakeStore "$work/to-import.p12" "$work/old" "$2" "$3" "$1" 2>"$work/told"
+}
+bouncycastle_default() {
+    of_bouncycastle "$1" PKCS12 BER
+}
+bouncycastle_triple_des() {
+    of_bouncycastle "$1" PKCS12-3DES-3DES DER
+}
+
+of_certtool() {
+    made=$1
+    shift
+    pair 'by gnutls' "$work/rsa.pem" "$work/rsa-cert.pem" >"$made.due" &&
+        certtool --to-p12 --load-privkey "$work/rsa.pem" --load-certificate "$work/rsa-cert.pem" --p12-name 'by gnutls' \
+            --password "$(cat "$work/old")" --outder --outfile "$made" "$@" 2>"$work/told"
+}
+certtool_default() {
+    of_certtool "$1"
+}
+certtool_triple_des() {
+    of_certtool "$1" --pkcs-cipher 3des-pkcs12 --hash SHA1
+}
+
+pk12util_default() {
+    openssl_default "$1" && rm -rf "$work/nss-of" && mkdir "$work/nss-of" && certutil -N -d "sql:$work/nss-of" --empty-password &&
+        pk12util -i "$1" -d "sql:$work/nss-of" -w "$work/old" -K '' >"$work/told" 2>&1 && rm "$1" &&
+        pk12util -o "$1" -n 'an older name' -d "sql:$work/nss-of" -w "$work/old" -K '' >"$work/told" 2>&1
+}
+
+of_cryptography() {
+    chained "$2" && "${PYTHON:-python3}" "$home/tests/shared/make_with_cryptography.py" "$1" 'an older name' "$work/ec.pem" \
+        "$work/ec-cert.pem" "$work/issuers.pem" "$work/old" "$2" 2>"$work/told"
+}
+cryptography_default() {
+    of_cryptography default "$1"
+}
+cryptography_triple_des() {
+    of_cryptography triple-des "$1"
+}
+
+# Makes a store by the maker $1 and upgrades it.
+upgrades_store_of() {
+    has_program "${1%%_*}" "$1" || return 0
+    "$1" "$work/$1.p12" || return 1
+    if ! upgrade "$work/$1.p12" "$work/old" "$work/upgraded-$1.p12" --new-password-file "$work/new" 2>"$work/differs"; then
+        is_refused_by_name "$1" && echo "skipped $1: such a store is refused" && return 0
+        cat "$work/differs" >&2
+        return 1
+    fi
+    is_upgraded "$work/upgraded-$1.p12" "$work/new"
+}
+# The stores that are refused: under RC2, and in BER.
+is_refused_by_name() {
+    case $1 in
+        *_legacy) head -n 1 "$work/told" | grep -q '^pkcs12: Unsupported (11): .*RC2' ;;
+        pk12util_default | bouncycastle_default) head -n 1 "$work/told" | grep -q '^pkcs12: Malformed (10): .* BER' ;;
+        *) return 1 ;;
+    esac
+}
+upgraded_stores() {
+    for each_maker in openssl_default openssl_triple_des openssl_legacy keytool_default keytool_triple_des keytool_legacy \
+        bouncycastle_default bouncycastle_triple_des certtool_default certtool_triple_des pk12util_default cryptography_default \
+        cryptography_triple_des; do
+        holds "upgrades_a_store_of_$each_maker" upgrades_store_of "$each_maker"
+        [ -f "$work/upgraded-$each_maker.p12" ] || continue
+        for each_program in $other_programs; do
+            holds "${each_program}_reads_an_upgraded_store_of_$each_maker" program_reads "$each_program" \
+                "$work/upgraded-$each_maker.p12" "$work/new" "$work/$each_maker.p12.due" "${each_program}_of_$each_maker"
+        done
+    done
+}
+if have_openssl upgraded_stores; then
+    holds pairs pairs
+    upgraded_stores
+fi
 
 # A store of one encrypted content and one key, and its MAC: 3 counts of 1,000.
 upgrade_limit() {

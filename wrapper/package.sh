@@ -1,5 +1,5 @@
 # shellcheck shell=sh disable=SC2154 # names that the scripts set that source this
-# Makes a Debian package and a tarball of the sources. Sourced by ./pkcs12 after build.sh.
+# Makes a Debian package of both commands and the library for C, and a tarball of the sources. Sourced by ./pkcs12 after build.sh.
 
 package_name=pkcs12-proved
 
@@ -25,16 +25,30 @@ move() {
     mv -- "$package_root/$1" "$package_root/$2"
 }
 
+# Takes out what only `uninstall` of the command $1 reads, and what the package has once or in another form.
+drop_notes() {
+    for package_each in made with-library libdir; do
+        rm -f -- "$package_root/usr/lib/$1/$package_each"
+    done
+    rm -f -- "$package_root/usr/share/doc/$1"/LICENSE-*
+}
+
 # Puts what is installed where a package has it, under names that no other package has: NSS has a header pkcs12.h, and OpenSSL a manual page
 # pkcs12(1ssl).
 lay_out() {
     DESTDIR=$package_root "$wrapper_home/pkcs12" install --libdir="lib/$package_multiarch" /usr >"$package_work/installed" ||
-        not_packaged "it could not be installed, as is said above"
+        not_packaged "pkcs12 could not be installed, as is said above"
+    DESTDIR=$package_root "$wrapper_home/passdb" install /usr >>"$package_work/installed" ||
+        not_packaged "passdb could not be installed, as is said above"
+    drop_notes pkcs12
+    drop_notes passdb
     move usr/share/man/man1/pkcs12.1 "usr/share/man/man1/$package_name.1"
-    # what only `pkcs12 uninstall` reads
-    rm -f -- "$package_root/usr/lib/pkcs12/made" "$package_root/usr/lib/pkcs12/with-library" "$package_root/usr/lib/pkcs12/libdir"
-    rm -f -- "$package_root/usr/share/doc/pkcs12"/LICENSE-*
     move usr/share/doc/pkcs12 "usr/share/doc/$package_name"
+    move usr/share/doc/passdb/PASSDB.md "usr/share/doc/$package_name/PASSDB.md"
+    for package_each in login.py login.sh; do
+        move "usr/share/doc/passdb/$package_each" "usr/share/doc/$package_name/examples/$package_each"
+    done
+    rm -rf -- "$package_root/usr/share/doc/passdb"
     [ -f "$package_root/usr/include/pkcs12.h" ] || return 0
     move usr/include/pkcs12.h "usr/include/$package_name/pkcs12.h"
     package_pc=$package_root/usr/lib/$package_multiarch/pkgconfig
@@ -84,7 +98,7 @@ write_documents() {
     changelog >"$package_doc/changelog"
     origin >"$package_doc/origin"
     gzip -9 -n -- "$package_doc/changelog" "$package_doc/CHANGELOG.md" "$package_root/usr/share/man/man1"/*.1
-    chmod 644 "$package_doc"/*
+    find "$package_doc" -type f -exec chmod 644 {} +
 }
 
 # The libraries of the system that the programs need, by dpkg-shlibdeps.
@@ -107,11 +121,14 @@ Installed-Size: $(du -sk --apparent-size -- "$package_root/usr" | cut -f 1)
 Depends: $package_depends
 Section: utils
 Priority: optional
-Description: opens PKCS#12 stores, with proofs
+Description: opens PKCS#12 stores, and keeps password hashes, with proofs
  The command pkcs12 opens a PKCS#12 store (.p12, .pfx), writes its certificates
  and its private keys under a new password as PEM files, lists what is in it,
  and changes its password and its algorithms. What it makes of a store, and when
  it refuses one, is proved down to the ciphers. The manual page is $package_name(1).
+ .
+ The command passdb keeps a file of names and password hashes, as a login needs
+ it. The manual page is passdb(1).
 END
     if [ -e "$package_root/usr/lib/$package_multiarch/libpkcs12.so.1" ]; then
         cat >>"$package_root/DEBIAN/control" <<END
