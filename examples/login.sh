@@ -9,7 +9,7 @@ set -u
 }
 # A name that passdb has none of; after -- it would not be an option either.
 case $2 in
-    '' | -* | *[!abcdefghijklmnopqrstuvwxyz0123456789-]*) exit 1 ;;
+    '' | *[!abcdefghijklmnopqrstuvwxyz0123456789-]*) exit 1 ;;
 esac
 [ "${#2}" -le 32 ] || exit 1
 code=0

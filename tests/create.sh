@@ -245,6 +245,19 @@ bad_keys() {
 }
 holds files_without_a_key_are_refused bad_keys
 
+# A private key whose line ends are lost is not printed, nor any part of it.
+not_printed() {
+    for file in "$work/ed.pem" "$work/ec.pem"; do
+        secret=$(sed -n 2p "$file" | cut -c 20-50)
+        tr -d '\n' <"$file" >"$work/one-line.pem" && tr '\n' ' ' <"$file" >"$work/spaces.pem" && tr '\n' '\r' <"$file" >"$work/returns.pem" || return 1
+        for lost in "$work/one-line.pem" "$work/spaces.pem" "$work/returns.pem"; do
+            refuses 10 Malformed '' --key "$lost" --certificate "$work/ec-cert.pem" && ! grep -qF -- "$secret" "$work/told" &&
+                refuses 10 Malformed '' --key "$work/ec.pem" --certificate "$lost" && ! grep -qF -- "$secret" "$work/told" || return 1
+        done
+    done
+}
+holds a_key_whose_line_ends_are_lost_is_not_printed not_printed
+
 no_curve() {
     # The key of the example of RFC 5915 alone: version and octets, without the parameters.
     printf '\060\045\002\001\001\004\040' >"$work/no-curve.der" && head -c 32 /dev/zero | tr '\0' '\001' >>"$work/no-curve.der" &&
@@ -261,7 +274,7 @@ bad_certificates() {
     refuses 2 Usage 'no certificate in' "$@" "$work/ec-cert.pem" && refuses 2 Usage 'no certificate in' "$@" "$work/fullchain.pem" &&
         refuses 10 Malformed 'no certificate' "$@" "$work/rsa.pem" && refuses 10 Malformed empty "$@" "$work/empty" &&
         refuses 10 Malformed DER "$@" "$work/rsa-cert.der" && refuses 11 Unsupported TRUSTED "$@" "$work/trusted.pem" &&
-        refuses 10 Malformed 'no X.509' "$@" "$work/no-certificate.pem" &&
+        refuses 10 Malformed 'no X.509' "$@" "$work/no-certificate.pem" && grep -qxF '    openssl x509 -in CERT.pem -noout -text' "$work/told" &&
         refuses 10 Malformed empty "$@" "$work/rsa-cert.pem" --chain "$work/empty" &&
         refuses 2 Usage 'no certificate in' --key "$work/ec.pem" --certificate "$work/middle.pem"
 }

@@ -207,6 +207,14 @@ chain_without_root() {
 }
 holds a_chain_without_its_root_is_told chain_without_root
 
+# Certificates that issue each other by turns: the chain has no end, and the issuer of the last is there.
+endless_chain() {
+    "$home/bench/make_inventory_store.py" alternating 4 "$work/endless.p12" && echo p >"$work/of_endless" &&
+        ends 0 list "$work/endless.p12" --password-file "$work/of_endless" && grep -qF 'the chain has no end' "$work/said" &&
+        ! grep -qF 'is not in this store' "$work/said"
+}
+holds a_chain_without_an_end_is_told endless_chain
+
 chain_and_others() {
     fails 2 Usage --chain export "$work/chain.p12" --out "$work/none" --chain --one-file --password-file "$work/p" &&
         fails 2 Usage --chain export "$work/chain.p12" --out "$work/none" --chain --format der --password-file "$work/p" &&

@@ -233,7 +233,10 @@ others_stay() {
         openssl pkcs12 -export -inkey "$work/key.pem" -in "$work/cert.pem" -keypbe NONE -out "$work/open.p12" \
             -passout "file:$work/p" 2>"$work/told" || return 1
     rekey "$work/open.p12" "$work/p" "$work/open-changed.p12" && taken_out "$work/open.p12" "$work/p" >"$work/one" &&
-        taken_out "$work/open-changed.p12" "$work/new" >"$work/two" && cmp "$work/one" "$work/two"
+        taken_out "$work/open-changed.p12" "$work/new" >"$work/two" && cmp "$work/one" "$work/two" || return 1
+    ends 0 rekey "$work/open.p12" --upgrade --rounds 1000 --same-password --password-file "$work/p" --out "$work/open-upgraded.p12" &&
+        grep -qxF 'pkcs12: warning: private keys that are not encrypted, and stay so: 1' "$work/told" &&
+        taken_out "$work/open-upgraded.p12" "$work/p" >"$work/two" && cmp "$work/one" "$work/two"
 }
 holds a_key_that_is_not_encrypted_stays_so others_stay
 

@@ -9,7 +9,7 @@ use command_base::Password;
 use octet_core::{Draw, FileDraw};
 use p12::{CertBag, SafeBag, SafeBagKind};
 use pkcs12_arguments::{Rekey, UpgradeRounds};
-use pkcs12_inspection::{Listing, counts};
+use pkcs12_inspection::{Listing, OtherBag, counts};
 use pkcs12_opening::{
     Ending, Failure, Given, NewPassword, RANDOM, Surroundings, are_one, inputs_differ,
     is_not_given_again, listing_of, new_password_missing, opened, opened_store, output_differs,
@@ -262,6 +262,31 @@ fn warn_of_password<R: Eprint>(rt: &R, change: &Change<'_>) {
     }
 }
 
+/// How many private keys are not encrypted.
+fn clear_keys(found: &Listing) -> usize {
+    let mut number = 0usize;
+    for other in found.others.as_slice() {
+        if matches!(other, OtherBag::PlainKey) {
+            number = number.saturating_add(1);
+        }
+    }
+    number
+}
+
+/// Says how many private keys an upgrade leaves without encryption.
+fn warn_of_clear_keys<R: Eprint>(rt: &R, change: &Change<'_>, found: &Listing) {
+    let number = clear_keys(found);
+    if change.upgrade.is_none() || number == 0 {
+        return;
+    }
+    // A standard error that cannot be written to is no failure of the work.
+    match eprintln!(rt;
+        "pkcs12: warning: private keys that are not encrypted, and stay so: {number}"
+    ) {
+        Ok(()) | Err(_) => {}
+    }
+}
+
 /// Opens the store, writes it under the new password into the file, and returns what it has.
 fn write_rekeyed<R: Runtime<File = File> + AllocGlobal>(
     rt: &R,
@@ -285,6 +310,7 @@ fn write_rekeyed<R: Runtime<File = File> + AllocGlobal>(
     }
     let found = listing_of(rt.alloc(), &opened)?;
     warn_of_password(rt, change);
+    warn_of_clear_keys(rt, change, &found);
     let before = opened.into_opened(rt.alloc())?;
     let replaces_store = are_one(rt, path_of_store(asked.store), asked.out);
     write_changed(rt, file, change, &before, replaces_store)?;

@@ -163,9 +163,14 @@ fn add_chain(
     for place in chain.as_slice() {
         write!(text, " cert-{place}")?;
     }
-    match is_whole(certificates.views(), chain.as_slice()) {
-        true => text.push_str("\n"),
-        false => text.push_str(" (the issuer of the last is not in this store)\n"),
+    if is_whole(certificates.views(), chain.as_slice()) {
+        return text.push_str("\n");
+    }
+    match chain.as_slice().last() {
+        Some(last) if certificates.has_issuer(*last) => {
+            text.push_str(" (the issuer of the last is one of these: the chain has no end)\n")
+        }
+        _ => text.push_str(" (the issuer of the last is not in this store)\n"),
     }
 }
 

@@ -136,6 +136,14 @@ impl<'a> Certificates<'a> {
         self.index.chain_from(alloc, start)
     }
 
+    /// Whether the store has the issuer of the certificate at this place.
+    pub fn has_issuer(&self, place: usize) -> bool {
+        match self.index.parent_of(place) {
+            Parent::Itself | Parent::Of(_) => true,
+            Parent::Unknown => false,
+        }
+    }
+
     /// What is shown of the certificate at this place; none where its octets are no certificate.
     pub fn get(&self, alloc: Global, place: usize) -> Result<Option<Certificate<'a>>, AllocError> {
         let (Some(octets), Some(Some(view))) = (self.octets.get(place), self.views().get(place))

@@ -19,6 +19,10 @@ const PLAIN_CERTIFICATE: &str = "\
 OpenSSL writes the certificate alone:
     openssl x509 -in CERT.pem -out NEW.pem";
 
+const LOOK_AT_CERTIFICATE: &str = "\
+OpenSSL says what is wrong with it:
+    openssl x509 -in CERT.pem -noout -text";
+
 /// Why a file gives no certificates.
 #[derive(Clone, Copy, Debug, PartialEq, Eq)]
 pub(crate) enum CertificateRefusal {
@@ -131,7 +135,7 @@ fn certificate_failure(
         CertificateRefusal::Malformed => {
             malformed(format!(in alloc;
                 "what {shown} has as a certificate is no X.509 certificate"
-            ))
+            )).advised(LOOK_AT_CERTIFICATE)
         }
         CertificateRefusal::Memory => Failure::from(AllocError),
     }

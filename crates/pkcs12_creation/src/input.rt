@@ -4,9 +4,11 @@ ghost use Rattle.std.specs.Prelude.{◌≡◌, ◌⊎◌, IfErr};
 use command_base::Origin;
 use pkcs12_arguments::Create;
 use pkcs12_opening::{Ending, Failure, are_one, is_not_given_again, path_of_store};
+use std::alloc::Global;
 use std::io::Read;
 use std::rt::{Env, Files};
 use std::{fs, io};
+use terminal_text::Printable;
 use transfer::TransferError;
 
 /// The most octets of a file.
@@ -25,6 +27,18 @@ fn octets_of<R: Files + Input + AllocGlobal>(rt: &R, path: &str) -> io::Result<V
     Ok(octets)
 }
 
+/// The failure of a file that is longer than one may be.
+fn too_long(alloc: Global, path: &str) -> Failure
+    ensures { (result.ending ≡ Ending.Refused TransferError.TooLong)
+        ⊎ (result.ending ≡ Ending.Memory) }
+{
+    let shown = Printable(path);
+    let text = format!(in alloc; "{shown} has more than 16,777,215 octets");
+    Failure::told(Ending::Refused(TransferError::TooLong), text).advised(
+        "Look whether it is the right file.",
+    )
+}
+
 /// Reads a file, or the standard input for `-`. `ReadFault` where it cannot be read, and `TooLong` where it has more than 16,777,215
 /// octets.
 pub fn read_input<R: Files + Input + AllocGlobal>(rt: &R, path: &str) -> Result<Vec<u8>, Failure>
@@ -32,11 +46,7 @@ pub fn read_input<R: Files + Input + AllocGlobal>(rt: &R, path: &str) -> Result<
         ⊎ (f.ending ≡ Ending.Refused TransferError.TooLong)) }
 {
     match octets_of(rt, path) {
-        Ok(octets) if octets.len() > LONGEST => Err(Failure::new(
-            Ending::Refused(TransferError::TooLong),
-            "a file of a key or of certificates has more than 16,777,215 octets",
-        )
-        .advised("Look whether it is the right file.")),
+        Ok(octets) if octets.len() > LONGEST => Err(too_long(rt.alloc(), path)),
         Ok(octets) => Ok(octets),
         Err(error) => Err(Failure::io(rt.alloc(), Ending::ReadFault, "the file", path, error)),
     }

@@ -93,7 +93,7 @@ pub fn output_differs<R: Files>(
     if is_in_store(rt, out, password) || is_in_store(rt, out, new_password) {
         return Err(Failure::new(
             Ending::Usage,
-            "the changed store would replace the file of a password",
+            "the new store would replace the file of a password",
         ));
     }
     Ok(())
