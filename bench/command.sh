@@ -23,8 +23,8 @@ takes() {
 # The same of `export` of the store $2 into a folder of $1.
 exports_to() {
     # shellcheck disable=SC2016
-    "$home/bench/measure.py" "$runs" /dev/null sh -c 'rm -rf "$1/out" && shift && exec "$@"' sh "$1" "$program" export "$work/$2" \
-        --out "$1/out" --password-file "$work/password" --new-password-file "$work/new-password" --rounds 1
+    "$home/bench/measure.py" "$runs" /dev/null sh -c 'out=$1/out-$$ && shift && exec "$@" --out "$out"' sh "$1" "$program" export "$work/$2" \
+        --password-file "$work/password" --new-password-file "$work/new-password" --rounds 1
 }
 # The same of one run of `export` with the further words, into a folder that is not there.
 exports() {

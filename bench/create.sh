@@ -1,7 +1,7 @@
 #!/bin/sh
 # Making a store by the built program of ./pkcs12, or by PROGRAM: one private key and three certificates at 600,000 rounds, beside the three
-# derivations by OpenSSL's libcrypto, and beside `openssl pkcs12 -export`; and one private key with many certificates at 2,048
-# rounds, beside `openssl pkcs12 -export` with the same algorithms and counts. Seconds of a processor.
+# derivations by OpenSSL's libcrypto, `check`, which does the same three, and `openssl pkcs12 -export`; and one private key with many
+# certificates at 2,048 rounds, beside `openssl pkcs12 -export` with the same algorithms and counts. Seconds of a processor.
 set -eu
 
 home=$(cd "$(dirname "$0")/.." && pwd)
@@ -72,6 +72,8 @@ export_as() {
 printf '%-36s %10s %10s %8s  %s\n' '' "pkcs12" other ratio other
 label='three derivations'
 beside 3 600000 "${PYTHON:-python3}" -c "$derivations"
+label='pkcs12 check of the store'
+beside 3 600000 "$program" check "$work/out.p12" --password-file "$work/password"
 export_as 3 600000
 for number in 1 10 100 1000 10000; do
     export_as "$number" 2048

@@ -1,6 +1,6 @@
 #!/bin/sh
 # The command passdb on files of many names, whose entries have 1,000 rounds: `list`, `check` of a name in the middle, and `change`, which
-# writes the file anew. And a login on a file of one name, by the program and by ./passdb.
+# writes the file anew. And a login on a file of one name, by the program and by the installed command.
 set -eu
 home=$(cd "$(dirname "$0")/.." && pwd)
 runs=${RUNS:-5}
@@ -12,6 +12,7 @@ program=${PROGRAM:-$home/crates/passdb_command/out/passdb_command}
 work=$(mktemp -d)
 trap 'rm -rf "$work"' EXIT
 printf p >"$work/password"
+printf p >"$work/new-password"
 
 # A file of $1 names, each with the password `p` and one salt for all.
 make_file() {
@@ -39,7 +40,7 @@ for names in 1000 10000 100000; do
     list=$("$home/bench/measure.py" "$runs" /dev/null "$program" list "$work/users")
     check=$("$home/bench/measure.py" "$runs" /dev/null "$program" check "$work/users" "$name" --rounds 1000 --password-file "$work/password")
     change=$("$home/bench/measure.py" "$runs" /dev/null "$program" change "$work/users" "$name" --rounds 1000 \
-        --password-file "$work/password" --new-password-file "$work/password")
+        --password-file "$work/password" --new-password-file "$work/new-password")
     printf '%10s %12s %10s %10s %10s %10s\n' "$names" "$(wc -c <"$work/users")" "${list% *}" "${check% *}" "${change% *}" "${change#* }"
 done
 
@@ -67,7 +68,12 @@ on_copy() {
 one_name 600000
 one_name 599999
 one_name 1000
-printf '\n%-44s %10s %10s\n' 'one name' program ./passdb
+# What is installed is the program of this tree.
+"$home/passdb" install "$work/prefix" >"$work/told" 2>&1 || {
+    cat "$work/told" >&2
+    exit 1
+}
+printf '\n%-44s %10s %10s\n' 'one name' program installed
 for row in '600000 check' '599999 check, which makes the entry anew' '599999 check --no-renew' '1000 check --rounds 1000' '1000 list'; do
     rounds=${row%% *}
     words=${row#* }
@@ -81,6 +87,6 @@ for row in '600000 check' '599999 check, which makes the entry anew' '599999 che
         *) set -- list -- "$work/copy" ;;
     esac
     taken=$(on_copy "$program" "$rounds" "$@")
-    wrapped=$(on_copy "$home/passdb" "$rounds" "$@")
+    wrapped=$(on_copy "$work/prefix/bin/passdb" "$rounds" "$@")
     printf '%-44s %10s %10s\n' "$rounds rounds: $words" "${taken% *}" "${wrapped% *}"
 done
