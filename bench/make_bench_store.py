@@ -8,7 +8,8 @@ writes the store to STORE and its hexadecimal line to STORE.hex. The kinds:
     plain NUMBER          a store of NUMBER octets: one certificate with a long extension, not encrypted
     smallest 1            a store of 131 octets: one certificate bag of two octets, not encrypted
     bags NUMBER           NUMBER certificate bags of two octets in one content that is not encrypted
-    contents NUMBER       NUMBER contents of one such bag each
+    shortest NUMBER       NUMBER bags of nine octets, the shortest that there are, of another kind; 1,864,000 are as many as a store can have
+    contents NUMBER       NUMBER contents of one certificate bag of two octets each
     count NUMBER          a certificate under Triple DES, with NUMBER as the count of the MAC and of the content
     sealed NUMBER         a certificate of NUMBER octets under Triple DES, counts 1
     sealed-aes NUMBER     a certificate of NUMBER octets under AES-256 (PBES2, HMAC-SHA256), counts 1
@@ -141,6 +142,8 @@ def store_of(kind, number):
         return plain_store(bytes.fromhex("3000"))
     if kind == "bags":
         return plain_bags([SMALL_BAG] * number)
+    if kind == "shortest":
+        return plain_bags([make.sequence(make.identifier("1.2"), make.context(0, bytes.fromhex("0500")))] * number)
     if kind == "contents":
         return with_mac(make.sequence(*[make.data(make.sequence(SMALL_BAG))] * number))
     if kind == "count":

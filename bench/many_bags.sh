@@ -30,3 +30,20 @@ pair() {
 line parts number octets seconds "us per part" MiB "memory per octet"
 pair bags 100000
 pair contents 60000
+
+# The shortest bags that there are, as many as a store can have, in each program: how much more memory than the store has they take.
+printf '\n%-40s %10s %8s\n' "1,864,000 bags of nine octets" seconds MiB
+make_store shortest 1864000 store
+# A row of the program $1 with the other arguments.
+of_program() {
+    label=$1
+    built=$home/crates/$1/out/$1
+    shift
+    if [ -x "$built" ]; then
+        # shellcheck disable=SC2046
+        printf '%-40s %10s %8s\n' "$label" $("$home/bench/measure.py" "$runs" "$work/store.hex" "$built" "$@")
+    fi
+}
+of_program transfer_app transfer p unused 1 100000000
+of_program inventory inventory p 100000000
+of_program rekey rekey 100000000 p q
