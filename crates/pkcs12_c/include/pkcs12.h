@@ -32,23 +32,23 @@ uint32_t pkcs12_version(void);
 /* What the calls return: the numbers are those with which the command pkcs12 ends. From PKCS12_MALFORMED to PKCS12_TOO_LONG
  * they are those of the store, and only the first cause is returned. */
 enum {
-    PKCS12_DONE = 0,
+    PKCS12_DONE = 0,               /* done */
     PKCS12_ROUNDS = 2,             /* the rounds are not 1 to 100,000,000 */
-    PKCS12_MEMORY = 7,             /* malloc gave no memory */
+    PKCS12_MEMORY = 7,             /* out of memory */
     PKCS12_MALFORMED = 10,         /* no PKCS#12 store in DER */
-    PKCS12_UNSUPPORTED = 11,       /* of a kind, or under an algorithm, that is not opened */
+    PKCS12_UNSUPPORTED = 11,       /* something is of a kind, or under an algorithm, that is not opened */
     PKCS12_MAC_MISSING = 12,       /* no MAC, so a change to the store would go unnoticed */
     PKCS12_MAC_UNSUPPORTED = 13,   /* the MAC is made neither with SHA-1 nor with SHA-256 */
     PKCS12_ZERO_ITERATIONS = 14,   /* the store asks for zero iterations */
-    PKCS12_WORK_LIMIT = 15,        /* opening takes more steps than the limit; none beyond it is taken */
+    PKCS12_WORK_LIMIT = 15,        /* opening takes more steps than the limit */
     PKCS12_MAC_MISMATCH = 16,      /* the password is wrong, or the store was changed */
     PKCS12_CONTENT_MALFORMED = 17, /* the MAC agrees, but the contents are damaged */
     PKCS12_DECRYPT_FAILED = 18,    /* the password agrees with the MAC, but a part does not decrypt with it */
     PKCS12_KEY_MALFORMED = 19,     /* a private key opens, but is not a PKCS#8 key */
     PKCS12_RANDOM_SHORT = 20,      /* too few random octets */
-    PKCS12_TOO_LONG = 21,          /* the store has more than PKCS12_STORE_MAX octets */
-    PKCS12_PASSWORD = 22,          /* a password of a store is not UTF-8, or has 2^57 octets or more */
-    PKCS12_ROOM = 100              /* the output is too short: *needed says how many octets the text has */
+    PKCS12_TOO_LONG = 21,          /* the store has more than 16,777,215 octets */
+    PKCS12_PASSWORD = 22,          /* a password of a store is not UTF-8, or is too long */
+    PKCS12_ROOM = 100              /* the output is too short */
 };
 
 /* What a number means, in English and for a message, also for one that this header does not have. It is C in this header, as the
