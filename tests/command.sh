@@ -304,7 +304,8 @@ damaged_store() {
     awk -v row="$1" '$1 == row { print toupper($NF) }' "$home/tests/vectors/damaged_stores.txt" | basenc --base16 --decode
 }
 
-# Stores with a MAC of SHA-512, under PBES2 with scrypt and with a stated length of the key that is not the cipher's, and under RC2; those
+# Stores with a MAC of SHA-512, under PBES2 with scrypt and with a stated length of the key that is not the cipher's, and under RC2, of
+# which the first and the last open without --modern-only (tests/old_stores.sh); those
 # that open are one of OpenSSL's default and two under PBES2 with Triple DES.
 other_algorithms() {
     have_openssl other_algorithms || return 0
@@ -317,7 +318,7 @@ other_algorithms() {
             -out "$work/triple-key.p12" || return 1
     echo p >"$work/p"
     ends 0 check "$work/default.p12" --password-file "$work/p" &&
-        fails 13 MacUnsupported "SHA-512 (2.16.840.1.101.3.4.2.3)" check "$work/sha512.p12" --password-file "$work/p" &&
+        fails 13 MacUnsupported "SHA-512 (2.16.840.1.101.3.4.2.3)" check "$work/sha512.p12" --password-file "$work/p" --modern-only &&
         ends 0 check "$work/triple.p12" --password-file "$work/p" &&
         ends 0 check "$work/triple-key.p12" --password-file "$work/p" || return 1
     damaged_store pbes2_scrypt >"$work/scrypt.p12"
@@ -330,14 +331,14 @@ other_algorithms() {
         echo "skipped RC2: this openssl does not write it"
         return 0
     fi
-    fails 11 Unsupported "pbeWithSHAAnd40BitRC2-CBC (1.2.840.113549.1.12.1.6)" check "$work/rc2.p12" --password-file "$work/p"
+    fails 11 Unsupported "pbeWithSHAAnd40BitRC2-CBC (1.2.840.113549.1.12.1.6)" check "$work/rc2.p12" --password-file "$work/p" --modern-only
 }
 holds other_algorithms_are_named other_algorithms
 
 # The commands that the refusal prints, with passwords in place of questions: what they make is opened to the same key.
 recipe() {
     have_openssl recipe || return 0
-    fails 13 MacUnsupported SHA-512 check "$work/sha512.p12" --password-file "$work/p" || return 1
+    fails 13 MacUnsupported SHA-512 check "$work/sha512.p12" --password-file "$work/p" --modern-only || return 1
     grep -E '^    (openssl|rm) ' "$work/told" | sed -e "s|STORE.p12 -nocerts|$work/sha512.p12 -passin pass:p -nocerts|" \
         -e "s|STORE.p12|$work/sha512.p12 -passin pass:p -passout pass:middle|" \
         -e "s|-in anew.pem|-in anew.pem -passin pass:middle|" -e "s|NEW.p12|$work/anew.p12 -passout pass:q|" >"$work/recipe.sh"
@@ -359,7 +360,7 @@ recipe_of_java() {
         keytool -J-Dkeystore.pkcs12.legacy -genkeypair -alias "$name" -keyalg EC -dname "CN=$name" -keystore "$work/java.p12" -storetype PKCS12 \
             -storepass password -keypass password >"$work/told" 2>&1 || return 1
     done
-    fails 11 Unsupported "pbeWithSHAAnd40BitRC2-CBC" check "$work/java.p12" --password-file "$work/java-password" || return 1
+    fails 11 Unsupported "pbeWithSHAAnd40BitRC2-CBC" check "$work/java.p12" --password-file "$work/java-password" --modern-only || return 1
     sed -n '/^    keytool /p' "$home/docs/STORES.md" | sed -e "s|STORE.p12|$work/java.p12 -srcstorepass password|" \
         -e "s|NEW.p12|$work/java-anew.p12 -deststorepass password|" >"$work/recipe.sh"
     sh -e "$work/recipe.sh" >"$work/told" 2>&1 && ends 0 check "$work/java-anew.p12" --password-file "$work/java-password" &&
@@ -386,11 +387,11 @@ END
 }
 holds what_is_not_exported_is_named not_exported
 holds ber_is_named fails 10 Malformed "in BER, and only DER is read: an element of indefinite length begins at octet 0" \
-    check "$work/ber.p12" --password-file "$work/p"
+    check "$work/ber.p12" --password-file "$work/p" --modern-only
 holds a_long_length_is_named fails 10 Malformed "a length in more octets than it takes begins at octet 0" \
-    check "$work/long.p12" --password-file "$work/p"
+    check "$work/long.p12" --password-file "$work/p" --modern-only
 holds a_string_in_parts_is_named fails 10 Malformed "a string in parts begins at octet 20" \
-    check "$work/parts.p12" --password-file "$work/p"
+    check "$work/parts.p12" --password-file "$work/p" --modern-only
 holds pem_is_named fails 10 Malformed "PEM text" check "$work/pem.p12" --password-file "$work/p"
 
 # In processor time, the least of three, so that other work on the machine does not count.

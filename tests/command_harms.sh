@@ -484,14 +484,15 @@ never_printed() {
 }
 holds a_word_that_may_be_a_password never_printed
 null_password() {
-    fails 16 MacMismatch "no password at all" check "$work/null-password.p12" --password-file "$work/empty" && says told "press Enter" || return 1
+    fails 16 MacMismatch "no password at all" check "$work/null-password.p12" --password-file "$work/empty" --modern-only && says told "press Enter" || return 1
+    ends 0 check "$work/null-password.p12" --password-file "$work/empty" && says told "no password at all" || return 1
     fails 16 MacMismatch "password is wrong" check "$work/null-password.p12" --password-file "$work/p" || return 1
     have_openssl null_password || return 0
     openssl pkcs12 -in "$work/null-password.p12" -passin pass: -noout 2>"$work/told" || return 1
     # Where there is certtool, its own store.
     command -v certtool >/dev/null || return 0
     certtool --to-p12 --outder --null-password --empty-password --p12-name x --load-certificate "$work/cert.pem" --outfile "$work/certtool.p12" \
-        2>"$work/told" && fails 16 MacMismatch "no password at all" check "$work/certtool.p12" --password-file "$work/empty"
+        2>"$work/told" && fails 16 MacMismatch "no password at all" check "$work/certtool.p12" --password-file "$work/empty" --modern-only
 }
 holds no_password_is_not_the_empty_one null_password
 
@@ -573,6 +574,23 @@ full_disk() {
     return "$outcome"
 }
 holds a_full_disk_leaves_nothing_of_one_file full_disk
+# A file system that is mounted read-only, and one that can have no more files: what is said helps.
+read_only() {
+    mkdir -p "$work/disk"
+    mount -t tmpfs -o ro tmpfs "$work/disk" 2>/dev/null || {
+        echo "skipped read_only: no tmpfs can be mounted"
+        return 0
+    }
+    outcome=0
+    fails 4 WriteFault "Read-only file system" export "$keyed" --out "$work/disk/out" && says told "findmnt -T '$work/disk'" || outcome=1
+    umount "$work/disk"
+    mount -t tmpfs -o nr_inodes=2 tmpfs "$work/disk" || return 1
+    fails 4 WriteFault "No space left" export "$keyed" --out "$work/disk/out" && says told "df -i '$work/disk'" &&
+        [ -z "$(ls -A "$work/disk")" ] || outcome=1
+    umount "$work/disk"
+    return "$outcome"
+}
+holds a_read_only_file_system_and_one_without_inodes read_only
 progress() {
     [ -f "$work/many-keys.p12" ] || return 0
     "$home/tests/shared/at_terminal.py" -- "$home/pkcs12" export "$work/many-keys.p12" --out "$work/progress" --password-file "$work/p" \

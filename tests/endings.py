@@ -11,7 +11,7 @@ from typing import NamedTuple
 
 HOME = Path(__file__).resolve().parent.parent
 HEADER = "crates/pkcs12_c/include/pkcs12.h"
-RUST = "crates/pkcs12_c/examples/rust/transfer.rs"
+RUST = "crates/pkcs12_c/examples/rust/calls.rs"
 
 
 class Row(NamedTuple):

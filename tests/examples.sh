@@ -116,13 +116,13 @@ for pair in openssl:8192 openssl-unicode:8192 keytool:8192 gnutls:4200000 openss
     refuses "${pair%:*}-another-password" "$folder/store.p12" "$examples/README.md" MacMismatch
 done
 
-# The store of refused/$1 is refused by the name $2, and the command says $3. What OpenSSL makes of it by the commands of the refusal,
+# The store of refused/$1 is refused with --modern-only by the name $2, and the command says $3. What OpenSSL makes of it by the commands of the refusal,
 # with passwords in place of questions and the further words for the first, opens.
 renewed() {
     name=$1 cause=$2 met=$3
     shift 3
     folder=$examples/refused/$name
-    refuses "$name" "$folder/store.p12" "$folder/password" "$cause"
+    refuses "$name" "$folder/store.p12" "$folder/password" "$cause" --modern-only
     good=no
     if grep -qF -- "$met" "$work/told"; then
         good=yes

@@ -122,6 +122,32 @@ static int check_list(const uint8_t *due, uint8_t *output, size_t len)
             !all_are(output, len, 7) ? wrong("a list with a limit of one step") : 0;
 }
 
+/* A store is made of what the guarded one has, over inputs that each end at a guard. */
+static int check_created(void)
+{
+    static uint8_t opened[1 << 18];
+    const uint8_t *octets = guarded_random + sizeof drawn - PKCS12_CREATE_RANDOM;
+    size_t len, size, needed;
+    if (pkcs12_open_pem(guarded_store, store_len, guarded_password, password_len, LIMIT, opened, sizeof opened, &len) != PKCS12_DONE)
+        return wrong("the store is not opened");
+    const uint8_t *text = before_guard(opened, len), *name = before_guard((const uint8_t *)"name", 4);
+    uint8_t *output = before_guard(NULL, 0);
+    if (pkcs12_create_pem(text, len, text, len, text + len, 0, name, 4, guarded_new, 8, 3, LIMIT, octets, PKCS12_CREATE_RANDOM, output, 0,
+            &size) != PKCS12_ROOM)
+        return wrong("a store that is made in no room");
+    for (int side = 0; side < 2; side++) {
+        output = side ? before_guard(NULL, size) : after_guard(size);
+        if (pkcs12_create_pem(text, len, text, len, text + len, 0, name, 4, guarded_new, 8, 3, LIMIT, octets, PKCS12_CREATE_RANDOM, output,
+                size, &needed) != PKCS12_DONE || needed != size)
+            return wrong("a store that is made in exactly enough");
+    }
+    memset(output, 7, size);
+    if (pkcs12_create_pem(text, len, text, len, text + len, 0, name, 4, guarded_new, 8, 3, LIMIT, octets, PKCS12_CREATE_RANDOM - 1, output,
+            size, &needed) != PKCS12_RANDOM_SHORT || needed || !all_are(output, size, 7))
+        return wrong("71 random octets");
+    return 0;
+}
+
 /* Octets that are no store, and a new password that is not UTF-8, which is tested first. */
 static int check_no_store(void)
 {
@@ -153,7 +179,7 @@ int main(int argc, char **argv)
     guarded_password = before_guard(password, password_len);
     guarded_new = before_guard((const uint8_t *)"hunter42", 8);
     guarded_random = before_guard(drawn, sizeof drawn);
-    if (check_no_store())
+    if (check_no_store() || check_created())
         return 1;
     if (check(due, before_guard(NULL, len), len) || check(due, after_guard(len), len))
         return 1;

@@ -38,7 +38,11 @@ static uint8_t output[1 << 18], whole[1 << 18];
 /* At most so many lists of attributes are in the store. */
 static const long lists = 4;
 
-/* One of the five calls. */
+/* The certificates and the key of the store, as PEM text. */
+static uint8_t text[1 << 18];
+static size_t text_len;
+
+/* One of the six calls. */
 static uint32_t call(int which, size_t *needed)
 {
     if (which == 0)
@@ -50,6 +54,9 @@ static uint32_t call(int which, size_t *needed)
     if (which == 3)
         return pkcs12_rekey(store, store_len, password, password_len, NEW_PASSWORD, LIMIT, drawn, sizeof drawn, output,
             sizeof output, needed);
+    if (which == 5)
+        return pkcs12_create_pem(text, text_len, text, text_len, text, 0, NEW_PASSWORD, NEW_PASSWORD, 3, LIMIT, drawn, sizeof drawn,
+            output, sizeof output, needed);
     return pkcs12_upgrade(store, store_len, password, password_len, NEW_PASSWORD, 3, LIMIT, drawn, sizeof drawn, output,
         sizeof output, needed);
 }
@@ -57,7 +64,9 @@ static uint32_t call(int which, size_t *needed)
 int main(int argc, char **argv)
 {
     read_inputs(argc, argv);
-    for (int which = 0; which < 5; which++) {
+    if (pkcs12_open_pem(store, store_len, password, password_len, LIMIT, text, sizeof text, &text_len) != PKCS12_DONE)
+        return wrong("the store is not opened");
+    for (int which = 0; which < 6; which++) {
         size_t needed, due;
         refused = requests = live = 0;
         if (call(which, &due) != PKCS12_DONE || live)

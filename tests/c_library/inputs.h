@@ -32,7 +32,7 @@ static inline size_t line_len(const uint8_t *octets, size_t len)
 }
 
 /* The arguments of the program: STORE PASSWORD-FILE. */
-static void read_inputs(int argc, char **argv)
+static inline void read_inputs(int argc, char **argv)
 {
     if (argc < 3)
         exit(3);

@@ -26,10 +26,6 @@ use Rattle.pkcs8.specs.Seen.{IsPrivateKey}
 pub take_one : {X : Type 0} (xs : List X) (i : ℕ) (x : X) → i < length xs → x ≡ get_or xs i x → take (i + 1) xs ≡ take i xs ++ x ∷ []
 take_one xs i x lt at = take_more xs i x lt ∙ ap (λ y. take i xs ++ y ∷ []) (sym at)
 
-pub map_next : {X Y : Type 0} (f : X → Y) (xs : List X) (i : ℕ) (x : X) (front before after : List Y) (y : Y) → i < length xs → x ≡ get_or xs i x → y ≡ f x → after ≡ before ++ y ∷ []
-    → before ≡ front ++ map f (take i xs) → after ≡ front ++ map f (take (i + 1) xs)
-map_next f xs i x front before after y lt at is more was = rw (more, was, take_one xs i x lt at, map-append f (take i xs) (x ∷ []), is, append_assoc front (map f (take i xs)) (f x ∷ [])) refl
-
 pub all_next : {X : Type 0} (P : X → Type 0) (xs : List X) (i : ℕ) (x : X) → i < length xs → x ≡ get_or xs i x → P x → All P (take i xs) → All P (take (i + 1) xs)
 all_next P xs i x lt at h all = subst (All P) (sym (take_one xs i x lt at)) (All-append P (take i xs) (x ∷ []) all (All-cons P x [] h (All-nil P)))
 

@@ -59,29 +59,7 @@ pub long_outer : (can : Type 0) (r : ℕ) (p salt : List ℕ) (cs : List Content
     → LongOnly (store_limit < length (store_canon (store_of r p salt cs))) f
 long_outer can r p salt cs e f h l = long_map _ _ f (λ is. omega (arith, overlong can (contents_canon cs) e h is, contents_in r p salt cs)) l
 
-pub long_whole : (can : Type 0) (text : List ℕ) (e : Error) (f : CreateError) → EncodesText can text (Err e) → LongOnly (e ≡ errors.TooLong) f → LongOnly (store_limit < length text) f
-long_whole can text e f h l = long_map _ _ f (λ is. omega (arith, overlong can text e h is)) l
-
 -- ---- contents
-
-pub holds_certificates : (r : ℕ) (p : List ℕ) (keys : List KeyEntry) (certificates : List CertificateEntry) (drawn : List IvAndSalt) (a : AlgorithmIdentifier) (c seen text : List ℕ) (bags listed : List SafeBag)
-    → bags ≡ certificate_bags keys certificates → listed ≡ bags → text ≡ bags_canon listed → seen ≡ text → IsSealedAt r p drawn (length keys) seen a c
-    → HoldsCertificates r p keys certificates drawn (content.EncryptedData (record { encrypted_content_info = record { content_encryption_algorithm = a; encrypted_content = c } }))
-holds_certificates r p keys certificates drawn a c seen text bags listed are same is so s = record {
-  part = s.part;
-  at = s.at;
-  sealed = c;
-  seals = subst (λ (x : List ℕ). Seals r p s.part x c) (so ∙ is ∙ ap bags_canon (same ∙ are)) s.seals;
-  is = ap (λ (x : AlgorithmIdentifier). content.EncryptedData (record { encrypted_content_info = record { content_encryption_algorithm = x; encrypted_content = c } })) s.algorithm;
-}
-
-pub long_certificates : (keys : List KeyEntry) (certificates : List CertificateEntry) (bags listed : List SafeBag) (e : CreateError) → bags ≡ certificate_bags keys certificates → listed ≡ bags
-    → LongOnly (2 ^ 32 ≤ length (bags_canon listed)) e → LongOnly (2 ^ 32 ≤ length (bags_canon (certificate_bags keys certificates))) e
-long_certificates keys certificates bags listed e are same h = subst (λ (l : List SafeBag). LongOnly (2 ^ 32 ≤ length (bags_canon l)) e) (same ∙ are) h
-
-pub holds_keys : (r : ℕ) (p : List ℕ) (keys : List KeyEntry) (drawn : List IvAndSalt) (bags listed : List SafeBag) (text : List ℕ) → KeysSealed r p keys (take (length keys) drawn) bags → listed ≡ bags → text ≡ bags_canon listed
-    → HoldsKeys r p keys drawn (content.Data text)
-holds_keys r p keys drawn bags listed text h same is = record { bags = bags; sealed = h; is = ap content.Data (is ∙ ap bags_canon same) }
 
 pub long_keys : (r : ℕ) (p : List ℕ) (keys : List KeyEntry) (drawn : List IvAndSalt) (bags listed : List SafeBag) (e : CreateError) → All AreOf16 drawn → KeysSealed r p keys (take (length keys) drawn) bags → listed ≡ bags
     → LongOnly (2 ^ 32 ≤ length (bags_canon listed)) e → LongOnly (2 ^ 32 ≤ length (blank_keys r keys)) e
@@ -93,18 +71,6 @@ long_first r keys certificates e h = long_map _ _ e (λ long. omega (arith, long
 
 pub long_second : (r : ℕ) (keys : List KeyEntry) (certificates : List CertificateEntry) (e : CreateError) → LongOnly (2 ^ 32 ≤ length (blank_keys r keys)) e → LongOnly (store_limit < created_size r keys certificates) e
 long_second r keys certificates e h = long_map _ _ e (λ long. omega (arith, long, keys_in r keys certificates)) h
-
-pub are_contents : (r : ℕ) (p : List ℕ) (keys : List KeyEntry) (certificates : List CertificateEntry) (drawn : List IvAndSalt) (first second : ContentInfo) (none one two : List ContentInfo) → none ≡ [] → one ≡ none ++ first ∷ [] → two ≡ one ++ second ∷ []
-    → HoldsCertificates r p keys certificates drawn first → HoldsKeys r p keys drawn second → AreContents r p keys certificates drawn two
-are_contents r p keys certificates drawn first second none one two e f g h k = record {
-  part = h.part;
-  at = h.at;
-  sealed = h.sealed;
-  bags = k.bags;
-  certificates_sealed = h.seals;
-  keys_sealed = k.sealed;
-  are = rw (g, f, e, h.is, k.is) refl;
-}
 
 pub contents_write : (r : ℕ) (p : List ℕ) (keys : List KeyEntry) (certificates : List CertificateEntry) (drawn : List IvAndSalt) (cs : List ContentInfo) → r < 2 ^ 32 → length drawn ≡ length keys + 1 → All AreOf16 drawn
     → AreContents r p keys certificates drawn cs → All WritableContent cs
@@ -166,13 +132,6 @@ draws_and_creates keys certificates p r old mid new drawn salt b are names other
       };
       sized = s.sized;
     }
-
-pub parts_refused : (keys : List KeyEntry) (certificates : List CertificateEntry) (r before now n : ℕ) (left : Option (List ℕ)) (e : CreateError) → All HasKeyText keys → n ≡ length keys + 1 → FailsToDraw before now left (32 * n) e
-    → RefusesToCreate keys certificates r before now left e
-parts_refused keys certificates r before now n left Malformed are is h = absurd h
-parts_refused keys certificates r before now n left Rng are is h = (are, lacks_more before now left (32 * n) (created_draws keys) (omega (arith, is)) h)
-parts_refused keys certificates r before now n left TooLong are is h = absurd h
-parts_refused keys certificates r before now n left Memory are is h = tt
 
 pub salt_refused : (keys : List KeyEntry) (certificates : List CertificateEntry) (r before mid now : ℕ) (old left : Option (List ℕ)) (drawn : List IvAndSalt) (e : CreateError) → All HasKeyText keys → All AreOf16 drawn → length drawn ≡ length keys + 1
     → mid ≡ before → Consumes old left (octets_of drawn) → FailsToDraw mid now left 8 e → RefusesToCreate keys certificates r before now old e

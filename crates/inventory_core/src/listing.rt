@@ -13,7 +13,7 @@ use octet_core::{Items, Text};
 use std::alloc::{AllocError, Global};
 use std::sync::ledger::Ledger;
 use steps::Steps;
-use transfer::{TransferError, open_store};
+use transfer::{TransferError, open_safe};
 
 /// The lines of the inventory of a store.
 pub(crate) fn lines_of<L: Ledger>(
@@ -33,11 +33,11 @@ pub(crate) fn lines_of<L: Ledger>(
     ensures at_most { (steps.old ≤ steps.new) × (steps.new ≤ steps.old + limit) }
 {
     // The proofs name both outcomes of this call.
-    let opened = match open_store(alloc, store, password, limit, steps) {
+    let opened = match open_safe(alloc, store, password, limit, steps) {
         Ok(opened) => opened,
         Err(e) => return Err(e),
     };
-    match table_of(alloc, opened.contents.as_slice()) {
+    match table_of(alloc, &opened) {
         Ok(lines) => Ok(lines),
         Err(_) => Err(TransferError::Memory),
     }
@@ -114,11 +114,11 @@ pub fn inventory_within<L: Ledger>(
     ensures at_most { (steps.old ≤ steps.new) × (steps.new ≤ steps.old + limit) }
 {
     // The proofs name both outcomes of this call.
-    let opened = match open_store(alloc, store, password, limit, steps) {
+    let opened = match open_safe(alloc, store, password, limit, steps) {
         Ok(opened) => opened,
         Err(e) => return Err(e),
     };
-    match table_within(alloc, opened.contents.as_slice(), room) {
+    match table_within(alloc, &opened, room) {
         Ok(sheet) => Ok(sheet.finish()),
         Err(_) => Err(TransferError::Memory),
     }

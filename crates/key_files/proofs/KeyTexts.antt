@@ -149,10 +149,6 @@ parses_rsa_public view b r e = parses_short RsaPublicKeyText rsa_public_at rsa_p
 pub parses_ec : {X : Type 0} (view : X → Ec) (b : List ℕ) (r : Result X Error) → Gives view r (whole ec_at b) → Parses errors.Malformed IsEcPrivateKey view b r
 parses_ec view b r e = parses_short EcPrivateKeyText ec_at ec_read ec_bad b view r e
 
--- A text is that of one key at most.
-pub rsa_sole : (b : List ℕ) (k l : Rsa) → IsRsaPrivateKey b k → IsRsaPrivateKey b l → k ≡ l
-rsa_sole = whole_sole RsaPrivateKeyText rsa_at rsa_read
-
 pub rsa_public_sole : (b : List ℕ) (k l : Rsa) → IsRsaPublicKey b k → IsRsaPublicKey b l → k ≡ l
 rsa_public_sole = whole_sole RsaPublicKeyText rsa_public_at rsa_public_read
 

@@ -10,7 +10,7 @@ use Rattle.transfer.specs.declared.store.error.TransferError.TheVariants.{TooLon
 use Rattle.transfer.specs.Parts.{AreOpen}
 use Rattle.transfer.specs.Opening.{RefusedAfter, Verdict, all_shrouded, opened, refused}
 use Rattle.transfer.proofs.Valid.{first_same, not_less, not_refused, second_same}
-use Rattle.legacy_store.specs.declared.open.LegacyOpened.{LegacyOpened}
+use Rattle.transfer.specs.OpenedSafe.{BagsAndKeys}
 use Rattle.legacy_store.specs.Forms.{Forms, forms_of, null_forms}
 use Rattle.legacy_store.specs.Mac.{is_legacy_digest, legacy_agrees}
 use Rattle.legacy_store.specs.Opening.{HasLegacyVerdict, LegacyContentsTable, LegacyKeysTable, LegacyMacTable, LegacyTextTable, NullTable, legacy_contents, legacy_key_share, legacy_keys, legacy_share}
@@ -149,7 +149,7 @@ opened_exactly b p limit gss ks n = (λ h. verdict_open b p limit gss ks n h, λ
 
 -- ---- Each result comes where its cause holds
 
-refused_same : (e g : TransferError) → refused e ≡ refused g → e ≡ g
+pub refused_same : (e g : TransferError) → refused e ≡ refused g → e ≡ g
 refused_same e g h = grind (arith, h)
 
 open_refused : {P : Type 0} (b p : List ℕ) (limit : ℕ) (gss : List (List SafeBag)) (ks : List (List ℕ)) (e : TransferError) (m n : ℕ) → HasLegacyVerdict b p limit (opened gss ks) m
@@ -179,16 +179,25 @@ decided_by b p limit e (inr (n, c)) = record {
   completes = λ h. open_refused b p limit h.0 h.1 e h.2 n h.3 c;
 }
 
-pub decided : (b p : List ℕ) (limit old new : ℕ) (r : Result LegacyOpened TransferError)
+pub decided_refused : {T : Type 0} (b p : List ℕ) (limit old new : ℕ) (e : TransferError) → RefusedAfter (λ e n. HasLegacyVerdict b p limit (refused e) n) old new e → IsLegacyDecided {T = T} b p limit (Err e)
+decided_refused b p limit old new e h = decided_by b p limit e (refusal (λ e n. HasLegacyVerdict b p limit (refused e) n) old new e h)
+
+pub decided_opened : {T : Type 0} (b p : List ℕ) (limit : ℕ) (t : T) (gss : List (List SafeBag)) (ks : List (List ℕ)) (n : ℕ) → LegacyOpens b p gss ks n → n ≤ limit → IsLegacyDecided b p limit (Ok t)
+decided_opened b p limit t gss ks n o le = record {
+  refuses = λ e c. open_refused b p limit gss ks e n c.0 (open_comes b p limit gss ks n o le) c.1;
+  completes = λ c. inl refl;
+}
+
+pub decided : (b p : List ℕ) (limit old new : ℕ) (r : Result BagsAndKeys TransferError)
     → IfOk r (λ o. (n : ℕ) × HasLegacyVerdict b p limit (opened o.contents o.keys) n × (new ≡ old + n))
     → IfErr r (RefusedAfter (λ e n. HasLegacyVerdict b p limit (refused e) n) old new) → IsLegacyDecided b p limit r
 decided b p limit old new (Ok o) h k = record {
   refuses = λ e c. open_refused b p limit o.contents o.keys e h.0 c.0 h.1 c.1;
   completes = λ c. inl refl;
 }
-decided b p limit old new (Err e) h k = decided_by b p limit e (refusal (λ e n. HasLegacyVerdict b p limit (refused e) n) old new e k)
+decided b p limit old new (Err e) h k = decided_refused b p limit old new e k
 
-pub opens : (b p : List ℕ) (limit old new : ℕ) (r : Result LegacyOpened TransferError)
+pub opens : (b p : List ℕ) (limit old new : ℕ) (r : Result BagsAndKeys TransferError)
     → IfOk r (λ o. (n : ℕ) × HasLegacyVerdict b p limit (opened o.contents o.keys) n × (new ≡ old + n))
     → IfOk r (λ o. (n : ℕ) × LegacyOpens b p o.contents o.keys n × (n ≤ limit) × (new ≡ old + n))
 opens b p limit old new (Ok o) h = let v = verdict_open b p limit o.contents o.keys h.0 h.1 in (h.0, v.0, v.1, h.2)

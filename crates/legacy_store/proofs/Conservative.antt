@@ -25,10 +25,14 @@ use Rattle.p12.specs.Collected.{HoldsBags}
 use Rattle.p12.specs.declared.mac_data.MacData.{MacData}
 use Rattle.p12.specs.declared.pfx.PFX.{PFX}
 use Rattle.transfer.specs.Opening.{ContentsTable, HasVerdict, KeyOpens, MacTable, StoreTable, content_share, key_share, opened, refused}
+use Rattle.transfer.specs.Verdicts.{StoreOpens}
 use Rattle.transfer.specs.declared.store.error.TransferError.{TransferError}
+use Rattle.transfer.proofs.Valid.{open_comes}
 use Rattle.legacy_store.specs.Algorithm.{legacy_cost, legacy_unlock, p12_unlock, scheme_cost, scheme_of, scheme_unlock}
 use Rattle.legacy_store.specs.Forms.{forms_of}
 use Rattle.legacy_store.specs.Laws.{OpensStoresAsBefore, OpensTextsAsBefore}
+use Rattle.legacy_store.specs.Verdicts.{LegacyOpens}
+use Rattle.legacy_store.proofs.Closed.{opened_exactly}
 use Rattle.legacy_store.specs.Opening.{HasLegacyVerdict, LegacyContentsTable, LegacyHolds, LegacyKeyOpens, LegacyMacTable, LegacyStoreTable, LegacyTextTable, legacy_key_share, legacy_share}
 
 none_some : {P : Type 0} (m : List ℕ) → None ≡ Some m → P
@@ -65,7 +69,7 @@ content_as_before p (content.EncryptedData d) gs h =
     ((h.0, texts_as_before a p c h.0 h.1, h.2), cost_as_before a p c h.0 h.1)
 content_as_before p (content.OtherContext o) gs h = none_some h.0 h.1
 
-contents_as_before : (p : List ℕ) (cs : List ContentInfo) (gss : List (List SafeBag)) → Each (HoldsBags p) cs gss
+pub contents_as_before : (p : List ℕ) (cs : List ContentInfo) (gss : List (List SafeBag)) → Each (HoldsBags p) cs gss
     → Each (LegacyHolds (forms_of p)) cs gss × (sum_by legacy_share cs ≡ sum_by content_share cs)
 contents_as_before p [] [] e = (tt, refl)
 contents_as_before p [] (gs ∷ gss) e = absurd e
@@ -75,7 +79,7 @@ contents_as_before p (c ∷ cs) (gs ∷ gss) e =
     let more = contents_as_before p cs gss e.1 in
     ((one.0, more.0), sum_by-append legacy_share (c ∷ []) cs ∙ ap₂ (λ (x y : ℕ). (0 + x) + y) one.1 more.1 ∙ sym (sum_by-append content_share (c ∷ []) cs))
 
-keys_as_before : (p : List ℕ) (ks : List EncryptedPrivateKeyInfo) (texts : List (List ℕ)) → Each (KeyOpens p) ks texts
+pub keys_as_before : (p : List ℕ) (ks : List EncryptedPrivateKeyInfo) (texts : List (List ℕ)) → Each (KeyOpens p) ks texts
     → Each (LegacyKeyOpens (forms_of p)) ks texts × (sum_by legacy_key_share ks ≡ sum_by key_share ks)
 keys_as_before p [] [] e = (tt, refl)
 keys_as_before p [] (t ∷ ts) e = absurd e
@@ -91,7 +95,7 @@ keys_as_before p (k ∷ ks) (t ∷ ts) e =
 is_opened : {P : Type 0} (e : TransferError) (gss : List (List SafeBag)) (ks : List (List ℕ)) → opened gss ks ≡ refused e → P
 is_opened e gss ks h = absurd cc
 
-not_false : (b : Bool) → (b ≡ false → ⊥) → b ≡ true
+pub not_false : (b : Bool) → (b ≡ false → ⊥) → b ≡ true
 not_false true h = refl
 not_false false h = absurd (h refl)
 
@@ -112,7 +116,7 @@ contents_table p limit sum cs gss ks n (inr (held, a, inr (texts, b, last))) =
 -- ---- The MAC
 
 -- A digest that p12 knows is known, and its MAC agrees alike.
-digest_as_before : (a : AlgorithmIdentifier) → is_mac_digest a ≡ true → is_legacy_digest a ≡ true
+pub digest_as_before : (a : AlgorithmIdentifier) → is_mac_digest a ≡ true → is_legacy_digest a ≡ true
 unfolding hash_of
 digest_as_before Sha1 h = refl
 digest_as_before Sha256 h = refl
@@ -131,11 +135,11 @@ same_octets (PbeWithSHAAnd3KeyTripleDESCBC p) n q v salt d m h s i g = absurd cc
 same_octets (Pbes2 par) n q v salt d m h s i g = absurd cc
 same_octets (OtherAlg o) n q v salt d m h s i g = absurd cc
 
-mac_as_before : (m : MacData) (q v : List ℕ) → mac_agrees m q v ≡ true → legacy_agrees m q v ≡ true
+pub mac_as_before : (m : MacData) (q v : List ℕ) → mac_agrees m q v ≡ true → legacy_agrees m q v ≡ true
 unfolding mac_agrees legacy_agrees
 mac_as_before m q v h = same_octets m.mac.digest_algorithm m.iterations q v m.salt m.mac.digest m h refl refl refl
 
-digest_not_false : (a : AlgorithmIdentifier) → (is_mac_digest a ≡ false → ⊥) → is_legacy_digest a ≡ false → ⊥
+pub digest_not_false : (a : AlgorithmIdentifier) → (is_mac_digest a ≡ false → ⊥) → is_legacy_digest a ≡ false → ⊥
 digest_not_false a h none = true_false (is_legacy_digest a) (digest_as_before a (not_false _ h)) none
 
 -- ---- Stores
@@ -162,3 +166,7 @@ unfolding HasVerdict HasLegacyVerdict IsLegacyStore
 stores_as_before b p limit gss ks n (inl h) = is_opened _ gss ks h.1
 stores_as_before b p limit gss ks n (inr (a, inl h)) = is_opened _ gss ks h.1
 stores_as_before b p limit gss ks n (inr (a, inr (c, (s, is, t)))) = inr (a, inr (λ none. none s (inl is), (s, inl is, store_table p limit s gss ks n t)))
+
+-- The same of the relations that leave out the order of the causes.
+pub opens_as_before : (b p : List ℕ) (gss : List (List SafeBag)) (ks : List (List ℕ)) (n : ℕ) → StoreOpens b p gss ks n → LegacyOpens b p gss ks n
+opens_as_before b p gss ks n o = ((opened_exactly b p n gss ks n).0 (stores_as_before b p n gss ks n (open_comes b p n gss ks n o (omega arith)))).0

@@ -5,6 +5,7 @@ mod Normal
 mod Schemes
 mod Hashes
 mod Parts
+mod ContentTexts
 mod Opened
 mod Locks
 mod Rows
@@ -12,3 +13,4 @@ pub mod Unparted
 pub mod Verdict
 pub mod Closed
 pub mod Conservative
+pub mod Refused

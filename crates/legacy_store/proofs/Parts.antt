@@ -48,6 +48,9 @@ pub malformed_after : (F : TransferError → ℕ → Type 0) (P : Type 0) (old n
 malformed_after F P old new k f is e h =
     refused_as (λ e. (e ≡ ContentMalformed) × P) (λ e. (n : ℕ) × F e n × (new ≡ old + n)) ⊥ ⊥ (λ e h. (k, subst (λ x. F x k) (sym h.0) (f h.1), is)) (λ h. h) e h
 
+pub malformed_by : (P : Type 0) (e : TransferError) → (e ≡ ContentMalformed) × P → RefusedBy (λ e. (e ≡ ContentMalformed) × P) ⊥ e
+malformed_by P e h = subst (RefusedBy (λ e. (e ≡ ContentMalformed) × P) ⊥) (sym h.0) (refl, h.1)
+
 -- One part alone.
 pub one_refused : {A B : Type 0} (K : PartKind A B TransferError) (limit sum : ℕ) (x : A) (old new : ℕ) (e : TransferError) → sum ≤ limit → RefusedAfter (K.Fault sum x) old new e
     → RefusedAfter (IsFirstFault K limit sum (x ∷ [])) old new e

@@ -1,11 +1,13 @@
 -- What was opened before is opened as before; and a store opens in one way.
-use Rattle.std.specs.Prelude.{◌≡◌, ℕ, ◌≤◌, ◌↔◌, List, Some}
+use Rattle.std.specs.Prelude.{◌≡◌, ℕ, ◌≤◌, ◌↔◌, nat_lt, Bool, true, false, List, length, Some}
 use Rattle.p12.specs.AlgorithmIdentifier.{unlock}
 use Rattle.p12.specs.declared.algorithm_identifier.AlgorithmIdentifier.{AlgorithmIdentifier}
 use Rattle.p12.specs.ContentInfo.{IsContents}
 use Rattle.p12.specs.declared.content_info.ContentInfo.{ContentInfo}
 use Rattle.p12.specs.declared.safe_bag.SafeBag.{SafeBag}
-use Rattle.transfer.specs.Opening.{HasVerdict, opened}
+use Rattle.transfer.specs.Opening.{HasVerdict, opened, refused}
+use Rattle.transfer.specs.declared.store.error.TransferError.{TransferError}
+use Rattle.transfer.specs.declared.store.error.TransferError.TheVariants.{Malformed, Unsupported, MacUnsupported, MacMismatch, ContentMalformed}
 use Rattle.transfer.specs.Verdicts.{Sole}
 use Rattle.legacy_store.specs.Algorithm.{legacy_unlock}
 use Rattle.legacy_store.specs.Forms.{forms_of}
@@ -23,6 +25,22 @@ abbrev pub OpensStoresAsBefore : Type 0
 OpensStoresAsBefore = (b p : List ℕ) (limit : ℕ) (gss : List (List SafeBag)) (ks : List (List ℕ))
     (n : ℕ) → HasVerdict b p limit (opened gss ks) n
     → HasLegacyVerdict b p limit (opened gss ks) n
+
+-- whether a store that `transfer` refuses for this cause under the password is refused for it here too:
+-- each other cause is one that an old store may have there
+abbrev pub stays_refused : List ℕ → TransferError → Bool
+stays_refused p Malformed = false
+stays_refused p Unsupported = false
+stays_refused p MacUnsupported = false
+stays_refused p MacMismatch = nat_lt 0 (length p)
+stays_refused p ContentMalformed = false
+stays_refused p e = true
+
+-- A store that `transfer` refuses for a cause that no old store has is refused for it, by the same work.
+abbrev pub RefusesStoresAsBefore : Type 0
+RefusesStoresAsBefore = (b p : List ℕ) (limit : ℕ) (e : TransferError) (n : ℕ)
+    → stays_refused p e ≡ true → HasVerdict b p limit (refused e) n
+    → HasLegacyVerdict b p limit (refused e) n
 
 -- One store has one verdict, after one number of steps.
 abbrev pub OneLegacyVerdict : Type 0

@@ -5,6 +5,7 @@ pub mod Mac
 pub mod Joined
 pub mod JoinedReading
 pub mod Texts
+pub mod InDer
 pub mod Budget
 pub mod Opening
 pub mod Verdicts

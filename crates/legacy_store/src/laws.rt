@@ -1,5 +1,5 @@
 //! Laws of the way of opening: each is the contract of a function that does nothing.
-ghost use Rattle.legacy_store.specs.Laws.{DerListsStay, LegacyOpenedExactly, OneLegacyVerdict, OpensStoresAsBefore, OpensTextsAsBefore};
+ghost use Rattle.legacy_store.specs.Laws.{DerListsStay, LegacyOpenedExactly, OneLegacyVerdict, OpensStoresAsBefore, OpensTextsAsBefore, RefusesStoresAsBefore};
 
 /// A text that p12 opens opens to the same octets.
 #[tactic(auto, using(crate::proofs::Conservative::texts_as_before))]
@@ -11,6 +11,12 @@ pub fn opens_texts_as_before()
 #[tactic(auto, using(crate::proofs::Conservative::stores_as_before))]
 pub fn opens_stores_as_before()
     ensures { OpensStoresAsBefore }
+{}
+
+/// A store that `transfer` refuses for a cause that no old store has is refused for it, by the same work.
+#[tactic(auto, using(crate::proofs::Refused::stores_refused))]
+pub fn refuses_stores_as_before()
+    ensures { RefusesStoresAsBefore }
 {}
 
 /// One store has one verdict, after one number of steps.

@@ -4,12 +4,14 @@
 //! The causes of a refusal are in order in `specs/Opening.antt`.
 #![tactic(auto)]
 
+mod bag_texts;
 mod budget;
 mod contents;
 mod identifiers;
 mod joined;
 mod keys;
 pub mod laws;
+mod limits;
 mod lock;
 mod mac;
 mod old_text;
@@ -18,4 +20,5 @@ mod scheme;
 mod secret;
 mod texts;
 
-pub use open::{LegacyOpened, open_legacy};
+pub use open::{open_legacy, open_legacy_safe};
+pub use texts::store_in_der;

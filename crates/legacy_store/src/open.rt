@@ -1,35 +1,51 @@
 //! Opening an old store: each cause to refuse it in its order, and the exact steps.
-ghost use Rattle.std.specs.Prelude.{◌≡◌, ◌+◌, ◌≤◌, ◌<◌, ◌^◌, ℕ, length, IfOk, IfErr, OnOk, true};
+ghost use Rattle.std.specs.Prelude.{◌≡◌, ◌+◌, ◌≤◌, ◌<◌, ◌^◌, All, ℕ, length, IfOk, IfErr, IsTrue, OnOk, true};
 ghost use Rattle.legacy_store.specs.Mac.{is_legacy_digest};
-ghost use Rattle.transfer.specs.Opening.{RefusedAfter, opened, refused};
+ghost use Rattle.transfer.specs.Limits.{store_limit};
+ghost use Rattle.transfer.specs.Opening.{IsKeyText, RefusedAfter, opened, refused};
 ghost use Rattle.legacy_store.specs.Forms.{seen_forms};
 ghost use Rattle.legacy_store.specs.Opening.{HasLegacyVerdict, LegacyMacTable, LegacyTextTable, NullTable};
 ghost use Rattle.legacy_store.specs.Verdicts.{IsLegacyDecided, LegacyOpens};
 
+use crate::bag_texts::BagTexts;
 use crate::budget::Budget;
 use crate::contents::open_contents;
 use crate::keys::open_keys;
+use crate::limits::STORE_LIMIT;
 use crate::mac::{agrees, is_legacy_digest};
 use crate::secret::Secret;
 use crate::texts::{read_safe, read_store};
 use asn1_core::{Items, Octets};
-use p12::{ContentInfo, MacData, SafeBag};
+use p12::{ContentInfo, MacData};
 use pkcs12_kdf::utf16_password;
 use std::alloc::Global;
 use std::sync::ledger::Ledger;
 use steps::Steps;
-use transfer::TransferError;
+use transfer::{Opened, OpenedSafe, TransferError};
 
-/// The most octets that a store may have.
-const STORE_LIMIT: usize = 16_777_215;
+/// Whether none of these texts is longer than a store.
+fn are_short(texts: &[Octets]) -> bool
+    ensures { IsTrue result → All (λ text. length text ≤ store_limit) texts.now }
+{
+    for text in texts {
+        if text.len() > STORE_LIMIT {
+            return false;
+        }
+    }
+    true
+}
 
-/// An opened store.
-#[derive(Drop)]
-pub struct LegacyOpened {
-    /// The bags of each content, in store order.
-    pub contents: Items<Items<SafeBag>>,
-    /// The plain octets of each encrypted key among them, in store order: the text of a private key (RFC 5958 section 2).
-    pub keys: Items<Octets>,
+/// The opened store of these bags and texts of private keys. The only refusal is `Memory`.
+fn kept(contents: BagTexts, keys: Items<Octets>) -> Result<OpenedSafe, TransferError>
+    requires { All IsKeyText keys }
+    ensures ok { IfOk result (λ o. (o.contents ≡ contents) × (o.keys ≡ keys)) }
+    ensures err { IfErr result (λ e. e ≡ TransferError.Memory) }
+{
+    // Never so: a key is no longer than what it was decrypted from, which is in the store.
+    if !are_short(keys.as_slice()) {
+        return Err(TransferError::Memory);
+    }
+    Ok(contents.with_keys(keys))
 }
 
 /// Opens what the text of a store lists, whose MAC agrees.
@@ -39,7 +55,7 @@ fn open_listed<L: Ledger>(
     secret: &Secret<'_>,
     allowed: Budget,
     steps: &mut Steps<L>,
-) -> Result<LegacyOpened, TransferError>
+) -> Result<OpenedSafe, TransferError>
     requires text { length text.now < 2 ^ 32 }
     requires password { length secret.now.text.now < 2 ^ 57 }
     requires units { length secret.now.units.now < 2 ^ 59 }
@@ -56,9 +72,8 @@ fn open_listed<L: Ledger>(
     let listed = read_safe(alloc, text)?;
     let parts = listed.as_slice();
     let contents = open_contents(alloc, parts, secret, &mut budget, steps)?;
-    let bags = contents.as_slice();
-    let keys = open_keys(alloc, bags, secret, &mut budget, steps)?;
-    Ok(LegacyOpened { contents, keys })
+    let keys = open_keys(alloc, &contents, secret, &mut budget, steps)?;
+    kept(contents, keys)
 }
 
 /// Opens a store whose MAC did not agree under the password: under the null password, if that is empty.
@@ -69,7 +84,7 @@ fn open_null<L: Ledger>(
     password: &str,
     allowed: Budget,
     steps: &mut Steps<L>,
-) -> Result<LegacyOpened, TransferError>
+) -> Result<OpenedSafe, TransferError>
     requires known { is_legacy_digest mac.now.mac.digest_algorithm ≡ true }
     requires rounds { 1 ≤ mac.now.iterations }
     requires text { length text.now < 2 ^ 32 }
@@ -109,7 +124,7 @@ fn open_under_mac<L: Ledger>(
     password: &str,
     limit: u64,
     steps: &mut Steps<L>,
-) -> Result<LegacyOpened, TransferError>
+) -> Result<OpenedSafe, TransferError>
     requires text { length text.now < 2 ^ 32 }
     requires salt { length mac.now.salt < 2 ^ 59 }
     requires password { length password.now < 2 ^ 56 }
@@ -142,14 +157,14 @@ fn open_under_mac<L: Ledger>(
     open_null(alloc, text, mac, password, budget, steps)
 }
 
-/// `open_legacy`, with its contract by the table of causes.
+/// `open_legacy_safe`, with its contract by the table of causes.
 fn open_by_cause<L: Ledger>(
     alloc: Global,
     store: &[u8],
     password: &str,
     limit: u64,
     steps: &mut Steps<L>,
-) -> Result<LegacyOpened, TransferError>
+) -> Result<OpenedSafe, TransferError>
     requires { length password.now < 2 ^ 56 }
     ensures opened { IfOk result (λ o. (n : ℕ)
         × HasLegacyVerdict store.now password.now limit (opened o.contents o.keys) n
@@ -172,24 +187,24 @@ fn open_by_cause<L: Ledger>(
     open_under_mac(alloc, octets, mac, password, limit, steps)
 }
 
-/// Opens an old store: the bags of each content, and the octets of each encrypted private key. It opens what `transfer::open_store`
-/// opens, and stores beyond these: the text of the store and that of its list of contents in BER, with encrypted octets in parts; texts
-/// under RC2 with 40 or 128 bits and under Triple DES with two keys; MACs under SHA-224, SHA-384 and SHA-512; and, where the password is
-/// empty, stores whose writer took the empty password as no octets at all.
+/// Opens an old store under the password, and keeps it as one text. It opens what `transfer::open_safe` opens, and stores beyond these:
+/// the text of the store and that of its list of contents in BER, with encrypted octets in parts; texts under RC2 with 40 or 128 bits and
+/// under Triple DES with two keys; MACs under SHA-224, SHA-384 and SHA-512; and, where the password is empty, stores whose writer took
+/// the empty password as no octets at all.
 ///
 /// `limit` is the most steps. A step is one digest of an iteration of RFC 7292 appendix B, or one output of the pseudorandom
 /// function of PBKDF2; the MAC of a store with an empty password may take its count twice. The refusals are those of
-/// `transfer::open_store`, in their order; each comes exactly where it is the first cause, but running out of memory may come in its
+/// `transfer::open_safe`, in their order; each comes exactly where it is the first cause, but running out of memory may come in its
 /// place.
 ///
 /// Caller: the password has fewer than 2^56 octets.
-pub fn open_legacy<L: Ledger>(
+pub fn open_legacy_safe<L: Ledger>(
     alloc: Global,
     store: &[u8],
     password: &str,
     limit: u64,
     steps: &mut Steps<L>,
-) -> Result<LegacyOpened, TransferError>
+) -> Result<OpenedSafe, TransferError>
     requires { length password.now < 2 ^ 56 }
     ensures opened { IfOk result (λ o. (n : ℕ)
         × LegacyOpens store.now password.now o.contents o.keys n
@@ -200,4 +215,30 @@ pub fn open_legacy<L: Ledger>(
     ensures at_most { (steps.old ≤ steps.new) × (steps.new ≤ steps.old + limit) }
 {
     open_by_cause(alloc, store, password, limit, steps)
+}
+
+/// Opens an old store, as `open_legacy_safe` does: the bags of each content, and the octets of each encrypted private key, in memory of
+/// their own.
+///
+/// `limit` is the most steps. The refusals are those of `open_legacy_safe`.
+///
+/// Caller: the password has fewer than 2^56 octets.
+pub fn open_legacy<L: Ledger>(
+    alloc: Global,
+    store: &[u8],
+    password: &str,
+    limit: u64,
+    steps: &mut Steps<L>,
+) -> Result<Opened, TransferError>
+    requires { length password.now < 2 ^ 56 }
+    ensures opened { IfOk result (λ o. (n : ℕ)
+        × LegacyOpens store.now password.now o.contents o.keys n
+        × (n ≤ limit) × (steps.new ≡ steps.old + n)) }
+    ensures refused { IfErr result (RefusedAfter
+        (λ e n. HasLegacyVerdict store.now password.now limit (refused e) n) steps.old steps.new) }
+    ensures exact { IsLegacyDecided store.now password.now limit result }
+    ensures at_most { (steps.old ≤ steps.new) × (steps.new ≤ steps.old + limit) }
+{
+    let safe = open_legacy_safe(alloc, store, password, limit, steps)?;
+    Ok(safe.into_opened(alloc)?)
 }

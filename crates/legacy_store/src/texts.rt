@@ -1,17 +1,19 @@
 //! Reading the texts of an old store: as DER, and as BER (X.690) only where they are no DER text.
 ghost use Rattle.std.specs.Prelude.{◌≡◌, ◌-◌, ◌^◌, ℕ, List, All, IfOk, IfErr, IfSome, IfNone, Ok};
 ghost use Rattle.p12.specs.ContentInfo.{IsContents, NoContents, SealFits};
+ghost use Rattle.p12.specs.Canonical.{store_canon};
 ghost use Rattle.p12.specs.Pfx.{IsStore, NoStore, StoreFits};
 ghost use Rattle.transfer.specs.TransferError.{RefusedBy};
 ghost use Rattle.ber_core.specs.Ber.{Ber};
 ghost use Rattle.asn1_core.specs.Der.{IsShort};
 ghost use Rattle.legacy_store.specs.JoinedReading.{joined_safe};
+ghost use Rattle.legacy_store.specs.InDer.{IsSafeInDer, IsStoreInDer, IsWholeInDer};
 ghost use Rattle.legacy_store.specs.Texts.{BerSafe, IsLegacySafe, IsLegacyStore, NoLegacySafe, NoLegacyStore};
 
 use crate::joined::joined_safe;
 use asn1_core::{Items, Octets};
 use ber_core::to_der;
-use p12::{ContentInfo, Error, PFX};
+use p12::{ContentInfo, ContentView, ContentsView, Error, PFX, StoreView};
 use std::alloc::{AllocError, Global};
 use transfer::TransferError;
 
@@ -159,5 +161,91 @@ pub(crate) fn read_safe(alloc: Global, text: &[u8]) -> Result<Items<ContentInfo>
     match found {
         Some(contents) => Ok(contents),
         None => read_ber_safe(alloc, text),
+    }
+}
+
+/// The text of a list of contents in DER with the encrypted octets of each in one, of a text that is no DER text of one. None where it is
+/// the text of none. The only error is out of memory.
+fn ber_safe_in_der(alloc: Global, text: &[u8]) -> Result<Option<Octets>, AllocError>
+    requires { NoContents text.now }
+    ensures { IfOk result (λ m. IfSome m (IsSafeInDer text.now)) }
+{
+    let found = ber_safe(alloc, text)?;
+    let Some(der) = found else {
+        return Ok(None);
+    };
+    let listed = der_contents(alloc, der.as_slice())?;
+    match listed {
+        Some(_) => Ok(Some(der)),
+        None => Ok(None),
+    }
+}
+
+/// The same of any text.
+fn safe_in_der(alloc: Global, text: &[u8]) -> Result<Option<Octets>, AllocError>
+    ensures { IfOk result (λ m. IfSome m (IsSafeInDer text.now)) }
+{
+    let listed = der_contents(alloc, text)?;
+    let Some(_) = listed else {
+        return ber_safe_in_der(alloc, text);
+    };
+    let copy = Octets::from_slice(alloc, text)?;
+    Ok(Some(copy))
+}
+
+/// The text of a store. None where there is none.
+fn text_of(alloc: Global, store: &PFX) -> Result<Option<Octets>, AllocError>
+    ensures { IfOk result (λ m. IfSome m (λ der. der ≡ store_canon store.now)) }
+{
+    match store.to_der(alloc) {
+        Ok(der) => Ok(Some(der)),
+        Err(Error::Memory) => Err(AllocError),
+        Err(Error::Malformed | Error::Invalid | Error::TooLong | Error::Rng) => Ok(None),
+    }
+}
+
+/// The text of a store with its list of contents in DER. None where it lists none.
+fn whole_in_der(alloc: Global, store: PFX) -> Result<Option<Octets>, AllocError>
+    ensures { IfOk result (λ m. IfSome m (IsWholeInDer store)) }
+{
+    let ContentInfo::Data(text) = &store.auth_safe else {
+        return Ok(None);
+    };
+    let found = safe_in_der(alloc, text.as_slice())?;
+    let Some(safe) = found else {
+        return Ok(None);
+    };
+    let shown = PFX {
+        version: store.version,
+        auth_safe: ContentInfo::Data(safe),
+        mac_data: store.mac_data,
+    };
+    text_of(alloc, &shown)
+}
+
+/// Whether this is the DER text of a store that lists its contents in DER. This takes no memory.
+fn is_in_der(store: &[u8]) -> bool {
+    match StoreView::parse(store) {
+        Ok(view) => match view.auth_safe {
+            ContentView::Plain { content, .. } => ContentsView::parse(content).is_ok(),
+            ContentView::Encrypted { .. } | ContentView::Other { .. } => true,
+        },
+        Err(_) => false,
+    }
+}
+
+/// The text in DER of a store that is in BER, or whose list of contents is: that of the same store, with this list in DER and the encrypted
+/// octets of each content in one. It is for looking at, with p12's views, and not for opening: the MAC is over the list as it was. None
+/// where the store is in DER already, or is no store. The only error is out of memory.
+pub fn store_in_der(alloc: Global, store: &[u8]) -> Result<Option<Octets>, AllocError>
+    ensures { IfOk result (λ m. IfSome m (IsStoreInDer store.now)) }
+{
+    if is_in_der(store) {
+        return Ok(None);
+    }
+    match read_store(alloc, store) {
+        Ok(found) => whole_in_der(alloc, found),
+        Err(TransferError::Memory) => Err(AllocError),
+        Err(_) => Ok(None),
     }
 }

@@ -3,12 +3,12 @@ ghost use Rattle.std.specs.Prelude.{◌≡◌, ◌<◌, ◌^◌, length};
 
 use crate::nss_store;
 use crate::old_stores::{BER, KEY, NULL, PARTS, RC2_40, RC2_128, SHA224, TWO_KEY};
-use legacy_store::{LegacyOpened, open_legacy};
+use legacy_store::open_legacy;
 use std::alloc::Global;
 use std::marker::Brand;
 use std::sync::ledger::{Blank, Ledger};
 use steps::Steps;
-use transfer::TransferError;
+use transfer::{Opened, TransferError};
 
 /// The passwords that are tried.
 #[derive(Clone, Copy)]
@@ -41,7 +41,7 @@ fn opened_counted<L: Ledger>(
     password: Password,
     limit: u64,
     blank: Blank,
-) -> Result<LegacyOpened, TransferError>
+) -> Result<Opened, TransferError>
     requires name { blank.name ≡ L.name }
     requires parts { blank.parts ≡ L.parts }
     requires some { 0 < blank.parts }
@@ -56,12 +56,12 @@ fn opened(
     store: &[u8],
     password: Password,
     limit: u64,
-) -> Result<LegacyOpened, TransferError> {
+) -> Result<Opened, TransferError> {
     opened_counted::<Brand>(alloc, store, password, limit, Blank::new(1))
 }
 
 /// Whether a store was opened to two contents and this key.
-fn has_the_key(store: &LegacyOpened, wanted: &[u8]) -> bool {
+fn has_the_key(store: &Opened, wanted: &[u8]) -> bool {
     match store.keys.get(0) {
         Some(key) => store.contents.len() == 2 && store.keys.len() == 1 && key.as_slice() == wanted,
         None => false,
@@ -69,7 +69,7 @@ fn has_the_key(store: &LegacyOpened, wanted: &[u8]) -> bool {
 }
 
 /// Whether the result is that.
-fn is_opened(answer: Result<LegacyOpened, TransferError>, wanted: &[u8]) -> bool {
+fn is_opened(answer: Result<Opened, TransferError>, wanted: &[u8]) -> bool {
     match answer {
         Ok(store) => has_the_key(&store, wanted),
         Err(_) => false,
@@ -77,7 +77,7 @@ fn is_opened(answer: Result<LegacyOpened, TransferError>, wanted: &[u8]) -> bool
 }
 
 /// Whether the result is this refusal.
-fn is_refused(answer: Result<LegacyOpened, TransferError>, cause: TransferError) -> bool {
+fn is_refused(answer: Result<Opened, TransferError>, cause: TransferError) -> bool {
     match answer {
         Ok(_) => false,
         Err(e) => e == cause,

@@ -1,15 +1,15 @@
 -- A walk goes on over what is left to read, and each part stands where it says.
-use Rattle.std.proofs.Common.{◌≡◌, ℕ, zero, suc, ◌-◌, ◌<◌, ◌≤◌, List, [], ◌∷◌, ◌++◌, length, take, drop, Result, Ok, Err, refl, sym, ap, ◌∙◌, append_assoc, arith, length-append, take-append-drop}
+use Rattle.std.proofs.Common.{◌≡◌, ◌==◌, ℕ, zero, suc, ◌-◌, ◌<◌, ◌≤◌, List, [], ◌∷◌, ◌++◌, length, take, drop, Result, Ok, Err, refl, sym, ap, ◌∙◌, append_assoc, arith, length-append, take-append-drop}
 use Rattle.std.proofs.lemmas.List.{append-nil}
 use Rattle.std.proofs.Math.Seq.{drop-append_seam, take-append_seam}
 use Rattle.asn1_core.specs.Der.{el, len}
-use Rattle.asn1_core.specs.Reading.{Fault, Front, ◌>>=◌, many_in, many}
+use Rattle.asn1_core.specs.Reading.{All, Fault, Front, Head, ◌>>=◌, ended, header_at, left, many_in, many, slice_at, valued, where_ok, whole, within}
 use Rattle.asn1_core.specs.Texts.{Exact, Taken, Inside}
-use Rattle.asn1_core.specs.ExactLaws.{bind_ok, ok_is}
+use Rattle.asn1_core.specs.ExactLaws.{bind_ok, ended_ok, ok_is}
 use Rattle.asn1_core.specs.Gives.{Fails}
 use Rattle.asn1_core.specs.Reading.{Bad}
 use Rattle.asn1_core.specs.Fields.{latest}
-use Rattle.asn1_core.proofs.PartLoops.{ends, latest_fails}
+use Rattle.asn1_core.proofs.PartLoops.{latest_fails}
 use Rattle.asn1_core.specs.declared.error.Error.{Error}
 use Rattle.asn1_core.specs.declared.error.Error.TheVariants as errors
 use Rattle.p12.specs.Place.{Part}
@@ -85,6 +85,60 @@ starts p bytes body rest xs t none all =
     let a = inside_tail 0x30 t.text body t.holds in
     let b = over body t.text bytes a (end_tail t.text rest bytes none t.is) in
     (drop_to b.0 body bytes b.1, all ∙ ap (λ (r : Result (List _) Fault). Ok (read_or_none r)) (sym all))
+
+-- the value of an element in front, and then reading it
+pub within_left : {A : Type 0} (tag : ℕ) (q : All A) (b v rest : List ℕ) → within tag left b ≡ Ok (v, rest)
+    → within tag q b ≡ (q v >>= λ x. Ok (x, rest))
+within_left {A} tag q b v rest e =
+    let head = bind_ok (header_at b) _ (v, rest) e in
+    let tagged = bind_ok (where_ok (head.0.0.tag == tag) head.0) _ (v, rest) head.2 in
+    let value = bind_ok (slice_at tagged.0.0.size tagged.0.1) _ (v, rest) tagged.2 in
+    ap (λ (r : Result (Head × List ℕ) Fault). r >>= λ h. where_ok (h.0.tag == tag) h >>= λ h. valued q h.0.size h.1) head.1
+    ∙ ap (λ (r : Result (Head × List ℕ) Fault). r >>= λ h. valued q h.0.size h.1) tagged.1
+    ∙ ap (λ (r : Result (List ℕ × List ℕ) Fault). r >>= λ w. q w.0 >>= λ x. Ok (x, w.1)) value.1
+    ∙ ap (λ (w : List ℕ × List ℕ). q w.0 >>= λ x. Ok (x, w.1)) (ok_is value.0 (v, rest) value.2)
+
+-- an element that is read is one whose value can be taken
+pub left_of : {A : Type 0} (tag : ℕ) (q : All A) (b : List ℕ) (x : A) → whole (within tag q) b ≡ Ok x
+    → (v : List ℕ) × (rest : List ℕ) × (within tag left b ≡ Ok (v, rest))
+left_of {A} tag q b x all =
+    let outer = bind_ok (within tag q b) (λ x. ended x.0 x.1) x all in
+    let head = bind_ok (header_at b) _ outer.0 outer.1 in
+    let tagged = bind_ok (where_ok (head.0.0.tag == tag) head.0) _ outer.0 head.2 in
+    let value = bind_ok (slice_at tagged.0.0.size tagged.0.1) _ outer.0 tagged.2 in (
+      value.0.0,
+      value.0.1,
+      ap (λ (r : Result (Head × List ℕ) Fault). r >>= λ h. where_ok (h.0.tag == tag) h >>= λ h. valued left h.0.size h.1) head.1
+          ∙ ap (λ (r : Result (Head × List ℕ) Fault). r >>= λ h. valued left h.0.size h.1) tagged.1
+          ∙ ap (λ (r : Result (List ℕ × List ℕ) Fault). r >>= λ w. left w.0 >>= λ x. Ok (x, w.1)) value.1,
+    )
+
+-- what is read does not fail
+pub never_fails : {Y : Type 0} (r : Result Y Fault) (y : Y) (e : Error) → r ≡ Ok y → Fails ⊥ e r → ⊥
+never_fails r y errors.Malformed h f = absurd (let t = sym f ∙ h in cc)
+never_fails r y (errors.OidUnknown o) h f = absurd (let t = sym f ∙ h in cc)
+never_fails r y errors.Overlength h f = f
+never_fails r y errors.NoRoom h f = f
+never_fails r y errors.File h f = f
+never_fails r y errors.Memory h f = f
+
+-- where an element is all of a text, its value is read to its end
+pub whole_within : {A : Type 0} (tag : ℕ) (q : All A) (b v rest : List ℕ) (x : A) → within tag left b ≡ Ok (v, rest)
+    → whole (within tag q) b ≡ Ok x → (rest ≡ []) × (q v ≡ Ok x)
+whole_within {A} tag q b v rest x e all =
+    let outer = bind_ok (within tag q b) (λ x. ended x.0 x.1) x all in
+    let inner = bind_ok (q v) (λ y. Ok (y, rest)) outer.0 (sym (within_left tag q b v rest e) ∙ outer.1) in
+    let same = ok_is (inner.0, rest) outer.0 inner.2 in
+    let end = ended_ok outer.0.0 x outer.0.1 outer.2 in
+    (ap (λ (p : A × List ℕ). p.1) same ∙ end.0, inner.1 ∙ ap Ok (ap (λ (p : A × List ℕ). p.0) same ∙ end.1))
+
+-- a walk over bags, or what else is listed so, that were read before
+pub starts_again : {A : Type 0} (p : Front A) (bytes body rest : List ℕ) (xs : List A) → Taken (Inside 0x30) bytes body rest
+    → within 0x30 left bytes ≡ Ok (body, rest) → whole (within 0x30 (many p)) bytes ≡ Ok xs
+    → IsWalk p bytes body × (read_or_none (many p body) ≡ xs)
+starts_again p bytes body rest xs t e all =
+    let w = whole_within 0x30 (many p) bytes body rest xs e all in
+    (starts p bytes body rest xs t w.0 w.1, ap read_or_none w.1)
 
 pub goes : {A : Type 0} (R : List ℕ → A → Type 0) (p : Front A) → Exact R p → Shrinks p → (bytes rest after : List ℕ) (v : A) → IsWalk p bytes rest → p rest ≡ Ok (v, after) → IsWalk p bytes after
 goes R p exact s bytes rest after v w e =

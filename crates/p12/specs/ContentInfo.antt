@@ -66,12 +66,12 @@ abbrev pub ContentFits : ℕ → ContentInfo → Type 0
 ContentFits n c = (length (held c) ≤ n) × (length (held_salt c) ≤ n)
 
 -- the plain octets of a content under a password in UTF-16
-abbrev pub plain_pbe : ContentInfo → List ℕ → Option (List ℕ)
-plain_pbe (content.Data v) q = Some v
-plain_pbe (content.EncryptedData d) q =
+abbrev pub plain_pbe : List ℕ → ContentInfo → Option (List ℕ)
+plain_pbe q (content.Data v) = Some v
+plain_pbe q (content.EncryptedData d) =
     unlock_pbe d.encrypted_content_info.content_encryption_algorithm q
     d.encrypted_content_info.encrypted_content
-plain_pbe (content.OtherContext o) q = None
+plain_pbe q (content.OtherContext o) = None
 
 -- the identifier of a content's kind
 abbrev pub content_oid : ContentInfo → List ℕ

@@ -59,10 +59,10 @@ x509_of (kind.Pkcs8ShroudedKeyBag e) = None
 x509_of (kind.OtherBagKind o) = None
 
 -- the plain octets of an encrypted key under a password in UTF-16
-abbrev pub key_of : SafeBagKind → List ℕ → Option (List ℕ)
-key_of (kind.CertBag c) q = None
-key_of (kind.Pkcs8ShroudedKeyBag e) q = unlock_pbe e.encryption_algorithm q e.encrypted_data
-key_of (kind.OtherBagKind o) q = None
+abbrev pub key_of : List ℕ → SafeBagKind → Option (List ℕ)
+key_of q (kind.CertBag c) = None
+key_of q (kind.Pkcs8ShroudedKeyBag e) = unlock_pbe e.encryption_algorithm q e.encrypted_data
+key_of q (kind.OtherBagKind o) = None
 
 -- an encrypted key has fewer than 2 ^ 32 octets, and its salt fewer than 2 ^ 59
 abbrev pub KindFits : SafeBagKind → Type 0

@@ -3,12 +3,12 @@ ghost use Rattle.std.specs.Prelude.{◌≡◌, ◌+◌, ◌-◌, ◌≤◌, ◌<
 ghost use Rattle.asn1_core.specs.Gives.{ReadsAs, Gives};
 ghost use Rattle.asn1_core.specs.Reading.{many, whole};
 ghost use Rattle.p12.specs.SafeBag.{IsBags, NoBags};
-ghost use Rattle.p12.specs.BagView.{GoesBy, NextBag};
+ghost use Rattle.p12.specs.BagView.{AreParts, GoesBy, ListsBags, NextBag, bags_of, seen_parts};
 ghost use Rattle.p12.specs.Reading.{bag_at, bags_at};
 ghost use Rattle.p12.specs.Walk.{Passes};
 
 use crate::error::Error;
-use crate::safe_bag::{BagView, SafeBag, bag_in_front, bag_view};
+use crate::safe_bag::{BagParts, BagView, SafeBag, bag_in_front, bag_view};
 use asn1_core::{Reader, SliceReader, Tag, read_inner};
 use std::alloc::{AllocError, Global};
 use std::marker::Model;
@@ -70,6 +70,24 @@ impl<'a> BagsView<'a> {
         Ok(all_bags(bytes)?)
     }
 
+    /// The bags that these octets list, which were read before: their header is read, and nothing is checked again.
+    ///
+    /// Caller: the octets list bags.
+    pub fn of_listed(bytes: &'a [u8]) -> BagsView<'a>
+        requires { ListsBags bytes.now }
+        ensures are { result.left ≡ bags_of bytes.now }
+        ensures bytes { result.bytes ≡ bytes.now }
+    {
+        let mut r = SliceReader::new(bytes);
+        match read_inner(&mut r, Tag::SEQUENCE) {
+            Ok(body) => BagsView {
+                bytes,
+                rest: body.rest,
+            },
+            Err(_) => unreachable!(),
+        }
+    }
+
     /// The next bag, without its attributes; None exactly after the last.
     pub fn next(&mut self) -> Option<BagView<'a>>
         ensures some { IfSome result (NextBag self.old self.new) }
@@ -87,6 +105,26 @@ impl<'a> BagsView<'a> {
             Err(_) => unreachable!(),
         }
     }
+
+    /// The next bag, with the octets in which its attributes are; None exactly after the last. This takes no memory.
+    pub fn next_parts(&mut self) -> Option<BagParts<'a>>
+        ensures some { IfSome result
+            (λ parts. AreParts parts × GoesBy self.old self.new (seen_parts parts)) }
+        ensures none { IfNone result ((self.old.left ≡ []) × (self.new ≡ self.old)) }
+    {
+        if self.rest.is_empty() {
+            return None;
+        }
+        let mut r = SliceReader::new(self.rest);
+        match bag_view(&mut r, self.bytes.len()) {
+            Ok(parts) => {
+                self.rest = r.rest;
+                Some(parts)
+            }
+            Err(_) => unreachable!(),
+        }
+    }
+
     /// The next bag and its attributes, in memory of its own; None exactly after the last. Where there is no memory the walk is not
     /// moved.
     pub fn next_owned(&mut self, alloc: Global) -> Result<Option<SafeBag>, AllocError>

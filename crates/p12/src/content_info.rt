@@ -307,7 +307,7 @@ impl ContentInfo {
         requires content { length (encrypted_of self.now) < 2 ^ 32 }
         requires salt { length (held_salt self.now) < 2 ^ 59 }
         requires password { length password.now < 2 ^ 59 }
-        ensures value { IfOk result (λ m. m ≡ plain_pbe self.now password.now) }
+        ensures value { IfOk result (λ m. m ≡ plain_pbe password.now self.now) }
         ensures err { IfErr result (λ e. e ≡ Error.Memory) }
     {
         match self {

@@ -47,4 +47,4 @@ pub use password::bmp_string;
 pub use pfx::{PFX, StoreView};
 pub use pkcs12_pbe_params::Pkcs12PbeParams;
 pub use place::Place;
-pub use safe_bag::{BagView, OtherBag, SafeBag, SafeBagKind};
+pub use safe_bag::{BagParts, BagView, OtherBag, SafeBag, SafeBagKind};

@@ -71,10 +71,10 @@ pub enum BagView<'a> {
     },
 }
 
-/// A bag, and the octets in which its attributes are.
+/// A bag, and the octets in which its attributes are, which it lends from the octets that were parsed.
 #[derive(Clone, Copy, Drop)]
-pub(crate) struct BagParts<'a> {
-    pub(crate) bag: BagView<'a>,
+pub struct BagParts<'a> {
+    pub bag: BagView<'a>,
     pub(crate) attributes: &'a [u8],
 }
 
@@ -387,7 +387,7 @@ impl SafeBagKind {
     pub fn get_key(&self, alloc: Global, password: &[u8]) -> Result<Option<Octets>, Error>
         requires fits { KindFits self.now }
         requires password { length password.now < 2 ^ 59 }
-        ensures value { IfOk result (λ m. m ≡ key_of self.now password.now) }
+        ensures value { IfOk result (λ m. m ≡ key_of password.now self.now) }
         ensures err { IfErr result (λ e. e ≡ Error.Memory) }
     {
         match self {
@@ -397,18 +397,39 @@ impl SafeBagKind {
     }
 }
 
+/// The first friendly name among attributes.
+fn first_name(alloc: Global, attributes: &[PKCS12Attribute]) -> Result<Option<Text>, Error>
+    ensures value { IfOk result (λ n. n ≡ first_name attributes.now) }
+    ensures err { IfErr result (λ e. e ≡ Error.Memory) }
+{
+    for attribute in attributes {
+        if let PKCS12Attribute::FriendlyName(name) = attribute {
+            return Ok(Some(name.try_clone(alloc)?));
+        }
+    }
+    Ok(None)
+}
+
+/// The first local key id among attributes.
+fn first_key_id(alloc: Global, attributes: &[PKCS12Attribute]) -> Result<Option<Octets>, Error>
+    ensures value { IfOk result (λ i. i ≡ first_key_id attributes.now) }
+    ensures err { IfErr result (λ e. e ≡ Error.Memory) }
+{
+    for attribute in attributes {
+        if let PKCS12Attribute::LocalKeyId(key_id) = attribute {
+            return Ok(Some(key_id.try_clone(alloc)?));
+        }
+    }
+    Ok(None)
+}
+
 impl SafeBag {
     /// The first friendly name among the attributes; None exactly where there is none. The only refusal is `Memory`.
     pub fn friendly_name(&self, alloc: Global) -> Result<Option<Text>, Error>
         ensures value { IfOk result (λ n. n ≡ first_name self.now.attributes) }
         ensures err { IfErr result (λ e. e ≡ Error.Memory) }
     {
-        for attribute in self.attributes.as_slice() {
-            if let PKCS12Attribute::FriendlyName(name) = attribute {
-                return Ok(Some(name.try_clone(alloc)?));
-            }
-        }
-        Ok(None)
+        first_name(alloc, self.attributes.as_slice())
     }
 
     /// The first local key id among the attributes; None exactly where there is none. The only refusal is `Memory`.
@@ -416,12 +437,43 @@ impl SafeBag {
         ensures value { IfOk result (λ i. i ≡ first_key_id self.now.attributes) }
         ensures err { IfErr result (λ e. e ≡ Error.Memory) }
     {
-        for attribute in self.attributes.as_slice() {
-            if let PKCS12Attribute::LocalKeyId(key_id) = attribute {
-                return Ok(Some(key_id.try_clone(alloc)?));
-            }
-        }
-        Ok(None)
+        first_key_id(alloc, self.attributes.as_slice())
+    }
+}
+
+impl BagParts<'_> {
+    /// The attributes in memory of their own.
+    #[tactic(auto, using(crate::proofs::Refusals::is_memory))]
+    fn attributes(&self, alloc: Global) -> Result<Items<PKCS12Attribute>, Error>
+        requires { AreParts self.now }
+        ensures value { IfOk result (λ a. a ≡ (seen_parts self.now).attributes) }
+        ensures err { IfErr result (λ e. e ≡ Error.Memory) }
+    {
+        Ok(attribute_list(alloc, SliceReader::new(self.attributes))?)
+    }
+
+    /// The first friendly name among the attributes; None exactly where there is none. The only refusal is `Memory`.
+    ///
+    /// Caller: a walk over bags lent these parts.
+    pub fn friendly_name(&self, alloc: Global) -> Result<Option<Text>, Error>
+        requires { AreParts self.now }
+        ensures value { IfOk result (λ n. n ≡ first_name (seen_parts self.now).attributes) }
+        ensures err { IfErr result (λ e. e ≡ Error.Memory) }
+    {
+        let attributes = self.attributes(alloc)?;
+        first_name(alloc, attributes.as_slice())
+    }
+
+    /// The first local key id among the attributes; None exactly where there is none. The only refusal is `Memory`.
+    ///
+    /// Caller: a walk over bags lent these parts.
+    pub fn local_key_id(&self, alloc: Global) -> Result<Option<Octets>, Error>
+        requires { AreParts self.now }
+        ensures value { IfOk result (λ i. i ≡ first_key_id (seen_parts self.now).attributes) }
+        ensures err { IfErr result (λ e. e ≡ Error.Memory) }
+    {
+        let attributes = self.attributes(alloc)?;
+        first_key_id(alloc, attributes.as_slice())
     }
 }
 

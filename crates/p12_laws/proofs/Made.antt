@@ -219,10 +219,6 @@ store_sound p s gs f (t, cs, is, list, all) (inr (v, js, inr (ds, more, fault)))
 pub made_agrees : (p : List ℕ) (e : Entry) (s : Salts) (store : PFX) → IsStoreOf (bmp_password p) e store s → store_agrees p store ≡ true
 made_agrees p e s store (t, o, is) = rw is (mac_of_agrees Sha1 (bmp_password p) t s.mac 2048 refl (omega arith))
 
-pub made_fits : (q salt t : List ℕ) → IsShort t → length salt ≡ 8 → StoreFits (2 ^ 32 - 1) (store_over q salt t)
-unfolding mac_of
-made_fits q salt t short long = ((omega (arith, short), omega arith), omega (arith, long))
-
 -- ---- the whole store has its text
 
 pub made_is_read : (q : List ℕ) (e : Entry) (s : Salts) (store : PFX) → IsStoreOf q e store s → IsShort (store_canon store) → IsStore (store_canon store) store

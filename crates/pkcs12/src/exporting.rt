@@ -102,7 +102,13 @@ fn exported<R: Runtime + AllocGlobal>(
     if needs_new_password(rt, asked) {
         return Err(new_password_missing());
     }
-    let given = read_given(rt, asked.store, asked.password, asked.limit)?;
+    let given = read_given(
+        rt,
+        asked.store,
+        asked.password,
+        asked.limit,
+        asked.modern_only,
+    )?;
     let new_password = new_password(rt, asked, &given)?;
     let rounds = match &new_password {
         Some(_) => Some(asked.rounds),

@@ -18,8 +18,7 @@ fn listed(
     now: Option<&str>,
 ) -> Result<String, AllocError> {
     let labels = listing_of(alloc, &opened)?;
-    let opened = opened.into_opened(alloc)?;
-    let read = read_certificates(alloc, opened.contents.as_slice())?;
+    let read = read_certificates(alloc, &opened)?;
     let certificates = read.indexed(alloc)?;
     if in_json {
         listed_json(alloc, &certificates, &labels, now)
@@ -35,8 +34,7 @@ fn ending(
     until: &str,
 ) -> Result<EndingCertificates, AllocError> {
     let labels = listing_of(alloc, &opened)?;
-    let opened = opened.into_opened(alloc)?;
-    let read = read_certificates(alloc, opened.contents.as_slice())?;
+    let read = read_certificates(alloc, &opened)?;
     let certificates = read.indexed(alloc)?;
     ending_by(alloc, &certificates, &labels, until)
 }
@@ -74,7 +72,7 @@ pub fn run_list<R: Runtime + AllocGlobal>(
     asked: &List<'_>,
 ) -> Result<(), Failure> {
     let given = given_to(rt, &asked.reading)?;
-    let opened = opened_within(rt, around, &given, asked.reading.limit)?;
+    let opened = opened_within(rt, around, &given, &asked.reading)?.safe;
     drop(given);
     if let Some(days) = asked.expires_within {
         return print_ending(rt, opened, days);

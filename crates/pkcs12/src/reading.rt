@@ -1,24 +1,32 @@
 //! The store of the subcommands that write nothing.
 use pkcs12_arguments::Reading;
 use pkcs12_opening::{
-    Failure, Given, Surroundings, inputs_differ, opened, read_given, tell_long_work,
+    AnyStore, Failure, Given, Surroundings, inputs_differ, opened, read_given, tell_long_work,
+    tell_old_parts,
 };
 use std::rt::Runtime;
-use transfer::OpenedSafe;
 
 /// Reads the store and its password.
 pub fn given_to<R: Runtime + AllocGlobal>(rt: &R, asked: &Reading<'_>) -> Result<Given, Failure> {
     inputs_differ(rt, asked.store, asked.password, None)?;
-    read_given(rt, asked.store, asked.password, asked.limit)
+    read_given(
+        rt,
+        asked.store,
+        asked.password,
+        asked.limit,
+        asked.modern_only,
+    )
 }
 
-/// Opens the store.
+/// Opens the store, and says on the standard error what of it is old.
 pub fn opened_within<R: Runtime + AllocGlobal>(
     rt: &R,
     around: Surroundings,
     given: &Given,
-    limit: u64,
-) -> Result<OpenedSafe, Failure> {
+    asked: &Reading<'_>,
+) -> Result<AnyStore, Failure> {
     tell_long_work(rt, around, given.store.as_slice(), None);
-    opened(rt.alloc(), given, limit)
+    let opened = opened(rt.alloc(), given, asked.limit, asked.modern_only)?;
+    tell_old_parts(rt, given, &opened)?;
+    Ok(opened)
 }

@@ -11,7 +11,7 @@ use p12::{CertBag, SafeBag, SafeBagKind};
 use pkcs12_arguments::{Rekey, UpgradeRounds};
 use pkcs12_inspection::{Listing, OtherBag, counts};
 use pkcs12_opening::{
-    Ending, Failure, Given, NewPassword, RANDOM, Surroundings, are_one, inputs_differ,
+    Attempt, Ending, Failure, Given, NewPassword, RANDOM, Surroundings, are_one, inputs_differ,
     is_not_given_again, listing_of, new_password_missing, opened, opened_store, output_differs,
     path_of_store, read_given, read_password, refused, tell_long_work, with_detail, without_nul,
 };
@@ -89,13 +89,13 @@ fn changed<R: Files + AllocGlobal>(rt: &R, change: &Change<'_>) -> Result<Octets
         Ok(text) => Ok(text),
         Err(refusal) => {
             let given = change.given;
-            Err(with_detail(
-                rt.alloc(),
-                refused(refusal),
-                given.store.as_slice(),
-                &given.password,
-                change.limit,
-            ))
+            let tried = Attempt {
+                store: given.store.as_slice(),
+                password: &given.password,
+                limit: change.limit,
+                modern_only: true,
+            };
+            Err(with_detail(rt.alloc(), refused(refusal), &tried))
         }
     }
 }
@@ -298,7 +298,7 @@ fn write_rekeyed<R: Runtime<File = File> + AllocGlobal>(
     let store = change.given.store.as_slice();
     let rounds = change.upgrade.map(|rounds| rounds.count());
     tell_long_work(rt, around, store, rounds);
-    let opened = opened(rt.alloc(), change.given, change.limit)?;
+    let opened = opened(rt.alloc(), change.given, change.limit, true)?.safe;
     if let Some(rounds) = rounds {
         opens_again(
             rt.alloc(),
@@ -334,7 +334,7 @@ fn read_and_rekey<R: Runtime<File = File> + AllocGlobal>(
     asked: &Rekey<'_>,
     file: &StoreFile<'_>,
 ) -> Result<Listing, Failure> {
-    let given = read_given(rt, asked.store, asked.password, asked.limit)?;
+    let given = read_given(rt, asked.store, asked.password, asked.limit, true)?;
     let new_password = new_password(rt, asked, &given)?;
     let change = Change {
         given: &given,

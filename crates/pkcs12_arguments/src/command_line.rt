@@ -35,10 +35,10 @@ Exit numbers:
    7  Memory              there was not enough memory
    8  PasswordMissing     no password was given, and there is no terminal to ask at
    9  NewPasswordMissing  a new password is needed, and none was given
-  10  Malformed           the file is not a PKCS#12 store in DER, or for create not the PEM that is needed
+  10  Malformed           the file is not a PKCS#12 store, or for create not the PEM that is needed
   11  Unsupported         something is of a kind, or encrypted by an algorithm, that is not opened
   12  MacMissing          the store has no MAC, so a change to it would go unnoticed
-  13  MacUnsupported      the MAC is made neither with SHA-1 nor with SHA-256
+  13  MacUnsupported      the MAC is made by an algorithm that is not supported
   14  ZeroIterations      the store asks for zero iterations
   15  WorkLimit           opening takes more work than --limit allows
   16  MacMismatch         the password is wrong, or the store was changed
@@ -90,6 +90,14 @@ pub const LIMIT: Argument = Argument {
     group: None,
     help: "Refuse a store that takes more than this many steps (hash computations of key \
         derivation) to open: 0 to 18446744073709551615",
+};
+
+pub const MODERN_ONLY: Argument = Argument {
+    name: "modern-only",
+    form: Form::Flag,
+    group: None,
+    help: "Refuse old stores: in BER, under RC2 or Triple DES with two keys, with a MAC by another hash than \
+        SHA-1 and SHA-256, or made with no password at all",
 };
 
 /// A subcommand: its name, what it is for, and its arguments.

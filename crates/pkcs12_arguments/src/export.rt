@@ -2,7 +2,7 @@
 ghost use Rattle.std.specs.Prelude.{◌≤◌};
 
 use crate::arguments_error::ArgumentsError;
-use crate::command_line::{LIMIT, PASSWORD_ENV, PASSWORD_FILE, PASSWORD_STDIN, STORE};
+use crate::command_line::{LIMIT, MODERN_ONLY, PASSWORD_ENV, PASSWORD_FILE, PASSWORD_STDIN, STORE};
 use crate::numbers::{number_of, rounds_of, text_of};
 use crate::target::{Format, Layout, Part, Target};
 use clap::ArgMatches;
@@ -146,7 +146,7 @@ const MOST_FILES: Argument = Argument {
 };
 
 /// The arguments, in the order of the help.
-pub static ARGUMENTS: [Argument; 23] = [
+pub static ARGUMENTS: [Argument; 24] = [
     STORE,
     OUT,
     FORMAT,
@@ -167,6 +167,7 @@ pub static ARGUMENTS: [Argument; 23] = [
     SAME_PASSWORD,
     EMPTY_PASSWORD,
     ROUNDS,
+    MODERN_ONLY,
     LIMIT,
     SEAL_LIMIT,
     MOST_FILES,
@@ -199,6 +200,8 @@ pub struct Export<'a> {
     pub rounds: u32,
     /// The most steps of opening the store.
     pub limit: u64,
+    /// Whether old stores are refused.
+    pub modern_only: bool,
     pub bounds: Bounds,
     /// Whether what was exported is told, also where nobody looks.
     pub verbose: bool,
@@ -284,6 +287,7 @@ impl<'a> Export<'a> {
             allow_empty: matches.get_flag("allow-empty-password"),
             rounds,
             limit: number_of(alloc, matches, "limit")?,
+            modern_only: matches.get_flag("modern-only"),
             bounds: bounds_of(alloc, matches)?,
             verbose: matches.get_flag("verbose"),
         })

@@ -2,7 +2,7 @@
 ghost use Rattle.std.specs.Prelude.{◌≤◌};
 
 use crate::arguments_error::ArgumentsError;
-use crate::command_line::{LIMIT, PASSWORD_ENV, PASSWORD_FILE, PASSWORD_STDIN, STORE};
+use crate::command_line::{LIMIT, MODERN_ONLY, PASSWORD_ENV, PASSWORD_FILE, PASSWORD_STDIN, STORE};
 use crate::numbers::{days_of, number_of, text_of};
 use clap::ArgMatches;
 use command_base::{Argument, Form, Origin};
@@ -33,23 +33,25 @@ const EXPIRES_WITHIN: Argument = Argument {
 };
 
 /// The arguments of `check`, in the order of the help.
-pub static CHECK_ARGUMENTS: [Argument; 6] = [
+pub static CHECK_ARGUMENTS: [Argument; 7] = [
     STORE,
     PASSWORD_FILE,
     PASSWORD_ENV,
     PASSWORD_STDIN,
     JSON,
+    MODERN_ONLY,
     LIMIT,
 ];
 
 /// The same of `list`.
-pub static LIST_ARGUMENTS: [Argument; 7] = [
+pub static LIST_ARGUMENTS: [Argument; 8] = [
     STORE,
     PASSWORD_FILE,
     PASSWORD_ENV,
     PASSWORD_STDIN,
     JSON,
     EXPIRES_WITHIN,
+    MODERN_ONLY,
     LIMIT,
 ];
 
@@ -63,6 +65,8 @@ pub struct Reading<'a> {
     pub in_json: bool,
     /// The most steps of opening the store.
     pub limit: u64,
+    /// Whether old stores are refused.
+    pub modern_only: bool,
 }
 
 impl<'a> Reading<'a> {
@@ -76,6 +80,7 @@ impl<'a> Reading<'a> {
             password: Origin::of_password(matches),
             in_json: matches.get_flag("json"),
             limit: number_of(alloc, matches, "limit")?,
+            modern_only: matches.get_flag("modern-only"),
         })
     }
 }

@@ -1,4 +1,5 @@
-/* Opens PKCS#12 stores (RFC 7292) and seals their private keys under a new password, as PEM text. For C99 and later, and C++.
+/* Opens PKCS#12 stores (RFC 7292) and seals their private keys under a new password, as PEM text; changes their passwords and
+ * algorithms; and makes stores of PEM texts. For C99 and later, and C++.
  *
  * What each call returns is proved, from the grammar of the store down to the ciphers. The proofs assume of the caller:
  *   - each pointer to octets is valid for its length, aligned for its type, and not NULL, even where the length is 0;
@@ -24,31 +25,42 @@ extern "C" {
 #endif
 
 /* The version of this interface: it rises with each call that is added. */
-#define PKCS12_VERSION 2
+#define PKCS12_VERSION 3
 
 /* The version of the interface that the library has: the header's calls are there where this is at least PKCS12_VERSION. */
 uint32_t pkcs12_version(void);
 
-/* What the calls return: the numbers are those with which the command pkcs12 ends. From PKCS12_MALFORMED to PKCS12_TOO_LONG
- * they are those of the store, and only the first cause is returned. */
+/* What the calls return: the numbers below 30 are those with which the command pkcs12 ends. From PKCS12_MALFORMED to
+ * PKCS12_TOO_LONG they are those of the store, and only the first cause is returned. pkcs12_create_pem alone returns
+ * PKCS12_PASSWORD_MISSING and those from PKCS12_PEM to PKCS12_NAME. */
 enum {
-    PKCS12_DONE = 0,               /* done */
-    PKCS12_ROUNDS = 2,             /* the rounds are not 1 to 100,000,000 */
-    PKCS12_MEMORY = 7,             /* out of memory */
-    PKCS12_MALFORMED = 10,         /* no PKCS#12 store in DER */
-    PKCS12_UNSUPPORTED = 11,       /* something is of a kind, or under an algorithm, that is not opened */
-    PKCS12_MAC_MISSING = 12,       /* no MAC, so a change to the store would go unnoticed */
-    PKCS12_MAC_UNSUPPORTED = 13,   /* the MAC is made neither with SHA-1 nor with SHA-256 */
-    PKCS12_ZERO_ITERATIONS = 14,   /* the store asks for zero iterations */
-    PKCS12_WORK_LIMIT = 15,        /* opening takes more steps than the limit */
-    PKCS12_MAC_MISMATCH = 16,      /* the password is wrong, or the store was changed */
-    PKCS12_CONTENT_MALFORMED = 17, /* the MAC agrees, but the contents are damaged */
-    PKCS12_DECRYPT_FAILED = 18,    /* the password agrees with the MAC, but a part does not decrypt with it */
-    PKCS12_KEY_MALFORMED = 19,     /* a private key opens, but is not a PKCS#8 key */
-    PKCS12_RANDOM_SHORT = 20,      /* too few random octets */
-    PKCS12_TOO_LONG = 21,          /* the store has more than 16,777,215 octets */
-    PKCS12_PASSWORD = 22,          /* a password of a store is not UTF-8, or is too long */
-    PKCS12_ROOM = 100              /* the output is too short */
+    PKCS12_DONE = 0,                   /* done */
+    PKCS12_ROUNDS = 2,                 /* the rounds are not 1 to 100,000,000 */
+    PKCS12_MEMORY = 7,                 /* out of memory */
+    PKCS12_PASSWORD_MISSING = 8,       /* the private key is encrypted, and no password is given */
+    PKCS12_MALFORMED = 10,             /* no PKCS#12 store in DER */
+    PKCS12_UNSUPPORTED = 11,           /* something is of a kind, or under an algorithm, that is not opened */
+    PKCS12_MAC_MISSING = 12,           /* no MAC, so a change to the store would go unnoticed */
+    PKCS12_MAC_UNSUPPORTED = 13,       /* the MAC is made neither with SHA-1 nor with SHA-256 */
+    PKCS12_ZERO_ITERATIONS = 14,       /* the store asks for zero iterations */
+    PKCS12_WORK_LIMIT = 15,            /* opening takes more steps than the limit */
+    PKCS12_MAC_MISMATCH = 16,          /* the password is wrong, or the store was changed */
+    PKCS12_CONTENT_MALFORMED = 17,     /* the MAC agrees, but the contents are damaged */
+    PKCS12_DECRYPT_FAILED = 18,        /* the password agrees with the MAC, but a part does not decrypt with it */
+    PKCS12_KEY_MALFORMED = 19,         /* a private key opens, but is not a PKCS#8 key */
+    PKCS12_RANDOM_SHORT = 20,          /* too few random octets */
+    PKCS12_TOO_LONG = 21,              /* the store has more than 16,777,215 octets */
+    PKCS12_PASSWORD = 22,              /* a password is not UTF-8, or is too long */
+    PKCS12_PEM = 30,                   /* a PEM text has a block that is not whole, or no Base64 */
+    PKCS12_KEY_MISSING = 31,           /* the PEM text has no private key */
+    PKCS12_MANY_KEYS = 32,             /* the PEM text has more than one private key */
+    PKCS12_KEY_FORM = 33,              /* the private key is not what its label names */
+    PKCS12_KEY_PASSWORD = 34,          /* the private key does not open under its password */
+    PKCS12_CERTIFICATE_MISSING = 35,   /* the PEM text has no certificate */
+    PKCS12_CERTIFICATE_MALFORMED = 36, /* what the PEM text has as a certificate is no X.509 certificate */
+    PKCS12_OTHER_KEY = 37,             /* each certificate is that of another private key */
+    PKCS12_NAME = 38,                  /* the friendly name is not UTF-8 */
+    PKCS12_ROOM = 100                  /* the output is too short */
 };
 
 /* What a number means, in English and for a message, also for one that this header does not have. It is C in this header, as the
@@ -59,6 +71,7 @@ static inline const char *pkcs12_strerror(uint32_t number)
     case PKCS12_DONE: return "done";
     case PKCS12_ROUNDS: return "the rounds are not 1 to 100,000,000";
     case PKCS12_MEMORY: return "out of memory";
+    case PKCS12_PASSWORD_MISSING: return "the private key is encrypted, and no password is given";
     case PKCS12_MALFORMED: return "no PKCS#12 store in DER";
     case PKCS12_UNSUPPORTED: return "something is of a kind, or under an algorithm, that is not opened";
     case PKCS12_MAC_MISSING: return "no MAC, so a change to the store would go unnoticed";
@@ -71,7 +84,16 @@ static inline const char *pkcs12_strerror(uint32_t number)
     case PKCS12_KEY_MALFORMED: return "a private key opens, but is not a PKCS#8 key";
     case PKCS12_RANDOM_SHORT: return "too few random octets";
     case PKCS12_TOO_LONG: return "the store has more than 16,777,215 octets";
-    case PKCS12_PASSWORD: return "a password of a store is not UTF-8, or is too long";
+    case PKCS12_PASSWORD: return "a password is not UTF-8, or is too long";
+    case PKCS12_PEM: return "a PEM text has a block that is not whole, or no Base64";
+    case PKCS12_KEY_MISSING: return "the PEM text has no private key";
+    case PKCS12_MANY_KEYS: return "the PEM text has more than one private key";
+    case PKCS12_KEY_FORM: return "the private key is not what its label names";
+    case PKCS12_KEY_PASSWORD: return "the private key does not open under its password";
+    case PKCS12_CERTIFICATE_MISSING: return "the PEM text has no certificate";
+    case PKCS12_CERTIFICATE_MALFORMED: return "what the PEM text has as a certificate is no X.509 certificate";
+    case PKCS12_OTHER_KEY: return "each certificate is that of another private key";
+    case PKCS12_NAME: return "the friendly name is not UTF-8";
     case PKCS12_ROOM: return "the output is too short";
     default: return "a refusal that this version of the header does not know";
     }
@@ -181,10 +203,45 @@ uint32_t pkcs12_upgrade(
     const uint8_t *random, size_t random_len,
     uint8_t *output, size_t output_len, size_t *needed);
 
+/* Makes a store of the private key and of the certificates that PEM texts have (RFC 7468), and writes it, in DER. What is before,
+ * between and after the blocks of a text is passed over, and so are blocks of other labels.
+ *
+ *   key           the text that has the private key, one alone: PRIVATE KEY; ENCRYPTED PRIVATE KEY, under PBES2 with PBKDF2;
+ *                 RSA PRIVATE KEY; or EC PRIVATE KEY that names its curve
+ *   certificates  the text that has the certificates, CERTIFICATE, at least one; it may be the same text
+ *   key_password  that of a private key that is encrypted, in UTF-8; none where key_password_len is 0
+ *   name          the friendly name of the private key and of its certificate, in UTF-8; none where name_len is 0
+ *   password      that of the store, in UTF-8
+ *   rounds        of PBKDF2 for the private key, for the certificates and for the MAC, 1 to 100,000,000: opening the store takes
+ *                 three times as many steps
+ *   limit         the most rounds of PBKDF2 that opening the private key may take; PKCS12_WORK_LIMIT is returned for more
+ *   random        PKCS12_CREATE_RANDOM octets: with so many PKCS12_RANDOM_SHORT is never returned
+ *
+ * The certificate of the private key is the first that has the same public key; or, where the text of the private key does not
+ * tell its public key, as that of Ed25519 most often, the first of the same algorithm. After it come the others, each once: those
+ * of its chain, from leaf to root, found by the names of issuers, and then those that are in no chain. Local key ids bind the
+ * private key to its certificate. Private key and certificates are each encrypted under PBES2, PBKDF2 with HMAC-SHA-256 and
+ * AES-256-CBC, and the MAC is made with HMAC-SHA-256: so OpenSSL 3 makes stores. The store opens under its password to exactly
+ * this private key and these certificates.
+ *
+ * *needed is at most PKCS12_STORE_MAX: so much room is always enough, and PKCS12_TOO_LONG is returned where the store would have
+ * more octets. With less room, call again after PKCS12_ROOM with *needed octets. Java opens no such store under a password that is
+ * not ASCII. The rest is as for pkcs12_transfer_pem. */
+#define PKCS12_CREATE_RANDOM 72
+uint32_t pkcs12_create_pem(
+    const uint8_t *key, size_t key_len,
+    const uint8_t *certificates, size_t certificates_len,
+    const uint8_t *key_password, size_t key_password_len,
+    const uint8_t *name, size_t name_len,
+    const uint8_t *password, size_t password_len,
+    uint32_t rounds, uint32_t limit,
+    const uint8_t *random, size_t random_len,
+    uint8_t *output, size_t output_len, size_t *needed);
+
 /* ---- The same in one step, on the C side: written in C, and no part of what is proved.
  *
- * Define PKCS12_ONE_STEP before this header is included. On PKCS12_DONE *text, or *changed, is from malloc and has a NUL after
- * its *len octets: free it. Else it is NULL. The random octets are the system's. */
+ * Define PKCS12_ONE_STEP before this header is included. On PKCS12_DONE *text, *changed or *store is from malloc and has a NUL
+ * after its *len octets: free it. Else it is NULL. The random octets are the system's. */
 #ifdef PKCS12_ONE_STEP
 #include <stdlib.h>
 #include <sys/random.h>
@@ -366,6 +423,45 @@ static inline uint32_t pkcs12_upgrade_new(
     uint32_t rounds, uint64_t limit, uint8_t **changed, size_t *len)
 {
     return pkcs12_changed_new(store, store_len, password, password_len, new_password, new_password_len, &rounds, limit, changed, len);
+}
+
+/* How much room is tried first for a store of texts and a name of so many octets: more than most take. */
+static inline size_t pkcs12_create_room(size_t key_len, size_t certificates_len, size_t name_len)
+{
+    if (key_len > PKCS12_STORE_MAX || certificates_len > PKCS12_STORE_MAX || name_len > PKCS12_STORE_MAX)
+        return PKCS12_STORE_MAX;
+    return 4096 + key_len + certificates_len + 4 * name_len;
+}
+
+/* `key_password` and `name` may be NULL, which is none. */
+static inline uint32_t pkcs12_create_pem_new(
+    const uint8_t *key, size_t key_len,
+    const uint8_t *certificates, size_t certificates_len,
+    const uint8_t *key_password, size_t key_password_len,
+    const uint8_t *name, size_t name_len,
+    const uint8_t *password, size_t password_len,
+    uint32_t rounds, uint32_t limit, uint8_t **store, size_t *len)
+{
+    static const uint8_t none[1] = {0};
+    uint8_t random[PKCS12_CREATE_RANDOM];
+    size_t room = pkcs12_create_room(key_len, certificates_len, name_len), needed = 0;
+    uint32_t number;
+    *store = NULL;
+    *len = 0;
+    do {
+        uint8_t *output = (uint8_t *)malloc(room + 1);
+        if (!output)
+            number = PKCS12_MEMORY;
+        else if (!pkcs12_random(random, sizeof random))
+            number = PKCS12_RANDOM_SHORT;
+        else
+            number = pkcs12_create_pem(key, key_len, certificates, certificates_len, key_password ? key_password : none,
+                key_password ? key_password_len : 0, name ? name : none, name ? name_len : 0, password, password_len, rounds,
+                limit, random, sizeof random, output, room, &needed);
+        number = pkcs12_handed_on(number, output, needed, store, len);
+        room = needed;
+    } while (number == PKCS12_ROOM);
+    return number;
 }
 #endif
 

@@ -16,27 +16,27 @@ use Rattle.pkcs12_c.specs.declared.refusal.Refusal.{Refusal}
 use Rattle.pkcs12_c.specs.declared.refusal.Refusal.TheVariants.{Rounds, Password, Store, Room}
 use Rattle.pkcs12_c.proofs.Numbers.{numbers_tell}
 
-abbrev Answer : Type 0
+abbrev pub Answer : Type 0
 Answer = Result (Unit {0}) Refusal
 
 -- ---- two answers are not one
 
-done_is_not : (r : Answer) (e : Refusal) → r ≡ Ok tt → r ≡ Err e → ⊥
+pub done_is_not : (r : Answer) (e : Refusal) → r ≡ Ok tt → r ≡ Err e → ⊥
 done_is_not r e h k = absurd cc
 
-rounds_is_not_room : (r : Answer) → r ≡ Err Rounds → r ≡ Err Room → ⊥
+pub rounds_is_not_room : (r : Answer) → r ≡ Err Rounds → r ≡ Err Room → ⊥
 rounds_is_not_room r h k = absurd cc
 
-password_is_not_room : (r : Answer) → r ≡ Err Password → r ≡ Err Room → ⊥
+pub password_is_not_room : (r : Answer) → r ≡ Err Password → r ≡ Err Room → ⊥
 password_is_not_room r h k = absurd cc
 
-store_is_not_room : (r : Answer) (e : TransferError) → r ≡ Err (Store e) → r ≡ Err Room → ⊥
+pub store_is_not_room : (r : Answer) (e : TransferError) → r ≡ Err (Store e) → r ≡ Err Room → ⊥
 store_is_not_room r e h k = absurd cc
 
-rounds_is_not_store : (r : Answer) (e : TransferError) → r ≡ Err Rounds → r ≡ Err (Store e) → ⊥
+pub rounds_is_not_store : (r : Answer) (e : TransferError) → r ≡ Err Rounds → r ≡ Err (Store e) → ⊥
 rounds_is_not_store r e h k = absurd cc
 
-password_is_not_store : (r : Answer) (e : TransferError) → r ≡ Err Password → r ≡ Err (Store e) → ⊥
+pub password_is_not_store : (r : Answer) (e : TransferError) → r ≡ Err Password → r ≡ Err (Store e) → ⊥
 password_is_not_store r e h k = absurd cc
 
 same_cause : (r : Answer) (e f : TransferError) → r ≡ Err (Store e) → r ≡ Err (Store f) → e ≡ f

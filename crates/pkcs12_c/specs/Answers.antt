@@ -11,13 +11,17 @@ use Rattle.rekey_core.specs.declared.kinds.Kinds.{Kinds}
 use Rattle.rekey_core.specs.declared.kinds.Kinds.TheVariants.{Kept, Renewed}
 use Rattle.rekey_core.specs.declared.kinds.Rounds.{Rounds as Count}
 use Rattle.pkcs12_c.specs.Changed.{ChangesDrawnTo, IsRefusedChangeTo}
+use Rattle.pkcs12_c.specs.Created.{Asked, CreatesDrawn, IsRefusedCreation}
 use Rattle.pkcs12_c.specs.Drawn.{IsRefusedDrawn, TransfersDrawn}
+use Rattle.pkcs12_c.specs.Given.{IsGivenText}
 use Rattle.pkcs12_c.specs.Listed.{ListsWithin}
 use Rattle.pkcs12_c.specs.Opened.{IsRefusedOpening, OpensWithin}
 use Rattle.pkcs12_c.specs.Password.{IsPassword}
 use Rattle.pkcs12_c.specs.PemText.{opened_text, pem_text}
+use Rattle.pkcs12_c.specs.Refusal.{creation_refusal}
+use Rattle.pkcs12_c.specs.declared.created.CreationRefusal.{CreationRefusal}
 use Rattle.pkcs12_c.specs.declared.refusal.Refusal.{Refusal}
-use Rattle.pkcs12_c.specs.declared.refusal.Refusal.TheVariants.{Rounds, Password, Store, Room}
+use Rattle.pkcs12_c.specs.declared.refusal.Refusal.TheVariants.{Rounds, Password, Name, Store, Room}
 
 -- The rounds are those that a document may have.
 abbrev pub AreRounds : ℕ → Type 0
@@ -148,3 +152,35 @@ pub record UpgradeAnswers (b p q random : List ℕ) (rounds limit : ℕ) (old ne
   pub rounds_first : (AreRounds rounds → ⊥) → Refuses old new needed r Rounds
   pub then_change : AreRounds rounds → (k : Count) × (k.count ≡ rounds)
       × ChangeAnswersTo (Renewed k) b p q random limit old new needed r
+
+-- ---- A store of PEM texts
+
+-- what is returned for what making a store came to: its text, or the refusal
+abbrev pub FollowsCreation : Result (List ℕ) CreationRefusal → List ℕ → List ℕ → ℕ
+    → Result (Unit {0}) Refusal → Type 0
+FollowsCreation (Ok b) old new needed r = Fills b old new needed r
+FollowsCreation (Err e) old new needed r = Refuses old new needed r (creation_refusal e)
+
+-- What making a store came to, and what was returned for it.
+pub record StoreCreated (a : Asked) (random old new : List ℕ) (needed : ℕ)
+    (r : Result (Unit {0}) Refusal) : Type 0 where
+  pub created : Result (List ℕ) CreationRefusal
+  -- it is made of what the PEM texts have, and opens to exactly that
+  pub creates : IfOk created (CreatesDrawn a random)
+  -- it is refused for its first cause, or there was no memory
+  pub refused : IfErr created (IsRefusedCreation a random)
+  pub follows : FollowsCreation created old new needed r
+
+-- The result of making a store: the rounds are tested first, then its password, then that of the
+-- private key, then the name, and then the PEM texts.
+pub record CreateAnswers (a : Asked) (random old new : List ℕ) (needed : ℕ)
+    (r : Result (Unit {0}) Refusal) : Type 0 where
+  pub rounds_first : (AreRounds a.rounds → ⊥) → Refuses old new needed r Rounds
+  pub then_password : AreRounds a.rounds → (IsPassword a.password → ⊥)
+      → Refuses old new needed r Password
+  pub then_key_password : AreRounds a.rounds → IsPassword a.password
+      → (IsGivenText a.key_password → ⊥) → Refuses old new needed r Password
+  pub then_name : AreRounds a.rounds → IsPassword a.password → IsGivenText a.key_password
+      → (IsGivenText a.name → ⊥) → Refuses old new needed r Name
+  pub then_store : AreRounds a.rounds → IsPassword a.password → IsGivenText a.key_password
+      → IsGivenText a.name → StoreCreated a random old new needed r

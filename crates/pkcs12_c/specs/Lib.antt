@@ -5,5 +5,7 @@ pub mod Changed
 pub mod Opened
 pub mod Listed
 pub mod PemText
+pub mod Given
+pub mod Created
 pub mod Answers
 pub mod Room

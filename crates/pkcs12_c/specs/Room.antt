@@ -39,3 +39,14 @@ StoresOutnumber = (b p random : List ℕ) (limit : ℕ) → IsShort b p limit ra
 abbrev pub ChangesDrawWithin : Type 0
 ChangesDrawWithin = (b p : List ℕ) (limit : ℕ) (a : IsAllowed b p limit)
     → draws b p limit a ≤ length b
+
+-- A store that is made needs no more room than a store may have octets, and with an output of so many
+-- the number is not 100, which says that the output is too short.
+pub record HasStoreRoom (output needed number : ℕ) : Type 0 where
+  pub within : needed ≤ store_limit
+  pub enough : store_limit ≤ output → number ≢ 100
+
+-- the random octets of a store of one private key: 32 for the key, 32 for the certificates, and 8 for
+-- the MAC
+abbrev pub key_draws : ℕ
+key_draws = 72

@@ -1,12 +1,14 @@
 //! The exports, and the typed calls that they number.
-ghost use Rattle.std.specs.Prelude.{◌≡◌, ◌≢◌, ◌≤◌, ◌⊎◌, IfNone, IfSome, Result, length};
-ghost use Rattle.pkcs12_c.specs.Answers.{AreRounds, ChangeAnswers, ChangeAnswersTo, ListAnswers, OpenAnswers, TransferAnswers, UpgradeAnswers};
+ghost use Rattle.std.specs.Prelude.{◌≡◌, ◌≢◌, ◌≤◌, ◌⊎◌, Result, length};
+ghost use Rattle.pkcs12_c.specs.Answers.{ChangeAnswers, ChangeAnswersTo, CreateAnswers, ListAnswers, OpenAnswers, TransferAnswers, UpgradeAnswers};
+ghost use Rattle.pkcs12_c.specs.Given.{given};
 ghost use Rattle.rekey_core.specs.declared.kinds.Kinds.TheVariants.{Renewed};
 ghost use Rattle.pkcs12_c.specs.Refusal.{answer_number};
-ghost use Rattle.pkcs12_c.specs.Room.{HasRoom, room_for};
+ghost use Rattle.pkcs12_c.specs.Room.{HasRoom, HasStoreRoom, key_draws, room_for};
 ghost use Rattle.pkcs12_c.specs.declared.refusal.Refusal.{Refusal};
 
 use crate::changed::changed;
+use crate::create_pem::create_pem;
 use crate::drawn::transferred;
 use crate::filled::{filled, filled_within};
 use crate::laws::stores_suffice;
@@ -15,13 +17,11 @@ use crate::opening::opened;
 use crate::password::password_of;
 use crate::pem::{opened_text_of, pem_text_of};
 use crate::refusal::{Refusal, number_of};
+use crate::rounds::{ROUNDS, rounds_of};
 use crate::upgraded::upgraded;
 use rekey_core::Rounds;
 use std::alloc::Global;
 use transfer::TransferError;
-
-/// The most rounds of PBKDF2 in a document.
-const ROUNDS: u32 = 100_000_000;
 
 /// The most octets of a store.
 const STORE: usize = 16_777_215;
@@ -135,17 +135,6 @@ fn rekey(
     }
 }
 
-/// So many rounds; none where they are not 1 to 100,000,000.
-fn rounds_of(rounds: u32) -> Option<Rounds>
-    ensures some { IfSome result (λ k. (k.count ≡ rounds) × AreRounds rounds) }
-    ensures none { IfNone result (AreRounds rounds → ⊥) }
-{
-    if rounds > ROUNDS {
-        return None;
-    }
-    Rounds::new(rounds)
-}
-
 /// The store under another password, with parts and a MAC of so many rounds.
 fn upgrade_to(
     alloc: Global,
@@ -217,9 +206,9 @@ fn upgrade(
 /// The version of the interface that `pkcs12.h` declares.
 #[unsafe(no_mangle)]
 pub extern "C" fn pkcs12_version() -> u32
-    ensures { result ≡ 2 }
+    ensures { result ≡ 3 }
 {
-    2
+    3
 }
 
 /// `pkcs12_room` of `pkcs12.h`.
@@ -352,6 +341,49 @@ pub extern "C" fn pkcs12_upgrade(
         store,
         password,
         new_password,
+        rounds,
+        limit,
+        random,
+        output,
+        needed,
+    ))
+}
+
+/// `pkcs12_create_pem` of `pkcs12.h`.
+#[unsafe(no_mangle)]
+pub extern "C" fn pkcs12_create_pem(
+    alloc: Global,
+    key: &[u8],
+    certificates: &[u8],
+    key_password: &[u8],
+    name: &[u8],
+    password: &[u8],
+    rounds: u32,
+    limit: u32,
+    random: &[u8],
+    output: &mut [u8],
+    needed: &mut usize,
+) -> u32
+    ensures answers { (r : Result (Unit {0}) Refusal) × (result ≡ answer_number r)
+        × CreateAnswers (record {
+          key = key.now;
+          certificates = certificates.now;
+          key_password = given key_password.now;
+          name = given name.now;
+          limit = limit;
+          password = password.now;
+          rounds = rounds;
+        }) random.now output.old output.new needed.new r }
+    ensures room { HasStoreRoom (length output.old) needed.new result }
+    ensures random { key_draws ≤ length random.now → result ≢ 20 }
+{
+    number_of(create_pem(
+        alloc,
+        key,
+        certificates,
+        key_password,
+        name,
+        password,
         rounds,
         limit,
         random,

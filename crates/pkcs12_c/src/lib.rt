@@ -4,13 +4,17 @@
 #![tactic(auto)]
 
 mod changed;
+mod create_pem;
+mod created;
 mod drawn;
 mod exports;
 mod filled;
+mod given;
 pub mod laws;
 mod listed;
 mod opening;
 mod password;
 mod pem;
 mod refusal;
+mod rounds;
 mod upgraded;

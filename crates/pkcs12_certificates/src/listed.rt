@@ -1,9 +1,10 @@
 //! The certificates of an opened store, as `list` shows them.
 use asn1_core::{Items, Text};
 use inventory_core::{CertificateView, Parent, SubjectIndex};
-use p12::{CertBag, SafeBag, SafeBagKind};
+use p12::{BagView, BagsView};
 use sha2::{Digest, Sha256};
 use std::alloc::{AllocError, Global};
+use transfer::OpenedSafe;
 use x509_names::{Parts, is_time, name_text, time_text};
 
 /// The certificates of a store, in its order, and what could be read of each.
@@ -68,14 +69,13 @@ impl Validity {
     }
 }
 
-/// Adds the certificates among these bags.
+/// Adds the certificates among bags.
 fn add_bags<'a>(
     certificates: &mut ReadCertificates<'a>,
-    bags: &'a [SafeBag],
+    mut bags: BagsView<'a>,
 ) -> Result<(), AllocError> {
-    for bag in bags {
-        if let SafeBagKind::CertBag(CertBag::X509(octets)) = &bag.bag {
-            let octets = octets.as_slice();
+    while let Some(bag) = bags.next() {
+        if let BagView::X509(octets) = bag {
             certificates.octets.push(octets)?;
             certificates
                 .views
@@ -85,17 +85,17 @@ fn add_bags<'a>(
     Ok(())
 }
 
-/// The X.509 certificates among the bags of an opened store.
+/// The X.509 certificates among the bags of an opened store, in whose text they stay.
 pub fn read_certificates<'a>(
     alloc: Global,
-    contents: &'a [Items<SafeBag>],
+    opened: &'a OpenedSafe,
 ) -> Result<ReadCertificates<'a>, AllocError> {
     let mut certificates = ReadCertificates {
         octets: Vec::new(alloc),
         views: Vec::new(alloc),
     };
-    for bags in contents {
-        add_bags(&mut certificates, bags.as_slice())?;
+    for index in 0..opened.number_of_contents() {
+        add_bags(&mut certificates, opened.bags(index))?;
     }
     Ok(certificates)
 }

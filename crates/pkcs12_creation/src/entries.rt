@@ -1,14 +1,10 @@
 //! What a store is made of, as the files have it.
-ghost use Rattle.std.specs.Prelude.{◌<◌, length};
-
 use crate::certificates::certificates_of_file;
-use crate::chain_order::chain_order;
-use crate::each_once::each_once;
 use crate::input::read_input;
-use crate::keys::{KeyOpening, key_of_file};
-use crate::own_certificate::{Choice, choice_of, matches_of};
-use asn1_core::{Items, Octets, Text};
+use crate::keys::key_of_file;
+use asn1_core::Octets;
 use create_core::{CertificateEntry, KeyEntry};
+use pem_stores::{KeyOpening, OwnEntry, Owned, further_of, own_entry};
 use pkcs12_arguments::{Create, Pair};
 use pkcs12_opening::{Ending, Failure};
 use std::alloc::{AllocError, Global};
@@ -43,35 +39,11 @@ fn of_another_key(alloc: Global, pair: &Pair<'_>) -> Failure {
     )
 }
 
-/// A name as it is kept.
-fn text_of(alloc: Global, name: Option<&str>) -> Result<Option<Text>, AllocError> {
-    match name {
-        Some(name) => Ok(Some(Text::from_text(alloc, name)?)),
-        None => Ok(None),
-    }
-}
-
 impl Gathered {
-    /// Adds the entry of a key with its certificate, which is at this place of its file; the others are further ones.
-    fn add_entry(
-        &mut self,
-        alloc: Global,
-        key: Octets,
-        certificates: Vec<Octets>,
-        place: usize,
-        name: Option<&str>,
-    ) -> Result<(), Failure>
-        requires { place < length certificates.items }
-    {
-        let name = text_of(alloc, name)?;
-        let mut certificates = certificates;
-        let certificate = certificates.remove(place);
-        self.keys.push(KeyEntry {
-            key,
-            certificate,
-            name,
-        })?;
-        for other in certificates {
+    /// Adds a key with its certificate; the certificates beside that are further ones.
+    fn add_entry(&mut self, own: OwnEntry) -> Result<(), AllocError> {
+        self.keys.push(own.entry)?;
+        for other in own.others {
             self.further.push(other)?;
         }
         Ok(())
@@ -89,38 +61,27 @@ impl Gathered {
         let key = key_of_file(alloc, pair.key, text.as_slice(), opening)?;
         let text = read_input(rt, pair.certificate)?;
         let certificates = certificates_of_file(alloc, pair.certificate, text.as_slice())?;
-        let matches = matches_of(alloc, key.as_slice(), certificates.as_slice())?;
-        let place = match choice_of(matches.as_slice()) {
-            Choice::Own(place) => place,
-            Choice::Untold(place) => {
+        let own = match own_entry(alloc, key, certificates, pair.name)? {
+            Owned::Own(own) => own,
+            Owned::Untold(own) => {
                 let shown = Printable(pair.certificate);
                 let key = Printable(pair.key);
                 writeln!(
                     self.warnings,
                     "pkcs12: warning: whether the certificate in {shown} is of the private key in {key} cannot be told from the files"
                 )?;
-                place
+                own
             }
-            Choice::Nowhere => return Err(of_another_key(alloc, pair)),
+            Owned::Nowhere => return Err(of_another_key(alloc, pair)),
         };
-        self.add_entry(alloc, key, certificates, place, pair.name)
+        Ok(self.add_entry(own)?)
     }
 
     /// The entries, with the further certificates in their order.
     fn into_entries(self, alloc: Global) -> Result<Entries, AllocError> {
-        let all = each_once(alloc, self.keys.as_slice(), self.further.as_slice())?;
-        let order = chain_order(alloc, all.as_slice(), self.keys.len())?;
-        let mut certificates = Vec::new(alloc);
-        for place in &order.places {
-            if let Some(certificate) = all.get(*place) {
-                certificates.push(CertificateEntry {
-                    certificate: certificate.try_clone(alloc)?,
-                    name: None,
-                })?;
-            }
-        }
+        let further = further_of(alloc, self.keys.as_slice(), self.further.as_slice())?;
         let mut warnings = self.warnings;
-        let apart = order.places.len().saturating_sub(order.chained);
+        let apart = further.apart;
         if apart > 0 {
             writeln!(
                 warnings,
@@ -129,7 +90,7 @@ impl Gathered {
         }
         Ok(Entries {
             keys: self.keys,
-            certificates,
+            certificates: further.certificates,
             warnings,
         })
     }

@@ -1,18 +1,14 @@
-//! What `pkcs12 create` makes of PEM files: which private keys and certificates they have, which of them belong together, and in which
-//! order they are in the store.
+//! What `pkcs12 create` makes of PEM files: which are read, what is said of each, and the store.
 #![tactic(auto)]
 
 mod certificates;
-mod chain_order;
 mod creation;
-mod each_once;
 mod entries;
 mod input;
 mod key_failure;
 mod keys;
 mod names;
 mod not_pem;
-mod own_certificate;
 
 pub use creation::{Material, created};
 pub use entries::{Entries, entries_of};

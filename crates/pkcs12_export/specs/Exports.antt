@@ -6,10 +6,9 @@ use Rattle.pkcs12_arguments.specs.declared.target.Part.{Part}
 use Rattle.pkcs12_arguments.specs.declared.target.Part.TheVariants.{Whole, Keys, Certificates}
 use Rattle.pkcs12_opening.specs.declared.ending.Ending.{Ending}
 use Rattle.pkcs12_opening.specs.declared.ending.Ending.TheVariants.{NewPasswordMissing, NotExported, TooManyFiles, SealLimit, Refused}
-use Rattle.pkcs12_opening.specs.Ending.{FailsToOpen}
+use Rattle.pkcs12_opening.specs.Opens.{FailsToOpen, Opens}
 use Rattle.transfer.specs.Opening.{all_certificates}
 use Rattle.transfer.specs.Sealing.{SealsAll}
-use Rattle.transfer.specs.Verdicts.{StoreOpens}
 use Rattle.transfer.specs.declared.store.error.TransferError.TheVariants.{Rng}
 use Rattle.pkcs12_inspection.specs.Listed.{others_in}
 
@@ -79,7 +78,7 @@ pub record Exports (asked : Export) (new_password : Option (List ℕ)) (store pa
   pub contents : List (List SafeBag)
   pub all_keys : List (List ℕ)
   pub work : ℕ
-  pub opens : StoreOpens store password contents all_keys work
+  pub opens : Opens asked.modern_only store password contents all_keys work
   pub within : work ≤ asked.limit
   pub in_order : certificates ≡ all_certificates contents
   pub keys : List (List ℕ)
@@ -105,7 +104,7 @@ pub record FailsOpened (asked : Export) (new_password : Option (List ℕ)) (stor
   pub contents : List (List SafeBag)
   pub all_keys : List (List ℕ)
   pub work : ℕ
-  pub opens : StoreOpens store password contents all_keys work
+  pub opens : Opens asked.modern_only store password contents all_keys work
   pub within : work ≤ asked.limit
   pub keys : List (List ℕ)
   pub part : keys ≡ keys_in asked.target.part all_keys
@@ -117,5 +116,5 @@ pub record FailsOpened (asked : Export) (new_password : Option (List ℕ)) (stor
 -- Each failure of an export before anything is written; out of memory is one of FailsToOpen.
 abbrev pub FailsToExport : Export → Option (List ℕ) → List ℕ → List ℕ → Ending → Type 0
 FailsToExport asked new_password store password ending =
-    FailsToOpen store password asked.limit ending
+    FailsToOpen asked.modern_only store password asked.limit ending
     ⊎ FailsOpened asked new_password store password ending

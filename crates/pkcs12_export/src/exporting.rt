@@ -11,7 +11,8 @@ use pkcs12_arguments::{Export, Part};
 use pkcs12_inspection::{Listing, not_exported};
 use pkcs12_opening::{
     Counted, Ending, Failure, Given, NewPassword, Surroundings, is_long_sealing,
-    is_not_given_again, listing_of, opened, read_password, sealing_time, without_nul,
+    is_not_given_again, listing_of, opened, read_password, sealing_time, tell_old_parts,
+    without_nul,
 };
 use std::alloc::Global;
 use std::rt::{Env, Files};
@@ -235,10 +236,11 @@ pub fn open_and_seal<R: Files + Eprint + AllocGlobal + Drop>(
     ensures err { IfErr result (λ f. FailsToExport asked.now new_password.now
         given.store.items given.password f.ending) }
 {
-    let opened = opened(rt.alloc(), &given, asked.limit)?;
+    let opened = opened(rt.alloc(), &given, asked.limit, asked.modern_only)?;
+    tell_old_parts(rt, &given, &opened)?;
     drop(given);
-    let found = listing_of(rt.alloc(), &opened)?;
-    let opened = part_of(rt.alloc(), opened, asked.target.part);
+    let found = listing_of(rt.alloc(), &opened.safe)?;
+    let opened = part_of(rt.alloc(), opened.safe, asked.target.part);
     within_bounds(rt.alloc(), asked, &found, opened.number_of_keys())?;
     let transferred = sealed_anew(rt, around, asked, opened, new_password)?;
     Ok(Exported { transferred, found })

@@ -1,4 +1,5 @@
 //! The names of algorithms.
+use crate::old_cipher::{OldCipher, rounds_of};
 use asn1_core::{
     Error, ObjectIdentifier, SliceReader, Tag, read_identifier, read_inner, read_uint,
 };
@@ -210,6 +211,33 @@ impl fmt::Display for InRounds {
     }
 }
 
+/// An algorithm by its name alone where that is known, as that of a MAC.
+fn named_in_use<W: fmt::Write>(
+    algorithm: &AlgorithmView<'_>,
+    f: &mut fmt::Formatter<W>,
+) -> fmt::Result {
+    if let AlgorithmView::Other { algorithm_type, .. } = algorithm
+        && *algorithm_type != PBES2_OID
+        && let Some(name) = name_of(*algorithm_type)
+    {
+        return f.write_str(name);
+    }
+    write!(f, "{}", AlgorithmName(algorithm))
+}
+
+/// An old cipher, with its rounds.
+fn old_in_use<W: fmt::Write>(
+    cipher: OldCipher,
+    algorithm: &AlgorithmView<'_>,
+    f: &mut fmt::Formatter<W>,
+) -> fmt::Result {
+    let name = cipher.name();
+    match rounds_of(algorithm) {
+        Some(count) => write!(f, "{name} with a key from SHA-1, {}", InRounds(count)),
+        None => f.write_str(name),
+    }
+}
+
 /// An algorithm that is opened, with its rounds and without its identifier; another by its name.
 #[derive(Drop)]
 pub struct InUse<'a>(pub &'a AlgorithmView<'a>);
@@ -234,7 +262,10 @@ impl fmt::Display for InUse<'_> {
                 let cipher = name_of(encryption.oid()).unwrap_or("another cipher");
                 write!(f, "PBES2 with PBKDF2 ({prf}, {rounds}) and {cipher}")
             }
-            other => AlgorithmName(other).fmt(f),
+            other => match OldCipher::of(other) {
+                Some(cipher) => old_in_use(cipher, other, f),
+                None => named_in_use(other, f),
+            },
         }
     }
 }

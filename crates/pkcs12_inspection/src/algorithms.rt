@@ -2,6 +2,8 @@
 use crate::algorithm_name::{InRounds, InUse};
 use crate::inspection::contents_in;
 use crate::json_text::add_comma;
+use crate::old_cipher::OldCipher;
+use crate::old_parts::OldParts;
 use p12::{AlgorithmView, BagView, BagsView, ContentView, ContentsView, StoreView};
 use pkcs5::pbes2::{EncryptionScheme, Kdf, Pbkdf2Prf};
 use std::alloc::{AllocError, Global};
@@ -21,6 +23,9 @@ pub struct Algorithms {
     mac: Option<String>,
     /// Whether one of them is of before AES and SHA-256.
     has_old: bool,
+    /// Whether the store is one that is opened as an old one alone.
+    is_old_store: bool,
+    old: OldParts,
 }
 
 /// Whether an algorithm is Triple DES or DES, or made with SHA-1.
@@ -39,7 +44,8 @@ fn is_old(algorithm: &AlgorithmView<'_>) -> bool {
                 )
         }
         AlgorithmView::Sha1 | AlgorithmView::Rc2 { .. } | AlgorithmView::TripleDes { .. } => true,
-        AlgorithmView::Sha256 | AlgorithmView::Other { .. } => false,
+        AlgorithmView::Sha256 => false,
+        AlgorithmView::Other { .. } => OldCipher::of(algorithm).is_some(),
     }
 }
 
@@ -51,6 +57,8 @@ impl Algorithms {
             has_more: false,
             mac: None,
             has_old: false,
+            is_old_store: false,
+            old: OldParts::new(),
         };
         let Ok(view) = StoreView::parse(store) else {
             return Ok(found);
@@ -76,6 +84,9 @@ impl Algorithms {
         while let Some(content) = contents.next() {
             if let ContentView::Encrypted { algorithm, .. } = &content {
                 self.add(alloc, algorithm)?;
+                if let Some(cipher) = OldCipher::of(algorithm) {
+                    self.old.note_content(cipher);
+                }
             }
         }
         Ok(())
@@ -86,6 +97,9 @@ impl Algorithms {
         while let Some(bag) = bags.next() {
             if let BagView::Shrouded { algorithm, .. } = &bag {
                 self.add(alloc, algorithm)?;
+                if let Some(cipher) = OldCipher::of(algorithm) {
+                    self.old.note_key(cipher);
+                }
             }
         }
         Ok(())
@@ -110,7 +124,19 @@ impl Algorithms {
         Ok(())
     }
 
-    /// Adds a line for each of them, and one where `rekey --upgrade` would write the store under newer ones.
+    /// Notes of the opened store whether it is opened as an old one alone, whether it is in BER, and whether it was made with no password
+    /// at all.
+    pub fn note_store(&mut self, is_old: bool, ber: bool, no_password: bool) {
+        self.is_old_store = is_old;
+        self.old.note_store(ber, no_password);
+    }
+
+    /// What of the store is old, a line for each kind of thing, for the standard error.
+    pub fn old_lines(&self, alloc: Global) -> Result<String, AllocError> {
+        self.old.lines(alloc)
+    }
+
+    /// Adds a line for each of them, one for each old thing, and one that says how the store is written under newer ones.
     pub fn add_text(&self, text: &mut String) -> Result<(), AllocError> {
         for name in &self.encryption {
             writeln!(text, "encrypted under: {name}")?;
@@ -121,13 +147,21 @@ impl Algorithms {
         if let Some(mac) = &self.mac {
             writeln!(text, "MAC: {mac}")?;
         }
-        if self.has_old {
-            writeln!(
-                text,
-                "old: rekey --upgrade writes the store under AES-256 and SHA-256"
-            )?;
+        self.old.add_text(text)?;
+        if !self.has_old && !self.old.has_some() {
+            return Ok(());
         }
-        Ok(())
+        if self.is_old_store {
+            // `rekey` takes no store that is opened as an old one alone.
+            return writeln!(
+                text,
+                "old: create makes a store under AES-256 and SHA-256 of what export writes"
+            );
+        }
+        writeln!(
+            text,
+            "old: rekey --upgrade writes the store under AES-256 and SHA-256"
+        )
     }
 
     /// Adds the members of an object in JSON that say the same.
@@ -141,6 +175,7 @@ impl Algorithms {
         match &self.mac {
             Some(mac) => write!(text, "{}", JsonString(mac.as_str())),
             None => text.push_str("null"),
-        }
+        }?;
+        self.old.add_json(text)
     }
 }

@@ -54,10 +54,11 @@ fn damaged_in(
     list: &[u8],
     first: usize,
     password: &Password,
+    der_only: bool,
 ) -> Result<Option<String>, AllocError> {
     match ContentsView::parse(list) {
         Ok(contents) => damaged_among(alloc, contents, first, password),
-        Err(_) => match in_ber(alloc, list, first)? {
+        Err(_) => match in_ber(alloc, list, first, der_only)? {
             Some(text) => Ok(Some(text)),
             None => Ok(Some(format!(in alloc;
                 "the MAC agrees, but the contents are damaged: what is at octet {first} is no \
@@ -67,11 +68,12 @@ fn damaged_in(
     }
 }
 
-/// What is damaged in a store whose MAC agrees.
+/// What is damaged in a store whose MAC agrees; with `der_only` a list of contents in BER is.
 pub fn damaged(
     alloc: Global,
     store: &[u8],
     password: &Password,
+    der_only: bool,
 ) -> Result<Option<Detail>, AllocError> {
     let Ok(store) = StoreView::parse(store) else {
         return Ok(None);
@@ -79,7 +81,7 @@ pub fn damaged(
     let ContentView::Plain { content, at } = store.auth_safe else {
         return Ok(None);
     };
-    match damaged_in(alloc, content, at.start, password)? {
+    match damaged_in(alloc, content, at.start, password, der_only)? {
         Some(text) => Ok(Some(Detail::of(text))),
         None => Ok(None),
     }

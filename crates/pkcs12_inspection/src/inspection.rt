@@ -5,6 +5,7 @@ ghost use Rattle.p12.specs.AlgorithmView.{seen_algorithm};
 
 use crate::algorithm_name::{AlgorithmName, Named};
 use crate::detail::Detail;
+use crate::old_cipher::OldCipher;
 use crate::out_of_memory::out_of_memory;
 use asn1_core::Octets;
 use command_base::Password;
@@ -167,15 +168,24 @@ pub fn visible_work(store: &[u8]) -> u128 {
     }
 }
 
+/// Whether texts under an algorithm are opened, with `modern_only` in stores of today.
+fn is_opened(algorithm: &AlgorithmView<'_>, modern_only: bool) -> bool {
+    algorithm.is_openable() || !modern_only && OldCipher::of(algorithm).is_some()
+}
+
 /// The first private key among the bags in these octets that is under an algorithm that is not
 /// opened.
-fn key_not_opened(alloc: Global, text: &[u8]) -> Result<Option<String>, AllocError> {
+fn key_not_opened(
+    alloc: Global,
+    text: &[u8],
+    modern_only: bool,
+) -> Result<Option<String>, AllocError> {
     let Ok(mut bags) = BagsView::parse(text) else {
         return Ok(None);
     };
     while let Some(bag) = bags.next() {
         if let BagView::Shrouded { algorithm, .. } = bag
-            && !algorithm.is_openable()
+            && !is_opened(&algorithm, modern_only)
         {
             let name = AlgorithmName(&algorithm);
             return Ok(Some(format!(in alloc; "a private key is encrypted by {name}")?));
@@ -188,10 +198,11 @@ fn key_not_opened(alloc: Global, text: &[u8]) -> Result<Option<String>, AllocErr
 fn content_not_opened(
     alloc: Global,
     content: &ContentView<'_>,
+    modern_only: bool,
 ) -> Result<Option<String>, AllocError> {
     match content {
         ContentView::Plain { .. } => Ok(None),
-        ContentView::Encrypted { algorithm, .. } if algorithm.is_openable() => Ok(None),
+        ContentView::Encrypted { algorithm, .. } if is_opened(algorithm, modern_only) => Ok(None),
         ContentView::Encrypted { algorithm, .. } => {
             let name = AlgorithmName(algorithm);
             Ok(Some(format!(in alloc; "a content is encrypted by {name}")?))
@@ -207,9 +218,10 @@ fn content_not_opened(
 fn contents_not_opened(
     alloc: Global,
     mut contents: ContentsView<'_>,
+    modern_only: bool,
 ) -> Result<Option<String>, AllocError> {
     while let Some(content) = contents.next() {
-        if let Some(text) = content_not_opened(alloc, &content)? {
+        if let Some(text) = content_not_opened(alloc, &content, modern_only)? {
             return Ok(Some(text));
         }
     }
@@ -221,10 +233,11 @@ fn keys_not_opened(
     alloc: Global,
     mut contents: ContentsView<'_>,
     password: &Password,
+    modern_only: bool,
 ) -> Result<Option<String>, AllocError> {
     while let Some(content) = contents.next() {
         if let Some(plain) = plain_of(alloc, &content, password)? {
-            if let Some(text) = key_not_opened(alloc, plain.as_slice())? {
+            if let Some(text) = key_not_opened(alloc, plain.as_slice(), modern_only)? {
                 return Ok(Some(text));
             }
         }
@@ -247,11 +260,12 @@ fn outer_not_opened(alloc: Global, outer: &ContentView<'_>) -> Result<Option<Str
 }
 
 /// What of the store is unsupported, under its password: the kind of the outer content, the first content that is not opened, or
-/// the first key; None where nothing is.
+/// the first key; None where nothing is. With `modern_only` what is opened in old stores alone is unsupported.
 pub fn unsupported(
     alloc: Global,
     store: &[u8],
     password: &Password,
+    modern_only: bool,
 ) -> Result<Option<String>, AllocError> {
     let Ok(view) = StoreView::parse(store) else {
         return Ok(None);
@@ -260,12 +274,12 @@ pub fn unsupported(
         return Ok(Some(text));
     }
     if let Some(contents) = contents_in(&view) {
-        if let Some(text) = contents_not_opened(alloc, contents)? {
+        if let Some(text) = contents_not_opened(alloc, contents, modern_only)? {
             return Ok(Some(text));
         }
     }
     match contents_in(&view) {
-        Some(contents) => keys_not_opened(alloc, contents, password),
+        Some(contents) => keys_not_opened(alloc, contents, password, modern_only),
         None => Ok(None),
     }
 }
@@ -290,6 +304,6 @@ pub fn mac_unsupported(alloc: Global, store: &[u8]) -> Result<Option<Detail>, Al
     };
     let name = AlgorithmName(&digest);
     Ok(Some(Detail::of(format!(in alloc;
-        "the MAC of the store is made with {name}, and only SHA-1 and SHA-256 are supported"
+        "the MAC of the store is made with {name}, which is not supported"
     )?)))
 }

@@ -13,6 +13,8 @@ mod listing;
 mod no_password;
 mod no_store;
 mod not_der;
+mod old_cipher;
+mod old_parts;
 mod other_bag;
 mod out_of_memory;
 mod summary_text;

@@ -4,6 +4,7 @@ ghost use Rattle.std.specs.Prelude.{◌≡◌, ℕ, List, [], ◌∷◌, IfOk, O
 ghost use Rattle.std.specs.BTreeMap as tree;
 ghost use Rattle.std.specs.Cmp.Lexicographic.{slice_cmp};
 ghost use Rattle.std.specs.Ordering.{nat_cmp};
+ghost use Rattle.p12.specs.BagView.{AreParts, seen_parts};
 ghost use Rattle.pkcs12_inspection.specs.Listed.{Adds};
 ghost use Rattle.pkcs12_inspection.specs.Pairs.{first_of, has_key_id, pair_of};
 
@@ -11,7 +12,7 @@ use crate::certificate_shape::has_certificate_shape;
 use crate::other_bag::OtherBag;
 use crate::out_of_memory::out_of_memory;
 use asn1_core::{Items, Octets, Text};
-use p12::{BagsView, CertBag, SafeBag, SafeBagKind};
+use p12::{BagParts, BagView, BagsView};
 use std::alloc::{AllocError, Global};
 use std::collections::BTreeMap;
 use std::fmt;
@@ -28,15 +29,17 @@ pub struct Label {
 }
 
 /// Whether the bag is meant for a certificate and has other octets.
-fn is_no_certificate(bag: &SafeBagKind) -> bool {
+fn is_no_certificate(bag: &BagView<'_>) -> bool {
     match bag {
-        SafeBagKind::CertBag(CertBag::X509(octets)) => !has_certificate_shape(octets.as_slice()),
+        BagView::X509(octets) => !has_certificate_shape(octets),
         _ => false,
     }
 }
 
 /// The first friendly name of a bag.
-fn friendly_name_of(alloc: Global, bag: &SafeBag) -> Result<Option<Text>, AllocError> {
+fn friendly_name_of(alloc: Global, bag: &BagParts<'_>) -> Result<Option<Text>, AllocError>
+    requires { AreParts bag.now }
+{
     match bag.friendly_name(alloc) {
         Ok(name) => Ok(name),
         Err(error) => Err(out_of_memory(error)),
@@ -44,7 +47,9 @@ fn friendly_name_of(alloc: Global, bag: &SafeBag) -> Result<Option<Text>, AllocE
 }
 
 /// The first local key id of a bag.
-fn local_key_id_of(alloc: Global, bag: &SafeBag) -> Result<Option<Octets>, AllocError> {
+fn local_key_id_of(alloc: Global, bag: &BagParts<'_>) -> Result<Option<Octets>, AllocError>
+    requires { AreParts bag.now }
+{
     match bag.local_key_id(alloc) {
         Ok(id) => Ok(id),
         Err(error) => Err(out_of_memory(error)),
@@ -53,7 +58,11 @@ fn local_key_id_of(alloc: Global, bag: &SafeBag) -> Result<Option<Octets>, Alloc
 
 impl Label {
     /// The label of a bag: the first attribute of each kind.
-    pub fn of(alloc: Global, bag: &SafeBag) -> Result<Label, AllocError> {
+    ///
+    /// Caller: a walk over bags lent these parts.
+    pub fn of(alloc: Global, bag: &BagParts<'_>) -> Result<Label, AllocError>
+        requires { AreParts bag.now }
+    {
         Ok(Label {
             friendly_name: friendly_name_of(alloc, bag)?,
             local_key_id: local_key_id_of(alloc, bag)?,
@@ -126,27 +135,26 @@ impl Listing {
     }
 
     /// Adds the bags of a content that are still to come: a label for each X.509 certificate and each encrypted private key among
-    /// them. Each bag takes memory only while it is added.
+    /// them. A bag takes no memory beyond its label.
     pub fn add_bags(&mut self, alloc: Global, mut bags: BagsView<'_>) -> Result<(), AllocError>
         ensures { OnOk result (Adds self.old self.new bags.entry.left) }
     {
-        while let Some(bag) = bags.next_owned(alloc)? {
+        while let Some(bag) = bags.next_parts() {
             self.add(alloc, &bag)?;
         }
         Ok(())
     }
 
     /// Adds a bag.
-    fn add(&mut self, alloc: Global, bag: &SafeBag) -> Result<(), AllocError>
-        ensures { OnOk result (Adds self.old self.new (bag.now ∷ [])) }
+    fn add(&mut self, alloc: Global, bag: &BagParts<'_>) -> Result<(), AllocError>
+        requires { AreParts bag.now }
+        ensures { OnOk result (Adds self.old self.new (seen_parts bag.now ∷ [])) }
     {
         match &bag.bag {
-            SafeBagKind::CertBag(CertBag::X509(_)) => {
-                self.certificates.push(Label::of(alloc, bag)?)?;
-            }
-            SafeBagKind::Pkcs8ShroudedKeyBag(_) => self.keys.push(Label::of(alloc, bag)?)?,
-            SafeBagKind::CertBag(CertBag::SDSI(_)) => self.others.push(OtherBag::SdsiCertificate)?,
-            SafeBagKind::OtherBagKind(other) => self.others.push(OtherBag::of(other.bag_id))?,
+            BagView::X509(_) => self.certificates.push(Label::of(alloc, bag)?)?,
+            BagView::Shrouded { .. } => self.keys.push(Label::of(alloc, bag)?)?,
+            BagView::Sdsi(_) => self.others.push(OtherBag::SdsiCertificate)?,
+            BagView::Other { bag_id, .. } => self.others.push(OtherBag::of(*bag_id))?,
         }
         Ok(())
     }

@@ -114,26 +114,40 @@ fn other_len(alloc: Global, octets: &[u8]) -> Result<Option<Detail>, AllocError>
     }))
 }
 
-/// What says that octets are in BER, where they are: `first` is the number of their first octet.
-pub fn in_ber(alloc: Global, octets: &[u8], first: usize) -> Result<Option<String>, AllocError> {
+/// What says that octets are in BER, where they are: `first` is the number of their first octet. Where BER is read too, they are damaged.
+pub fn in_ber(
+    alloc: Global,
+    octets: &[u8],
+    first: usize,
+    der_only: bool,
+) -> Result<Option<String>, AllocError> {
     match not_der(octets) {
         Some(sign) => {
             let form = sign.form.name();
             let at = first.saturating_add(sign.at);
+            let why = if der_only {
+                "only DER is read"
+            } else {
+                "is damaged"
+            };
             Ok(Some(format!(in alloc;
-                "the store is in BER, and only DER is read: {form} begins at octet {at}"
+                "the store is in BER, and {why}: {form} begins at octet {at}"
             )?))
         }
         None => Ok(None),
     }
 }
 
-/// What a file is that is not a store in DER; None where nothing is known of it.
-pub fn malformed(alloc: Global, octets: &[u8]) -> Result<Option<Detail>, AllocError> {
+/// What a file is that is not a store, in DER or, without `der_only`, in BER; None where nothing is known of it.
+pub fn malformed(
+    alloc: Global,
+    octets: &[u8],
+    der_only: bool,
+) -> Result<Option<Detail>, AllocError> {
     if octets.first() != Some(&SEQUENCE) {
         return no_sequence(alloc, octets);
     }
-    match in_ber(alloc, octets, 0)? {
+    match in_ber(alloc, octets, 0, der_only)? {
         Some(text) => Ok(Some(Detail::of(text))),
         None => other_len(alloc, octets),
     }

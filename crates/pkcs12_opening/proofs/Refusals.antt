@@ -1,23 +1,47 @@
--- How a store fails to open, by what open_store says of its refusal.
-use Rattle.std.proofs.Common.{inl, inr, ℕ, List, refl}
-use Rattle.pkcs12_opening.specs.Ending.{FailsToOpen, ending_of_refusal}
+-- How a store fails to open, by what a call says of its refusal.
+use Rattle.std.proofs.Common.{inl, inr, ◌≡◌, ℕ, Bool, true, false, List, refl}
+use Rattle.legacy_store.specs.Laws.{stays_refused}
+use Rattle.legacy_store.specs.Opening.{HasLegacyVerdict}
+use Rattle.legacy_store.specs.Verdicts.{LegacyOpens}
+use Rattle.legacy_store.proofs.Conservative.{opens_as_before}
+use Rattle.legacy_store.proofs.Refused.{stores_refused}
+use Rattle.p12.specs.declared.safe_bag.SafeBag.{SafeBag}
+use Rattle.pkcs12_opening.specs.Ending.{ending_of_refusal}
+use Rattle.pkcs12_opening.specs.Opens.{FailsToOpen, IsCause}
 use Rattle.transfer.specs.Opening.{HasVerdict, RefusedAfter, refused}
+use Rattle.transfer.specs.Verdicts.{StoreOpens}
 use Rattle.transfer.specs.declared.store.error.TransferError.{TransferError}
 use Rattle.transfer.specs.declared.store.error.TransferError.TheVariants as refusals
 
-pub fails_to_open : (b p : List ℕ) (limit old new : ℕ) (e : TransferError)
-    → RefusedAfter (λ e n. HasVerdict b p limit (refused e) n) old new e
-    → FailsToOpen b p limit (ending_of_refusal e)
-fails_to_open b p limit old new refusals.TooLong (n, v, s) = inr (refusals.TooLong, (n, v), refl)
-fails_to_open b p limit old new refusals.Malformed (n, v, s) = inr (refusals.Malformed, (n, v), refl)
-fails_to_open b p limit old new refusals.Unsupported (n, v, s) = inr (refusals.Unsupported, (n, v), refl)
-fails_to_open b p limit old new refusals.MacMissing (n, v, s) = inr (refusals.MacMissing, (n, v), refl)
-fails_to_open b p limit old new refusals.MacUnsupported (n, v, s) = inr (refusals.MacUnsupported, (n, v), refl)
-fails_to_open b p limit old new refusals.ZeroIterations (n, v, s) = inr (refusals.ZeroIterations, (n, v), refl)
-fails_to_open b p limit old new refusals.WorkLimit (n, v, s) = inr (refusals.WorkLimit, (n, v), refl)
-fails_to_open b p limit old new refusals.MacMismatch (n, v, s) = inr (refusals.MacMismatch, (n, v), refl)
-fails_to_open b p limit old new refusals.ContentMalformed (n, v, s) = inr (refusals.ContentMalformed, (n, v), refl)
-fails_to_open b p limit old new refusals.DecryptFailed (n, v, s) = inr (refusals.DecryptFailed, (n, v), refl)
-fails_to_open b p limit old new refusals.KeyMalformed (n, v, s) = inr (refusals.KeyMalformed, (n, v), refl)
-fails_to_open b p limit old new refusals.Rng h = absurd h
-fails_to_open b p limit old new refusals.Memory h = inl refl
+fails_by : (modern_only : Bool) (b p : List ℕ) (limit old new : ℕ) (F : TransferError → ℕ → Type 0) (e : TransferError) → ((n : ℕ) → F e n → IsCause modern_only b p limit e)
+    → RefusedAfter F old new e → FailsToOpen modern_only b p limit (ending_of_refusal e)
+fails_by m b p limit old new F refusals.TooLong f (n, v, s) = inr (refusals.TooLong, f n v, refl)
+fails_by m b p limit old new F refusals.Malformed f (n, v, s) = inr (refusals.Malformed, f n v, refl)
+fails_by m b p limit old new F refusals.Unsupported f (n, v, s) = inr (refusals.Unsupported, f n v, refl)
+fails_by m b p limit old new F refusals.MacMissing f (n, v, s) = inr (refusals.MacMissing, f n v, refl)
+fails_by m b p limit old new F refusals.MacUnsupported f (n, v, s) = inr (refusals.MacUnsupported, f n v, refl)
+fails_by m b p limit old new F refusals.ZeroIterations f (n, v, s) = inr (refusals.ZeroIterations, f n v, refl)
+fails_by m b p limit old new F refusals.WorkLimit f (n, v, s) = inr (refusals.WorkLimit, f n v, refl)
+fails_by m b p limit old new F refusals.MacMismatch f (n, v, s) = inr (refusals.MacMismatch, f n v, refl)
+fails_by m b p limit old new F refusals.ContentMalformed f (n, v, s) = inr (refusals.ContentMalformed, f n v, refl)
+fails_by m b p limit old new F refusals.DecryptFailed f (n, v, s) = inr (refusals.DecryptFailed, f n v, refl)
+fails_by m b p limit old new F refusals.KeyMalformed f (n, v, s) = inr (refusals.KeyMalformed, f n v, refl)
+fails_by m b p limit old new F refusals.Rng f h = absurd h
+fails_by m b p limit old new F refusals.Memory f h = inl refl
+
+pub fails_to_open : (b p : List ℕ) (limit old new : ℕ) (e : TransferError) → RefusedAfter (λ e n. HasVerdict b p limit (refused e) n) old new e
+    → FailsToOpen true b p limit (ending_of_refusal e)
+fails_to_open b p limit old new e h = fails_by true b p limit old new (λ e n. HasVerdict b p limit (refused e) n) e (λ n v. (n, v)) h
+
+pub old_fails_to_open : (b p : List ℕ) (limit old new : ℕ) (e : TransferError) → RefusedAfter (λ e n. HasLegacyVerdict b p limit (refused e) n) old new e
+    → FailsToOpen false b p limit (ending_of_refusal e)
+old_fails_to_open b p limit old new e h = fails_by false b p limit old new (λ e n. HasLegacyVerdict b p limit (refused e) n) e (λ n v. (n, v)) h
+
+-- A refusal that no old store has.
+pub stays_to_fail : (b p : List ℕ) (limit old new : ℕ) (e : TransferError) → stays_refused p e ≡ true → RefusedAfter (λ e n. HasVerdict b p limit (refused e) n) old new e
+    → FailsToOpen false b p limit (ending_of_refusal e)
+stays_to_fail b p limit old new e s h = fails_by false b p limit old new (λ e n. HasVerdict b p limit (refused e) n) e (λ n v. (n, stores_refused b p limit e n s v)) h
+
+-- What is opened as a store of today opens as an old one.
+pub opens_as_old : (b p : List ℕ) (gss : List (List SafeBag)) (ks : List (List ℕ)) (n : ℕ) → StoreOpens b p gss ks n → LegacyOpens b p gss ks n
+opens_as_old b p gss ks n o = opens_as_before b p gss ks n o

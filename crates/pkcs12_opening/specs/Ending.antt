@@ -1,11 +1,10 @@
 -- How the command ends where it has not done what was asked.
-use Rattle.std.specs.Prelude.{ℕ, ◌≡◌, ◌⊎◌, List, Some}
+use Rattle.std.specs.Prelude.{ℕ, ◌≡◌, ◌⊎◌}
 use Rattle.pkcs12_opening.specs.declared.ending.Ending.{Ending}
 use Rattle.pkcs12_opening.specs.declared.ending.Ending.TheVariants.{Usage, ReadFault, WriteFault, Memory, PasswordMissing, NewPasswordMissing, PasswordUnusable, OutputExists, SelfTestFailed, NotExported, SealLimit, TooManyFiles, Expiring, Refused}
 use Rattle.frame.specs.Status.{status_code}
 use Rattle.pkcs12_output.specs.declared.output_error.OutputErrorKind.{OutputErrorKind}
 use Rattle.pkcs12_output.specs.declared.output_error.OutputErrorKind.TheVariants as output
-use Rattle.transfer.specs.Opening.{FirstCause}
 use Rattle.transfer.specs.Status.{status_of}
 use Rattle.transfer.specs.declared.store.error.TransferError.{TransferError}
 use Rattle.transfer.specs.declared.store.error.TransferError.TheVariants as refusals
@@ -43,9 +42,3 @@ IsPasswordFailure ending = (ending ≡ ReadFault) ⊎ (ending ≡ PasswordUnusab
 abbrev pub ending_of_refusal : TransferError → Ending
 ending_of_refusal refusals.Memory = Memory
 ending_of_refusal e = Refused e
-
--- The failure of a store that is not opened under its password and the limit: its first cause to be
--- refused, or out of memory.
-abbrev pub FailsToOpen : List ℕ → List ℕ → ℕ → Ending → Type 0
-FailsToOpen store password limit ending = (ending ≡ Memory)
-    ⊎ ((e : TransferError) × FirstCause store password limit (Some e) × (ending ≡ Refused e))

@@ -1,19 +1,18 @@
 //! The store and its password, as they are read.
 ghost use Rattle.std.specs.Prelude.{◌≤◌, ℕ, IfOk, IfErr};
-ghost use Rattle.pkcs12_opening.specs.Ending.{FailsToOpen};
-ghost use Rattle.transfer.specs.Verdicts.{StoreOpens};
+ghost use Rattle.pkcs12_opening.specs.Opens.{FailsToOpen, Opens};
 
 use crate::ending::{Ending, Failure};
 use crate::input::is_read_once;
-use crate::opening::{opened_store, read_store};
+use crate::old_store::rounds_of_mac;
+use crate::opening::{AnyStore, opened_any_store, opened_store, read_store};
 use crate::password::read_password;
-use crate::refusal::with_detail;
+use crate::refusal::{Attempt, with_detail};
 use command_base::{Origin, Password};
-use pkcs12_inspection::mac_rounds;
 use std::alloc::Global;
 use std::env;
 use std::rt::{Env, Files};
-use transfer::{OpenedSafe, TransferError};
+use transfer::TransferError;
 
 /// Where this variable is set, the script that started the program asks for a password that is
 /// missing and runs it again, so the program itself keeps silent.
@@ -65,25 +64,58 @@ pub fn is_not_given_again<R: Files + Env + AllocGlobal>(
     }
 }
 
+/// Opens a store within the limit, in steps: with `modern_only` as `opened_store` does, and else as `opened_any_store` does.
+fn opened_by(
+    alloc: Global,
+    store: &[u8],
+    password: &Password,
+    limit: u64,
+    modern_only: bool,
+) -> Result<AnyStore, Failure>
+    ensures ok { IfOk result (λ o. (n : ℕ) × Opens modern_only store.now password.now
+        o.safe.contents o.safe.keys n × (n ≤ limit)) }
+    ensures err { IfErr result
+        (λ f. FailsToOpen modern_only store.now password.now limit f.ending) }
+{
+    if !modern_only {
+        return opened_any_store(alloc, store, password, limit);
+    }
+    match opened_store(alloc, store, password, limit) {
+        Ok(safe) => Ok(AnyStore {
+            safe,
+            is_old: false,
+        }),
+        Err(failure) => Err(failure),
+    }
+}
+
 /// What refuses a store that has no password yet: what is seen with no work at all, else that the
 /// password is missing.
-fn refused_unasked(alloc: Global, store: &[u8], limit: u64) -> Failure {
+fn refused_unasked(alloc: Global, store: &[u8], limit: u64, modern_only: bool) -> Failure {
     let empty = Password::empty(alloc);
     // Under this limit nothing is derived.
-    match opened_store(alloc, store, &empty, 0) {
+    match opened_by(alloc, store, &empty, 0, modern_only) {
         Err(failure) => match failure.ending {
-            Ending::Refused(TransferError::WorkLimit) if mac_rounds(store) <= limit => {
+            Ending::Refused(TransferError::WorkLimit) if rounds_of_mac(alloc, store) <= limit => {
                 password_missing()
             }
             Ending::Refused(TransferError::MacMismatch) => password_missing(),
-            _ => with_detail(alloc, failure, store, &empty, limit),
+            _ => {
+                let tried = Attempt {
+                    store,
+                    password: &empty,
+                    limit,
+                    modern_only,
+                };
+                with_detail(alloc, failure, &tried)
+            }
         },
         Ok(_) => password_missing(),
     }
 }
 
 /// Reads the store at the path, or for `-` on the standard input, and its password, where that has an origin. `limit` is the most
-/// steps of opening it.
+/// steps of opening it, and with `modern_only` an old one is refused.
 ///
 /// `ReadFault` where one of them cannot be read, `PasswordUnusable` where the password is not UTF-8 or has more than 1,024 octets.
 /// Without an origin it fails in any case: as `Refused` where the store is refused under any password, which takes no steps, and else
@@ -93,28 +125,43 @@ pub fn read_given<R: Files + Env + Input + AllocGlobal>(
     path: &str,
     origin: Option<Origin<'_>>,
     limit: u64,
+    modern_only: bool,
 ) -> Result<Given, Failure> {
     if origin.is_none() && is_read_once(rt, path) {
         return Err(password_missing());
     }
     let store = read_store(rt, path)?;
     let Some(origin) = origin else {
-        return Err(refused_unasked(rt.alloc(), store.as_slice(), limit));
+        return Err(refused_unasked(rt.alloc(), store.as_slice(), limit, modern_only));
     };
     let password = read_password(rt, "password", origin)?;
     Ok(Given { store, password })
 }
 
-/// Opens a store within the limit, in steps, as `opened_store` does. A refusal has what more there is to say of it.
-pub fn opened(alloc: Global, given: &Given, limit: u64) -> Result<OpenedSafe, Failure>
-    ensures ok { IfOk result (λ o. (n : ℕ)
-        × StoreOpens given.now.store.items given.now.password o.contents o.keys n × (n ≤ limit)) }
+/// Opens a store within the limit, in steps: with `modern_only` a store of today alone, and else an old one too. A refusal has what more
+/// there is to say of it.
+pub fn opened(
+    alloc: Global,
+    given: &Given,
+    limit: u64,
+    modern_only: bool,
+) -> Result<AnyStore, Failure>
+    ensures ok { IfOk result (λ o. (n : ℕ) × Opens modern_only given.now.store.items
+        given.now.password o.safe.contents o.safe.keys n × (n ≤ limit)) }
     ensures err { IfErr result
-        (λ f. FailsToOpen given.now.store.items given.now.password limit f.ending) }
+        (λ f. FailsToOpen modern_only given.now.store.items given.now.password limit f.ending) }
 {
     let store = given.store.as_slice();
-    match opened_store(alloc, store, &given.password, limit) {
+    match opened_by(alloc, store, &given.password, limit, modern_only) {
         Ok(opened) => Ok(opened),
-        Err(failure) => Err(with_detail(alloc, failure, store, &given.password, limit)),
+        Err(failure) => {
+            let tried = Attempt {
+                store,
+                password: &given.password,
+                limit,
+                modern_only,
+            };
+            Err(with_detail(alloc, failure, &tried))
+        }
     }
 }

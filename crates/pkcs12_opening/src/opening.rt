@@ -1,12 +1,16 @@
 //! Opening a store.
-ghost use Rattle.std.specs.Prelude.{◌≡◌, ◌⊎◌, ◌<◌, ◌≤◌, ℕ, IfOk, IfErr};
+ghost use Rattle.std.specs.Prelude.{◌≡◌, ◌⊎◌, ◌<◌, ◌≤◌, ℕ, true, false, IfOk, IfErr};
 ghost use Rattle.frame.specs.Status.{status_code};
-ghost use Rattle.pkcs12_opening.specs.Ending.{FailsToOpen, code_of, ending_of_refusal};
+ghost use Rattle.legacy_store.specs.Laws.{stays_refused};
+ghost use Rattle.legacy_store.specs.Verdicts.{LegacyOpens};
+ghost use Rattle.pkcs12_opening.specs.Ending.{code_of, ending_of_refusal};
+ghost use Rattle.pkcs12_opening.specs.Opens.{FailsToOpen};
 ghost use Rattle.transfer.specs.Status.{status_of};
 ghost use Rattle.transfer.specs.Verdicts.{StoreOpens};
 
 use crate::ending::{Ending, Failure};
 use command_base::Password;
+use legacy_store::open_legacy_safe;
 use std::alloc::Global;
 use std::io::Read;
 use std::marker::Brand;
@@ -57,9 +61,9 @@ pub fn refused(refusal: TransferError) -> Failure
     }
 }
 
-/// Opens a store with a step counter of its own.
+/// Opens a store as `open_safe` does, with a step counter of its own.
 #[tactic(auto, using(crate::proofs::Refusals::fails_to_open))]
-fn open_from<L: Ledger>(
+fn open_modern<L: Ledger>(
     alloc: Global,
     store: &[u8],
     password: &Password,
@@ -72,14 +76,100 @@ fn open_from<L: Ledger>(
     ensures ok { IfOk result (λ o. (n : ℕ)
         × StoreOpens store.now password.now o.contents o.keys n × (n ≤ limit)) }
     ensures err { IfErr result
-        (λ e. FailsToOpen store.now password.now limit (ending_of_refusal e)) }
+        (λ e. FailsToOpen true store.now password.now limit (ending_of_refusal e)) }
 {
     let mut steps = Steps::<L>::open(blank);
     open_safe(alloc, store, password.as_str(), limit, &mut steps)
 }
 
-/// Opens a store under its password within the limit, in steps, by a step counter of its own. Where the store is refused, by the first
-/// cause that `open_safe` names, the failure is that refusal; out of memory may come in its place.
+/// Whether a store that `open_safe` refuses for this cause is refused by `open_legacy_safe` too: the cause is none that old stores have.
+fn stays_refused(password: &str, refusal: TransferError) -> bool
+    ensures { result ≡ stays_refused password.now refusal }
+{
+    match refusal {
+        TransferError::Malformed
+        | TransferError::Unsupported
+        | TransferError::MacUnsupported
+        | TransferError::ContentMalformed => false,
+        TransferError::MacMismatch => password.len() > 0,
+        TransferError::TooLong
+        | TransferError::MacMissing
+        | TransferError::ZeroIterations
+        | TransferError::WorkLimit
+        | TransferError::DecryptFailed
+        | TransferError::KeyMalformed
+        | TransferError::Rng
+        | TransferError::Memory => true,
+    }
+}
+
+/// An opened store.
+#[derive(Drop)]
+pub struct AnyStore {
+    pub safe: OpenedSafe,
+    /// Whether it is an old store, which `open_safe` refuses.
+    pub is_old: bool,
+}
+
+/// Opens an old store, with a step counter of its own.
+#[tactic(auto, using(crate::proofs::Refusals::old_fails_to_open))]
+fn open_old<L: Ledger>(
+    alloc: Global,
+    store: &[u8],
+    password: &Password,
+    limit: u64,
+    blank: Blank,
+) -> Result<AnyStore, TransferError>
+    requires name { blank.name ≡ L.name }
+    requires parts { blank.parts ≡ L.parts }
+    requires some { 0 < blank.parts }
+    ensures ok { IfOk result (λ o. (n : ℕ)
+        × LegacyOpens store.now password.now o.safe.contents o.safe.keys n × (n ≤ limit)) }
+    ensures err { IfErr result
+        (λ e. FailsToOpen false store.now password.now limit (ending_of_refusal e)) }
+{
+    let mut steps = Steps::<L>::open(blank);
+    match open_legacy_safe(alloc, store, password.as_str(), limit, &mut steps) {
+        Ok(safe) => Ok(AnyStore { safe, is_old: true }),
+        Err(refusal) => Err(refusal),
+    }
+}
+
+/// Opens a store as `open_safe` does, and where that refuses it for a cause that old stores have, as an old store.
+#[tactic(auto, using(crate::proofs::Refusals::stays_to_fail, crate::proofs::Refusals::opens_as_old))]
+fn open_any<L: Ledger>(
+    alloc: Global,
+    store: &[u8],
+    password: &Password,
+    limit: u64,
+    blank: Blank,
+) -> Result<AnyStore, TransferError>
+    requires name { blank.name ≡ L.name }
+    requires parts { blank.parts ≡ L.parts }
+    requires some { 0 < blank.parts }
+    ensures ok { IfOk result (λ o. (n : ℕ)
+        × LegacyOpens store.now password.now o.safe.contents o.safe.keys n × (n ≤ limit)) }
+    ensures err { IfErr result
+        (λ e. FailsToOpen false store.now password.now limit (ending_of_refusal e)) }
+{
+    let mut steps = Steps::<L>::open(blank);
+    let text = password.as_str();
+    match open_safe(alloc, store, text, limit, &mut steps) {
+        Ok(safe) => Ok(AnyStore {
+            safe,
+            is_old: false,
+        }),
+        Err(refusal) => {
+            if stays_refused(text, refusal) {
+                return Err(refusal);
+            }
+            open_old::<Brand>(alloc, store, password, limit, Blank::new(1))
+        }
+    }
+}
+
+/// Opens a store of today under its password within the limit, in steps, by a step counter of its own. Where the store is refused, by the
+/// first cause that `open_safe` names, the failure is that refusal; out of memory may come in its place.
 pub fn opened_store(
     alloc: Global,
     store: &[u8],
@@ -88,11 +178,29 @@ pub fn opened_store(
 ) -> Result<OpenedSafe, Failure>
     ensures ok { IfOk result (λ o. (n : ℕ)
         × StoreOpens store.now password.now o.contents o.keys n × (n ≤ limit)) }
-    ensures err { IfErr result (λ f. FailsToOpen store.now password.now limit f.ending) }
+    ensures err { IfErr result (λ f. FailsToOpen true store.now password.now limit f.ending) }
 {
-    match open_from::<Brand>(alloc, store, password, limit, Blank::new(1)) {
+    match open_modern::<Brand>(alloc, store, password, limit, Blank::new(1)) {
         Ok(opened) => Ok(opened),
         Err(refusal) => Err(refused(refusal)),
+    }
+}
+
+/// The same of any store, as `open_legacy_safe` opens it. What `open_safe` opens is opened by that call alone; else the work may be done
+/// twice, each time within the limit.
+pub fn opened_any_store(
+    alloc: Global,
+    store: &[u8],
+    password: &Password,
+    limit: u64,
+) -> Result<AnyStore, Failure>
+    ensures ok { IfOk result (λ o. (n : ℕ)
+        × LegacyOpens store.now password.now o.safe.contents o.safe.keys n × (n ≤ limit)) }
+    ensures err { IfErr result (λ f. FailsToOpen false store.now password.now limit f.ending) }
+{
+    match open_any::<Brand>(alloc, store, password, limit, Blank::new(1)) {
+        Ok(opened) => Ok(opened),
+        Err(cause) => Err(refused(cause)),
     }
 }
 
@@ -100,12 +208,12 @@ pub fn opened_store(
 fn meaning_of(refusal: TransferError) -> &'static str {
     match refusal {
         TransferError::TooLong => "the store has more than 16,777,215 octets",
-        TransferError::Malformed => "the file is not a PKCS#12 store in DER",
+        TransferError::Malformed => "the file is not a PKCS#12 store",
         TransferError::Unsupported =>
             "something in the store is of a kind, or encrypted by an algorithm, that is not opened",
         TransferError::MacMissing => "the store has no MAC, so a change to it would go unnoticed",
         TransferError::MacUnsupported =>
-            "the MAC of the store is made neither with SHA-1 nor with SHA-256",
+            "the MAC of the store is made by an algorithm that is not supported",
         TransferError::ZeroIterations =>
             "the store asks for zero iterations, which no honest program writes",
         TransferError::WorkLimit => "opening the store takes more work than --limit allows",

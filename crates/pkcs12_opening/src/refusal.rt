@@ -3,7 +3,9 @@ ghost use Rattle.std.specs.Prelude.{◌≡◌};
 
 use crate::ending::{Ending, Failure};
 use crate::long_work::Duration;
+use crate::old_store::looked_at;
 use command_base::{Message, Password};
+use legacy_store::store_in_der;
 use pkcs12_inspection::{
     Detail, damaged, is_without_password, mac_unsupported, malformed, unsupported, visible_work,
 };
@@ -21,6 +23,17 @@ If there is one or none:
     openssl pkcs12 -in STORE.p12 -out anew.pem
     openssl pkcs12 -export -in anew.pem -out NEW.p12 -certpbe AES-256-CBC -keypbe AES-256-CBC -macalg sha256
     rm anew.pem";
+
+/// An attempt to open a store.
+#[derive(Clone, Copy)]
+pub struct Attempt<'a> {
+    pub store: &'a [u8],
+    pub password: &'a Password,
+    /// The most steps.
+    pub limit: u64,
+    /// Whether old stores are refused.
+    pub modern_only: bool,
+}
 
 /// What a store was made with whose MAC does not agree under the empty password.
 fn mac_mismatch(
@@ -68,8 +81,9 @@ fn not_supported(
     alloc: Global,
     store: &[u8],
     password: &Password,
+    modern_only: bool,
 ) -> Result<Option<Detail>, AllocError> {
-    match unsupported(alloc, store, password)? {
+    match unsupported(alloc, store, password, modern_only)? {
         Some(text) => Ok(Some(Detail::of(text))),
         None => Ok(None),
     }
@@ -79,40 +93,53 @@ fn not_supported(
 fn detail(
     alloc: Global,
     refusal: TransferError,
-    store: &[u8],
-    password: &Password,
-    limit: u64,
+    tried: &Attempt<'_>,
 ) -> Result<Option<Detail>, AllocError> {
+    let store = tried.store;
+    let password = tried.password;
     match refusal {
-        TransferError::Malformed => malformed(alloc, store),
-        TransferError::ContentMalformed => damaged(alloc, store, password),
-        TransferError::Unsupported => not_supported(alloc, store, password),
+        TransferError::Malformed => malformed(alloc, store, tried.modern_only),
+        TransferError::ContentMalformed => damaged(alloc, store, password, tried.modern_only),
+        TransferError::Unsupported => not_supported(alloc, store, password, tried.modern_only),
         TransferError::MacUnsupported => mac_unsupported(alloc, store),
         TransferError::MacMismatch => mac_mismatch(alloc, store, password),
-        TransferError::WorkLimit => work_limit(alloc, store, limit),
+        TransferError::WorkLimit => work_limit(alloc, store, tried.limit),
         _ => Ok(None),
     }
+}
+
+/// The same of a store that may be in BER, which is looked at in DER.
+fn seen_detail(
+    alloc: Global,
+    refusal: TransferError,
+    tried: &Attempt<'_>,
+) -> Result<Option<Detail>, AllocError> {
+    if tried.modern_only {
+        return detail(alloc, refusal, tried);
+    }
+    let in_der = store_in_der(alloc, tried.store)?;
+    let seen = Attempt {
+        store: looked_at(&in_der, tried.store),
+        password: tried.password,
+        limit: tried.limit,
+        modern_only: false,
+    };
+    detail(alloc, refusal, &seen)
 }
 
 fn message_of(text: String) -> Message {
     Message::Made(text)
 }
 
-/// The failure of opening a store within this limit, with what more there is to say of it. Its kind stays. What is unsupported or damaged
+/// The failure of an attempt to open a store, with what more there is to say of it. Its kind stays. What is unsupported or damaged
 /// is looked for by decrypting the contents once more, within the limit that opening kept.
-pub fn with_detail(
-    alloc: Global,
-    failure: Failure,
-    store: &[u8],
-    password: &Password,
-    limit: u64,
-) -> Failure
+pub fn with_detail(alloc: Global, failure: Failure, tried: &Attempt<'_>) -> Failure
     ensures { result.ending ≡ failure.ending }
 {
     let Ending::Refused(refusal) = failure.ending else {
         return failure;
     };
-    match detail(alloc, refusal, store, password, limit) {
+    match seen_detail(alloc, refusal, tried) {
         Ok(Some(detail)) => Failure {
             ending: failure.ending,
             message: Message::Made(detail.text),

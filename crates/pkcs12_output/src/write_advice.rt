@@ -10,6 +10,7 @@ use terminal_text::{ShellWord, fits_in_command};
 enum Cause {
     DiskFull,
     Forbidden,
+    ReadOnly,
     Missing,
     NameTooLong,
     NoReader,
@@ -21,7 +22,8 @@ fn cause_of(error: &io::Error) -> Cause {
         ErrorKind::StorageFull | ErrorKind::QuotaExceeded | ErrorKind::FileTooLarge => {
             Cause::DiskFull
         }
-        ErrorKind::PermissionDenied | ErrorKind::ReadOnlyFilesystem => Cause::Forbidden,
+        ErrorKind::PermissionDenied => Cause::Forbidden,
+        ErrorKind::ReadOnlyFilesystem => Cause::ReadOnly,
         ErrorKind::NotFound => Cause::Missing,
         ErrorKind::InvalidFilename => Cause::NameTooLong,
         ErrorKind::BrokenPipe => Cause::NoReader,
@@ -48,7 +50,10 @@ pub fn write_advice(alloc: Global, path: &str, error: &io::Error) -> Result<Stri
     }
     match cause {
         Cause::DiskFull => format!(in alloc;
-            "The disk, or your share of it, is full:\n    df -h {word}"
+            "The disk, or your share of it, is full, or can have no more files:\n    df -h {word}\n    df -i {word}"
+        ),
+        Cause::ReadOnly => format!(in alloc;
+            "Nothing can be written to this file system:\n    findmnt -T {word}"
         ),
         Cause::Forbidden => format!(in alloc;
             "The folder above it has to be writable for you:\n    ls -ld {word}"

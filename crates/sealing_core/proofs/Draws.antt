@@ -54,9 +54,6 @@ took_least (Some x) (Some y) drawn n t is = omega (arith, is, ap length t ∙ le
 
 -- ---- the last part comes after the others
 
-one_is : (x d : IvAndSalt) → Some x ≡ Some d → x ≡ d
-one_is x d e = cc
-
 -- One place more is one part more.
 pub record Parted (ds : List IvAndSalt) (n : ℕ) (d : IvAndSalt) : Type 0 where
   pub octets : octets_of ds ≡ octets_of (take n ds) ++ (d.iv ++ d.salt)

@@ -5,14 +5,11 @@ ghost use Rattle.transfer.specs.OpenedSafe.{ListsAt, bags_there};
 
 use p12::{BagsView, Place};
 
-/// The bags that are at a place, lent one after the other.
+/// The bags that are at a place, lent one after the other. They were read whole before, and are not again.
 pub(crate) fn bags_at<'a>(text: &'a [u8], place: Place) -> BagsView<'a>
     requires { ListsAt text.now place }
     ensures are { result.left ≡ bags_there text.now place }
     ensures bytes { result.bytes ≡ at_place place text.now }
 {
-    match BagsView::parse(&text[place.start..place.start + place.len]) {
-        Ok(bags) => bags,
-        Err(_) => unreachable!(),
-    }
+    BagsView::of_listed(&text[place.start..place.start + place.len])
 }

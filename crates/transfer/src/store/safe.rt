@@ -3,7 +3,7 @@ ghost use Rattle.std.specs.Prelude.{◌≡◌, ◌+◌, ◌*◌, ◌≤◌, ◌<
 ghost use Rattle.std.specs.Result.{IsErrOf};
 ghost use Rattle.octet_core.specs.Draw.{Lacks};
 ghost use Rattle.transfer.specs.Limits.{rounds_limit};
-ghost use Rattle.transfer.specs.OpenedSafe.{ListsAt, contents_at};
+ghost use Rattle.transfer.specs.OpenedSafe.{IsOpenedText, ListsAt, contents_at};
 ghost use Rattle.transfer.specs.Opening.{HasVerdict, RefusedAfter, refused};
 ghost use Rattle.transfer.specs.TransferError.{RefusedBy};
 ghost use Rattle.transfer.specs.Transferred.{DrawsFor, IsDecided, SealsOpened};
@@ -117,6 +117,18 @@ fn owned_contents(
 }
 
 impl OpenedSafe {
+    /// The opened store whose contents list their bags at these places of the text, with these texts of private keys: of parts that
+    /// another way of opening a store came to.
+    ///
+    /// Caller: the text has at most 16,777,215 octets, each place is in it and lists bags, and each key is the text of a private key.
+    pub fn of_parts(text: Octets, places: Items<Place>, keys: Items<Octets>) -> OpenedSafe
+        requires { IsOpenedText text places keys }
+        ensures contents { result.contents ≡ contents_at text places }
+        ensures keys { result.keys ≡ keys }
+    {
+        OpenedSafe { text, places, keys }
+    }
+
     /// How many contents the store has.
     pub fn number_of_contents(&self) -> usize
         ensures { result ≡ length self.now.contents }

@@ -1,19 +1,16 @@
-use Rattle.std.proofs.Common.{◌≡◌, ◌∙◌, ◌+◌, ap, arith, length, subst, sym}
+use Rattle.std.proofs.Common.{◌≡◌, ◌∙◌, ap, arith, length, subst, sym}
 use Rattle.std.specs.Prelude.{Some}
 use Rattle.std.proofs.lemmas.Result.{err_from_is_err_and}
-use Rattle.p12.specs.SafeBag.{IsBags, NoBags}
+use Rattle.p12.specs.BagView.{ListsBags}
+use Rattle.p12.specs.SafeBag.{NoBags}
 use Rattle.p12.specs.declared.content_info.ContentInfo.TheVariants as content
+use Rattle.p12.proofs.DefinitionLaws.{listed}
 use Rattle.transfer.specs.Opening.{RefusedAfter}
-use Rattle.transfer.specs.TransferError.{RefusedBy}
-use Rattle.transfer.specs.declared.store.error.TransferError.TheVariants.{ContentMalformed}
-use Rattle.legacy_store.specs.Algorithm.{legacy_cost, legacy_unlock}
-use Rattle.legacy_store.specs.Budget.{Spends}
+use Rattle.legacy_store.specs.Algorithm.{legacy_unlock}
 use Rattle.legacy_store.specs.Forms.{seen_forms}
-use Rattle.legacy_store.specs.Opening.{LegacyContentCause, LegacyHolds, LegacyLockFault}
+use Rattle.legacy_store.specs.Opening.{LegacyContentCause, LegacyLockFault}
 use Rattle.legacy_store.proofs.Locks.{content_bad, content_before}
 use Rattle.transfer.proofs.Faults.{refused_after_as}
-use Rattle.legacy_store.proofs.Parts.{malformed_after}
-use Rattle.legacy_store.proofs.Results.{if_err, if_ok}
 use Rattle.legacy_store.proofs.contents.open_sealed.Goals as goal
 
 pub open_text-requires-clause-ciphertext : goal.open_text-requires-clause-ciphertext
@@ -31,26 +28,27 @@ returns-in_err-text-clause-refused g c =
     (content_before f b.limit b.spent d) c.in_err-text.field-0.0
     (subst (λ t. RefusedAfter (LegacyLockFault f b.limit b.spent a t (λ _ _ _. ⊥)) c.args.steps.now c.open_text.new.steps c.in_err-text.field-0.0) c.as_slice-octets.ensures c.in_err-text.ensures.refused))
 
-pub returns-clause-opened : goal.returns-clause-opened
-returns-clause-opened g c =
+pub returns-in-Ok-clause-lists : goal.returns-in-Ok-clause-lists
+returns-in-Ok-clause-lists g c = subst ListsBags c.as_slice-plain.ensures c.in-Ok.ensures.ok
+
+pub returns-in-Ok-clause-opened : goal.returns-in-Ok-clause-opened
+returns-in-Ok-clause-opened g c =
     let f = seen_forms c.args.secret.now in
     let d = c.args.sealed.now in
     let a = d.encrypted_content_info.content_encryption_algorithm in
     let o = c.in_ok-text.ensures.opened in
-    let opens : legacy_unlock f a d.encrypted_content_info.encrypted_content ≡ Some c.in_ok-text.text = ap (legacy_unlock f a) (sym c.as_slice-octets.ensures) ∙ o.0 in
-    if_ok (IsBags c.as_slice-plain.result.now)
-    (λ gs. LegacyHolds f (content.EncryptedData d) gs × Spends c.args.budget.now c.open_text.new.budget (legacy_cost a) × (c.open_text.new.steps ≡ c.args.steps.now + legacy_cost a)) c.list_bags.result
-    (λ gs is. ((c.in_ok-text.text, opens, subst (λ t. IsBags t gs) c.as_slice-plain.ensures is), o.1, o.2)) c.list_bags.ensures.ok
+    let text = c.in_ok-text.text in
+    let opens : legacy_unlock f a d.encrypted_content_info.encrypted_content ≡ Some text = ap (legacy_unlock f a) (sym c.as_slice-octets.ensures) ∙ o.0 in
+    ((text, opens, listed text (subst ListsBags c.as_slice-plain.ensures c.in-Ok.ensures.ok)), o.1, o.2)
 
-pub returns-clause-refused : goal.returns-clause-refused
-returns-clause-refused g c =
+pub returns-in-Err-clause-refused : goal.returns-in-Err-clause-refused
+returns-in-Err-clause-refused g c =
     let f = seen_forms c.args.secret.now in
     let b = c.args.budget.now in
     let d = c.args.sealed.now in
     let a = d.encrypted_content_info.content_encryption_algorithm in
     let o = c.in_ok-text.ensures.opened in
+    let e = c.in-Err.ensures.err in
     let opens : legacy_unlock f a d.encrypted_content_info.encrypted_content ≡ Some c.in_ok-text.text = ap (legacy_unlock f a) (sym c.as_slice-octets.ensures) ∙ o.0 in
-    let F = LegacyContentCause f b.limit b.spent (content.EncryptedData d) in
-    if_err (RefusedBy (λ e. (e ≡ ContentMalformed) × NoBags c.as_slice-plain.result.now) ⊥) (RefusedAfter F c.args.steps.now c.open_text.new.steps) c.list_bags.result
-    (λ e h. malformed_after F (NoBags c.as_slice-plain.result.now) c.args.steps.now c.open_text.new.steps (legacy_cost a)
-    (λ none. content_bad f b.limit b.spent d c.in_ok-text.text opens (omega (arith, o.1.0, o.1.1, c.open_text.new.budget.within)) (subst NoBags c.as_slice-plain.ensures none)) o.2 e h) c.list_bags.ensures.err
+    subst (λ e. RefusedAfter (LegacyContentCause f b.limit b.spent (content.EncryptedData d)) c.args.steps.now c.open_text.new.steps e) (sym e.0)
+    (_, content_bad f b.limit b.spent d c.in_ok-text.text opens (omega (arith, o.1.0, o.1.1, c.open_text.new.budget.within)) (subst NoBags c.as_slice-plain.ensures e.1), o.2)

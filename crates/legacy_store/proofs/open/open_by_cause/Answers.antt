@@ -6,7 +6,7 @@ use Rattle.p12.specs.ContentInfo.{ContentFits}
 use Rattle.p12.specs.declared.mac_data.MacData.{MacData}
 use Rattle.transfer.specs.declared.store.error.TransferError.{TransferError}
 use Rattle.transfer.specs.Opening.{RefusedAfter, opened, refused}
-use Rattle.legacy_store.specs.declared.open.LegacyOpened.{LegacyOpened}
+use Rattle.transfer.specs.OpenedSafe.{BagsAndKeys}
 use Rattle.legacy_store.specs.Opening.{HasLegacyVerdict, LegacyMacTable}
 use Rattle.transfer.proofs.Faults.{refused_after_as}
 use Rattle.legacy_store.proofs.Results.{if_err, if_ok}
@@ -54,8 +54,8 @@ returns-clause-opened g c =
     let a = c.args in
     let v = c.in-Data.text in
     let m = c.in-Some.mac in
-    if_ok (λ (r : LegacyOpened). (n : ℕ) × LegacyMacTable a.password.now a.limit c.as_slice-octets.result.now m (opened r.contents r.keys) n × (c.open_under_mac.new.steps ≡ a.steps.now + n))
-    (λ (r : LegacyOpened). (n : ℕ) × HasLegacyVerdict a.store.now a.password.now a.limit (opened r.contents r.keys) n × (c.open_under_mac.new.steps ≡ a.steps.now + n)) c.open_under_mac.result
+    if_ok (λ (r : BagsAndKeys). (n : ℕ) × LegacyMacTable a.password.now a.limit c.as_slice-octets.result.now m (opened r.contents r.keys) n × (c.open_under_mac.new.steps ≡ a.steps.now + n))
+    (λ (r : BagsAndKeys). (n : ℕ) × HasLegacyVerdict a.store.now a.password.now a.limit (opened r.contents r.keys) n × (c.open_under_mac.new.steps ≡ a.steps.now + n)) c.open_under_mac.result
     (λ r h. (
       h.0,
       has_store a.store.now a.password.now a.limit c.in_ok-found.found (opened r.contents r.keys) h.0 (grind arith) c.in_ok-found.ensures.ok

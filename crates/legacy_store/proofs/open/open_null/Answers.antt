@@ -4,7 +4,7 @@ use Rattle.std.proofs.lemmas.Result.{err_from_is_err_and}
 use Rattle.legacy_store.specs.Mac.{legacy_agrees}
 use Rattle.transfer.specs.declared.store.error.TransferError.{TransferError}
 use Rattle.transfer.specs.Opening.{RefusedAfter, opened, refused}
-use Rattle.legacy_store.specs.declared.open.LegacyOpened.{LegacyOpened}
+use Rattle.transfer.specs.OpenedSafe.{BagsAndKeys}
 use Rattle.legacy_store.specs.Forms.{null_forms}
 use Rattle.legacy_store.specs.Opening.{LegacyTextTable, NullTable}
 use Rattle.transfer.proofs.Faults.{refused_later}
@@ -43,8 +43,8 @@ returns-clause-opened g c =
     let spent : b.spent ≡ m.iterations + m.iterations = grind (arith, o.1, c.requires.spent, c.from.ensures) in
     let within : m.iterations + m.iterations ≤ a.allowed.limit = grind (arith, o.0, spent, b.within) in
     let good : legacy_agrees m [] a.text.now ≡ true = grind (arith, c.in_ok-good.ensures.value, c.if-not-good.false) in
-    if_ok (λ (r : LegacyOpened). (n : ℕ) × LegacyTextTable null_forms b.limit b.spent a.text.now (opened r.contents r.keys) (b.spent + n) × (c.open_listed.new.steps ≡ c.agrees.new.steps + n))
-    (λ (r : LegacyOpened). (n : ℕ) × NullTable a.password.now a.allowed.limit a.text.now m (opened r.contents r.keys) (m.iterations + n) × (c.open_listed.new.steps ≡ a.steps.now + n)) c.open_listed.result
+    if_ok (λ (r : BagsAndKeys). (n : ℕ) × LegacyTextTable null_forms b.limit b.spent a.text.now (opened r.contents r.keys) (b.spent + n) × (c.open_listed.new.steps ≡ c.agrees.new.steps + n))
+    (λ (r : BagsAndKeys). (n : ℕ) × NullTable a.password.now a.allowed.limit a.text.now m (opened r.contents r.keys) (m.iterations + n) × (c.open_listed.new.steps ≡ a.steps.now + n)) c.open_listed.result
     (λ r h. (
       m.iterations + h.0,
       null_agreed a.password.now a.allowed.limit a.text.now m (opened r.contents r.keys) (m.iterations + (m.iterations + h.0)) none within good

@@ -4,7 +4,7 @@ use Rattle.legacy_store.specs.Mac.{is_legacy_digest, legacy_agrees}
 use Rattle.pkcs12_kdf.specs.Password.{bmp_password}
 use Rattle.transfer.specs.declared.store.error.TransferError.{TransferError}
 use Rattle.transfer.specs.Opening.{RefusedAfter, opened, refused}
-use Rattle.legacy_store.specs.declared.open.LegacyOpened.{LegacyOpened}
+use Rattle.transfer.specs.OpenedSafe.{BagsAndKeys}
 use Rattle.legacy_store.specs.Forms.{Forms, forms_of}
 use Rattle.legacy_store.specs.Opening.{LegacyMacTable, LegacyTextTable, NullTable}
 use Rattle.transfer.proofs.Faults.{refused_later}
@@ -54,8 +54,8 @@ returns-then-good-clause-opened g c =
     let most : m.iterations ≤ a.limit = grind (arith, limit, spent, b.within) in
     let units : q ≡ bmp_password a.password.now = c.as_slice-octets.ensures ∙ c.in_ok-units.ensures.ok in
     let good : legacy_agrees m (bmp_password a.password.now) a.text.now ≡ true = ap (λ u. legacy_agrees m u a.text.now) (sym units) ∙ sym c.in_ok-good.ensures.value ∙ c.if-good.true in
-    if_ok (λ (r : LegacyOpened). (n : ℕ) × LegacyTextTable (with_units a.password.now q) b.limit b.spent a.text.now (opened r.contents r.keys) (b.spent + n) × (c.open_listed.new.steps ≡ c.agrees.new.steps + n))
-    (λ (r : LegacyOpened). (n : ℕ) × LegacyMacTable a.password.now a.limit a.text.now m (opened r.contents r.keys) n × (c.open_listed.new.steps ≡ a.steps.now + n)) c.open_listed.result
+    if_ok (λ (r : BagsAndKeys). (n : ℕ) × LegacyTextTable (with_units a.password.now q) b.limit b.spent a.text.now (opened r.contents r.keys) (b.spent + n) × (c.open_listed.new.steps ≡ c.agrees.new.steps + n))
+    (λ (r : BagsAndKeys). (n : ℕ) × LegacyMacTable a.password.now a.limit a.text.now m (opened r.contents r.keys) n × (c.open_listed.new.steps ≡ a.steps.now + n)) c.open_listed.result
     (λ r h. (
       m.iterations + h.0,
       agreed a.password.now a.limit a.text.now m (opened r.contents r.keys) (m.iterations + h.0) s some most good
@@ -104,8 +104,8 @@ returns-clause-opened g c =
     let most : m.iterations ≤ a.limit = grind (arith, limit, spent, b.within) in
     let units : c.as_slice-octets.result.now ≡ bmp_password a.password.now = c.as_slice-octets.ensures ∙ c.in_ok-units.ensures.ok in
     let bad : legacy_agrees m (bmp_password a.password.now) a.text.now ≡ false = ap (λ u. legacy_agrees m u a.text.now) (sym units) ∙ sym c.in_ok-good.ensures.value ∙ c.if-good.false in
-    if_ok (λ (r : LegacyOpened). (n : ℕ) × NullTable a.password.now b.limit a.text.now m (opened r.contents r.keys) (m.iterations + n) × (c.open_null.new.steps ≡ c.agrees.new.steps + n))
-    (λ (r : LegacyOpened). (n : ℕ) × LegacyMacTable a.password.now a.limit a.text.now m (opened r.contents r.keys) n × (c.open_null.new.steps ≡ a.steps.now + n)) c.open_null.result
+    if_ok (λ (r : BagsAndKeys). (n : ℕ) × NullTable a.password.now b.limit a.text.now m (opened r.contents r.keys) (m.iterations + n) × (c.open_null.new.steps ≡ c.agrees.new.steps + n))
+    (λ (r : BagsAndKeys). (n : ℕ) × LegacyMacTable a.password.now a.limit a.text.now m (opened r.contents r.keys) n × (c.open_null.new.steps ≡ a.steps.now + n)) c.open_null.result
     (λ r h. (
       m.iterations + h.0,
       disagreed a.password.now a.limit a.text.now m (opened r.contents r.keys) (m.iterations + h.0) s some most bad

@@ -6,11 +6,11 @@ use Rattle.p12.specs.declared.safe_bag.SafeBag.{SafeBag}
 use Rattle.pkcs12_inspection.specs.Listed.{others_in}
 use Rattle.pkcs12_arguments.specs.declared.export.Export.{Export}
 use Rattle.pkcs12_export.specs.Exports.{Exports, FailsToExport, FailsToSeal, IsOutside, IsWithin, keys_in}
+use Rattle.pkcs12_opening.specs.Opens.{Opens}
 use Rattle.pkcs12_opening.specs.declared.ending.Ending.{Ending}
 use Rattle.pkcs12_opening.specs.declared.ending.Ending.TheVariants.{Memory}
 use Rattle.transfer.specs.Opening.{all_certificates}
 use Rattle.transfer.specs.Transferred.{SealsOpened}
-use Rattle.transfer.specs.Verdicts.{StoreOpens}
 use Rattle.pkcs12_export.proofs.exporting.open_and_seal.Goals as goal
 
 -- Under equal numbers of other bags, certificates and keys.
@@ -19,7 +19,7 @@ by_numbers P a b c x y z d e f h = subst (P x y) f (subst (λ b. P x b c) e (sub
 
 -- A store that opens, and the part of it that is asked for.
 module _ (asked : Export) (new_password : Option (List ℕ)) (store password : List ℕ) (contents : List (List SafeBag)) (all_keys keys : List (List ℕ)) (work : ℕ)
-    (opens : StoreOpens store password contents all_keys work) (within : work ≤ asked.limit) (part : keys ≡ keys_in asked.target.part all_keys) where
+    (opens : Opens asked.modern_only store password contents all_keys work) (within : work ≤ asked.limit) (part : keys ≡ keys_in asked.target.part all_keys) where
   bounds_fail : (ending : Ending) → (ending ≡ Memory) ⊎ IsOutside asked (length (others_in contents)) (length (all_certificates contents)) (length keys) ending → FailsToExport asked new_password store password ending
   bounds_fail ending (inl memory) = inl (inl memory)
   bounds_fail ending (inr outside) = inr (record { contents = contents; all_keys = all_keys; work = work; opens = opens; within = within; keys = keys; part = part; fails = inl outside })
@@ -33,7 +33,7 @@ module _ (asked : Export) (new_password : Option (List ℕ)) (store password : L
     bounded_by certificates is = subst (λ (cs : List (List ℕ)). IsWithin asked (length (others_in contents)) (length cs) (length keys)) (sym is) bounded
 
 exports_so : (asked : Export) (new_password : Option (List ℕ)) (store password : List ℕ) (contents : List (List SafeBag)) (all_keys keys : List (List ℕ)) (work : ℕ)
-    → StoreOpens store password contents all_keys work → work ≤ asked.limit → keys ≡ keys_in asked.target.part all_keys
+    → Opens asked.modern_only store password contents all_keys work → work ≤ asked.limit → keys ≡ keys_in asked.target.part all_keys
     → IsWithin asked (length (others_in contents)) (length (all_certificates contents)) (length keys) → ForSome new_password (λ q. length q ≡ 0 → IsTrue asked.allow_empty)
     → (certificates documents : List (List ℕ)) → IfSome new_password (λ q. SealsOpened asked.rounds q None None contents keys certificates documents)
     → IfNone new_password ((keys ≡ []) × (documents ≡ []) × (certificates ≡ all_certificates contents)) → Exports asked new_password store password certificates documents
@@ -71,7 +71,7 @@ returns-in_err-within_bounds-clause-err g c =
     let p = err_from_is_err_and c.from_residual-in_err-within_bounds.result c.from_residual-in_err-within_bounds.ensures.1 in
     let o = c.in_ok-opened.ensures.ok in
     let asked = c.args.asked.now in
-    let s = c.in_ok-opened.opened in
+    let s = c.in_ok-opened.opened.safe in
     let keys = c.part_of-opened.result.keys in
     let ending = c.in_err-within_bounds.field-0.0.ending in
     rw (p.1, p.2) (bounds_fail asked c.args.new_password.now c.args.given.store.items c.args.given.password s.contents s.keys keys o.0 o.1 o.2 c.part_of-opened.ensures.keys ending
@@ -82,7 +82,7 @@ returns-in_err-transferred-clause-err g c =
     let p = err_from_is_err_and c.from_residual-in_err-transferred.result c.from_residual-in_err-transferred.ensures.1 in
     let o = c.in_ok-opened.ensures.ok in
     let asked = c.args.asked.now in
-    let s = c.in_ok-opened.opened in
+    let s = c.in_ok-opened.opened.safe in
     let keys = c.part_of-opened.result.keys in
     let bounded = by_numbers (IsWithin asked) _ _ _ _ _ _ c.in_ok-found.ensures.others c.in_ok-found.ensures.certificates c.number_of_keys.ensures c.in_ok-within_bounds.ensures.ok in
     rw (p.1, p.2) (sealing_fails asked c.args.new_password.now c.args.given.store.items c.args.given.password s.contents s.keys keys o.0 o.1 o.2 c.part_of-opened.ensures.keys bounded
@@ -92,7 +92,7 @@ pub returns-clause-ok : goal.returns-clause-ok
 returns-clause-ok g c =
     let o = c.in_ok-opened.ensures.ok in
     let asked = c.args.asked.now in
-    let s = c.in_ok-opened.opened in
+    let s = c.in_ok-opened.opened.safe in
     let part = c.part_of-opened.result in
     let t = c.in_ok-transferred.transferred in
     let new_password = c.args.new_password.now in

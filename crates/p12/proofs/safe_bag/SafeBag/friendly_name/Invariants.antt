@@ -1,6 +1,0 @@
-use Rattle.std.proofs.Common.{◌≡◌, drop}
-use Rattle.p12.specs.SafeBag.{first_name}
-use Rattle.p12.proofs.safe_bag.SafeBag.friendly_name.Given as goal
-
-abbrev pub invariant-loop-attribute : goal.invariant-loop-attribute
-invariant-loop-attribute l = first_name l.self.attributes ≡ first_name (drop l.attribute-index l.self.attributes)

@@ -1,6 +1,0 @@
-use Rattle.std.proofs.Common.{◌≡◌, drop}
-use Rattle.p12.specs.SafeBag.{first_key_id}
-use Rattle.p12.proofs.safe_bag.SafeBag.local_key_id.Given as goal
-
-abbrev pub invariant-loop-attribute : goal.invariant-loop-attribute
-invariant-loop-attribute l = first_key_id l.self.attributes ≡ first_key_id (drop l.attribute-index l.self.attributes)

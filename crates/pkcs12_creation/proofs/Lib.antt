@@ -1,4 +1,0 @@
-pub mod Blocks
-pub mod Choices
-pub mod Noted
-pub mod Orders
