@@ -111,11 +111,11 @@ holds meanings_are_the_same_in_each_language meanings
 # --- the stores of examples/, good and refused, and others ---
 
 # The library and the command on the store $1 under the password in the file $2: one number; and where both open it, the
-# certificates of both are the same text.
+# certificates of both are the same text. The library opens no old store.
 agrees() {
     library=0 command=0
     "$work/open" "$1" "$2" >"$work/text" 2>"$work/told" || library=$?
-    setsid -w "$home/pkcs12" check "$1" --password-file "$2" >"$work/said" 2>"$work/told" || command=$?
+    setsid -w "$home/pkcs12" check "$1" --password-file "$2" --modern-only >"$work/said" 2>"$work/told" || command=$?
     [ "$library" -eq "$command" ] || {
         echo "$1: the library returned $library, the command $command" >&2
         return 1

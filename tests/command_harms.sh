@@ -116,7 +116,7 @@ import sys
 
 with open(sys.argv[1], encoding="utf-8") as file:
     found = json.load(file)
-assert list(found) == ["certificates", "private_keys", "not_exported", "algorithms", "mac"], found
+assert list(found) == ["certificates", "private_keys", "not_exported", "algorithms", "mac", "old"], found
 first = found["certificates"][0]
 assert first == {"name": "cert-0", "friendly_name": "a\u202eb\u200bc\u2066d\ufeffe\u2028f\u0085g", "local_key_id": None, "is_certificate": True}
 assert found["certificates"][2]["friendly_name"] == "long" * 2000
@@ -582,11 +582,12 @@ read_only() {
         return 0
     }
     outcome=0
-    fails 4 WriteFault "Read-only file system" export "$keyed" --out "$work/disk/out" && says told "findmnt -T '$work/disk'" || outcome=1
+    fails 4 WriteFault "Read-only file system" export "$plain" --out "$work/disk/out" --password-file "$plain_password" &&
+        says told "findmnt -T '$work/disk'" || outcome=1
     umount "$work/disk"
     mount -t tmpfs -o nr_inodes=2 tmpfs "$work/disk" || return 1
-    fails 4 WriteFault "No space left" export "$keyed" --out "$work/disk/out" && says told "df -i '$work/disk'" &&
-        [ -z "$(ls -A "$work/disk")" ] || outcome=1
+    fails 4 WriteFault "No space left" export "$plain" --out "$work/disk/out" --password-file "$plain_password" &&
+        says told "df -i '$work/disk'" && [ -z "$(ls -A "$work/disk")" ] || outcome=1
     umount "$work/disk"
     return "$outcome"
 }
@@ -724,6 +725,7 @@ pem_store() {
     (cd "$work" && sh -c "$(grep '^    sed ' "$work/told")") && cmp "$work/STORE.p12" "$plain"
 }
 holds a_store_in_pem_is_decoded_as_it_says pem_store
+# A list of contents in BER is that of an old store.
 contents() {
     for each in content-pem:"what is at octet # is no list of contents" content-ber:"an element of indefinite length begins at octet #" \
         second-content:"content 2, at octet #, is no list of bags"; do
@@ -731,7 +733,12 @@ contents() {
         # where the octets are that Python wrote
         at=$("${PYTHON:-python3}" -c 'import sys; octets = open(sys.argv[1], "rb").read()
 print(max(octets.find(each) for each in (b"-----BEGIN", b"\x30\x80\0\0", b"\x04\x07no bags")))' "$store")
-        fails 17 ContentMalformed "$(echo "${each#*:}" | sed "s/#/$at/")" check "$store" --password-file "$work/p" || return 1
+        said=$(echo "${each#*:}" | sed "s/#/$at/")
+        fails 17 ContentMalformed "$said" check "$store" --password-file "$work/p" --modern-only || return 1
+        case $store in
+            */content-ber.p12) ends 0 check "$store" --password-file "$work/p" && says told "in BER" || return 1 ;;
+            *) fails 17 ContentMalformed "$said" check "$store" --password-file "$work/p" || return 1 ;;
+        esac
     done
 }
 holds a_damaged_content_has_a_place contents

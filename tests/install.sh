@@ -150,8 +150,8 @@ installed_library() {
     }
     flags=$(PKG_CONFIG_PATH=$work/prefix/lib/pkgconfig pkg-config --cflags --libs pkcs12)
     # shellcheck disable=SC2086
-    "${CC:-cc}" -Wall "$home/crates/pkcs12_c/examples/c/calls.c" -o "$work/calls" $flags &&
-        LD_LIBRARY_PATH=$work/prefix/lib "$work/calls" transfer "$plain" "$plain_password" "$work/new" >"$work/said" &&
+    "${CC:-cc}" -Wall "$home/crates/pkcs12_c/examples/c/calls.c" -o "$work/caller" $flags &&
+        LD_LIBRARY_PATH=$work/prefix/lib "$work/caller" transfer "$plain" "$plain_password" "$work/new" >"$work/said" &&
         [ "$(grep -c '^-----BEGIN CERTIFICATE-----$' "$work/said")" -eq 2 ]
 }
 holds the_library_is_found_by_pkg_config installed_library

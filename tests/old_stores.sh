@@ -60,12 +60,12 @@ made_by_certtool_sha512() { of_certtool "$1" --hash SHA512; }
 
 # By NSS, whose stores are in BER.
 of_pk12util() {
-    made=$1
+    exported=$1
     shift
     rm -rf "$work/nss-of" && mkdir "$work/nss-of" && certutil -N -d "sql:$work/nss-of" --empty-password &&
         of_openssl "$work/to-import.p12" &&
         pk12util -i "$work/to-import.p12" -d "sql:$work/nss-of" -w "$work/old" -K '' >"$work/told" 2>&1 &&
-        pk12util -o "$made" -n 'a name' -d "sql:$work/nss-of" -w "$work/old" -K '' "$@" >"$work/told" 2>&1
+        pk12util -o "$exported" -n 'a name' -d "sql:$work/nss-of" -w "$work/old" -K '' "$@" >"$work/told" 2>&1
 }
 made_by_pk12util() { of_pk12util "$1"; }
 made_by_pk12util_rc2() {

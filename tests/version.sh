@@ -19,8 +19,8 @@ has CHANGELOG.md "## $version"
 has docs/pkcs12.1 "\"pkcs12 $version\""
 has crates/pkcs12_arguments/src/command_line.rt ".version(\"$version\")"
 has crates/passdb_command/src/command_line.rt ".version(\"$version\")"
-if [ "$(sed -n 's/^## //p' CHANGELOG.md | head -n 1)" != "$version" ]; then
-    echo "not ok CHANGELOG.md: its first version is another"
+if [ "$(sed -n 's/^## //p' CHANGELOG.md | grep -vx Unreleased | head -n 1)" != "$version" ]; then
+    echo "not ok CHANGELOG.md: its last version is another"
     bad=1
 fi
 exit "$bad"
