@@ -1,15 +1,15 @@
 -- What was opened before is opened as before.
-use Rattle.std.proofs.Common.{ℕ, ◌≡◌, ◌∙◌, sym, ◌+◌, inl, inr, List, [], ◌∷◌, refl, ap₂, arith, Bool, true, false}
+use Rattle.std.proofs.Common.{ℕ, ◌≡◌, ◌∙◌, sym, ◌+◌, inl, inr, List, [], ◌∷◌, refl, ap₂, arith, subst, Bool, true, false}
 use Rattle.std.specs.Prelude.{Some, None, ◌&&◌, nat_lt}
 use Rattle.std.specs.Str.{bytes_eq}
 use Rattle.sha1.specs.Sha1.{sha1}
 use Rattle.sha2.specs.Sha256.{sha256}
 use Rattle.asn1_core.specs.OctetLaws.{both}
 use Rattle.pkcs12_kdf.specs.Mac.{mac_under}
-use Rattle.pkcs12_kdf.specs.Password.{bmp_password}
 use Rattle.p12.specs.MacData.{is_mac_digest, mac_agrees, mac_value}
 use Rattle.transfer.proofs.Faults.{true_false}
-use Rattle.legacy_store.specs.Mac.{agrees_by, hash_mac, hash_of, is_legacy_digest, legacy_agrees}
+use Rattle.legacy_store.specs.declared.mac_rule.MacRule.TheVariants.{Required}
+use Rattle.legacy_store.specs.Mac.{agrees_by, cost_by, count_by, hash_mac, is_legacy_digest, legacy_agrees, mac_cost, mac_count, mac_scheme}
 use Rattle.legacy_store.specs.Texts.{IsLegacySafe, IsLegacyStore}
 use Rattle.std.specs.List.{sum_by}
 use Rattle.std.proofs.lemmas.List.Sums.{sum_by-append}
@@ -29,11 +29,11 @@ use Rattle.transfer.specs.Verdicts.{StoreOpens}
 use Rattle.transfer.specs.declared.store.error.TransferError.{TransferError}
 use Rattle.transfer.proofs.Valid.{open_comes}
 use Rattle.legacy_store.specs.Algorithm.{legacy_cost, legacy_unlock, p12_unlock, scheme_cost, scheme_of, scheme_unlock}
-use Rattle.legacy_store.specs.Forms.{forms_of}
+use Rattle.legacy_store.specs.Forms.{Forms, forms_of}
 use Rattle.legacy_store.specs.Laws.{OpensStoresAsBefore, OpensTextsAsBefore}
 use Rattle.legacy_store.specs.Verdicts.{LegacyOpens}
 use Rattle.legacy_store.proofs.Closed.{opened_exactly}
-use Rattle.legacy_store.specs.Opening.{HasLegacyVerdict, LegacyContentsTable, LegacyHolds, LegacyKeyOpens, LegacyMacTable, LegacyStoreTable, LegacyTextTable, legacy_key_share, legacy_share}
+use Rattle.legacy_store.specs.Opening.{HasVerdictUnder, LegacyContentsTable, LegacyHolds, LegacyKeyOpens, LegacyMacTable, LegacyStoreTable, LegacyTextTable, legacy_key_share, legacy_share}
 
 none_some : {P : Type 0} (m : List ℕ) → None ≡ Some m → P
 none_some m e = absurd cc
@@ -115,9 +115,9 @@ contents_table p limit sum cs gss ks n (inr (held, a, inr (texts, b, last))) =
 
 -- ---- The MAC
 
--- A digest that p12 knows is known, and its MAC agrees alike.
+-- A digest that p12 knows is known, its count and its work are those of MacData, and its MAC agrees alike.
 pub digest_as_before : (a : AlgorithmIdentifier) → is_mac_digest a ≡ true → is_legacy_digest a ≡ true
-unfolding hash_of
+unfolding mac_scheme
 digest_as_before Sha1 h = refl
 digest_as_before Sha256 h = refl
 digest_as_before (PbewithSHAAnd40BitRC2CBC p) h = absurd cc
@@ -125,19 +125,36 @@ digest_as_before (PbeWithSHAAnd3KeyTripleDESCBC p) h = absurd cc
 digest_as_before (Pbes2 par) h = absurd cc
 digest_as_before (OtherAlg o) h = absurd cc
 
-same_octets : (a : AlgorithmIdentifier) (n : ℕ) (q v salt d : List ℕ) (m : MacData)
-    → (is_mac_digest a && (nat_lt 0 n && bytes_eq (mac_value a q salt n v) d)) ≡ true → m.salt ≡ salt → m.iterations ≡ n → m.mac.digest ≡ d → agrees_by (hash_of a) m q v ≡ true
-unfolding hash_of mac_value hash_mac
-same_octets Sha1 n q v salt d m h s i g = rw (s, i, g) (both (nat_lt 0 n) (bytes_eq (mac_under sha1 20 q salt n v) d) h).1
-same_octets Sha256 n q v salt d m h s i g = rw (s, i, g) (both (nat_lt 0 n) (bytes_eq (mac_under sha256 32 q salt n v) d) h).1
-same_octets (PbewithSHAAnd40BitRC2CBC p) n q v salt d m h s i g = absurd cc
-same_octets (PbeWithSHAAnd3KeyTripleDESCBC p) n q v salt d m h s i g = absurd cc
-same_octets (Pbes2 par) n q v salt d m h s i g = absurd cc
-same_octets (OtherAlg o) n q v salt d m h s i g = absurd cc
+work_of : (a : AlgorithmIdentifier) (m : MacData) → is_mac_digest a ≡ true → (count_by (mac_scheme a) m ≡ m.iterations) × (cost_by (mac_scheme a) m ≡ m.iterations)
+unfolding mac_scheme
+work_of Sha1 m h = (refl, refl)
+work_of Sha256 m h = (refl, refl)
+work_of (PbewithSHAAnd40BitRC2CBC p) m h = absurd cc
+work_of (PbeWithSHAAnd3KeyTripleDESCBC p) m h = absurd cc
+work_of (Pbes2 par) m h = absurd cc
+work_of (OtherAlg o) m h = absurd cc
 
-pub mac_as_before : (m : MacData) (q v : List ℕ) → mac_agrees m q v ≡ true → legacy_agrees m q v ≡ true
+pub count_as_before : (m : MacData) → is_mac_digest m.mac.digest_algorithm ≡ true → mac_count m ≡ m.iterations
+unfolding mac_count
+count_as_before m h = (work_of m.mac.digest_algorithm m h).0
+
+pub work_as_before : (m : MacData) → is_mac_digest m.mac.digest_algorithm ≡ true → mac_cost m ≡ m.iterations
+unfolding mac_cost
+work_as_before m h = (work_of m.mac.digest_algorithm m h).1
+
+same_octets : (a : AlgorithmIdentifier) (n : ℕ) (f : Forms) (v salt d : List ℕ) (m : MacData)
+    → (is_mac_digest a && (nat_lt 0 n && bytes_eq (mac_value a f.units salt n v) d)) ≡ true → m.salt ≡ salt → m.iterations ≡ n → m.mac.digest ≡ d → agrees_by (mac_scheme a) m f v ≡ true
+unfolding mac_scheme mac_value hash_mac
+same_octets Sha1 n f v salt d m h s i g = rw (s, i, g) (both (nat_lt 0 n) (bytes_eq (mac_under sha1 20 f.units salt n v) d) h).1
+same_octets Sha256 n f v salt d m h s i g = rw (s, i, g) (both (nat_lt 0 n) (bytes_eq (mac_under sha256 32 f.units salt n v) d) h).1
+same_octets (PbewithSHAAnd40BitRC2CBC p) n f v salt d m h s i g = absurd cc
+same_octets (PbeWithSHAAnd3KeyTripleDESCBC p) n f v salt d m h s i g = absurd cc
+same_octets (Pbes2 par) n f v salt d m h s i g = absurd cc
+same_octets (OtherAlg o) n f v salt d m h s i g = absurd cc
+
+pub mac_as_before : (m : MacData) (f : Forms) (v : List ℕ) → mac_agrees m f.units v ≡ true → legacy_agrees m f v ≡ true
 unfolding mac_agrees legacy_agrees
-mac_as_before m q v h = same_octets m.mac.digest_algorithm m.iterations q v m.salt m.mac.digest m h refl refl refl
+mac_as_before m f v h = same_octets m.mac.digest_algorithm m.iterations f v m.salt m.mac.digest m h refl refl refl
 
 pub digest_not_false : (a : AlgorithmIdentifier) → (is_mac_digest a ≡ false → ⊥) → is_legacy_digest a ≡ false → ⊥
 digest_not_false a h none = true_false (is_legacy_digest a) (digest_as_before a (not_false _ h)) none
@@ -153,20 +170,26 @@ mac_table p limit v m gss ks n (inr (a, inr (b, inl h))) = is_opened _ gss ks h.
 mac_table p limit v m gss ks n (inr (a, inr (b, inr (c, inl h)))) = is_opened _ gss ks h.1
 mac_table p limit v m gss ks n (inr (a, inr (b, inr (c, inr (d, inl h))))) = is_opened _ gss ks h.1
 mac_table p limit v m gss ks n (inr (a, inr (b, inr (c, inr (d, inr (e, (cs, is, t))))))) =
-    inr (digest_not_false m.mac.digest_algorithm a, inr (b, inr (c, inl (mac_as_before m (bmp_password p) v (not_false _ d), inr (λ none. none cs (inl is), (cs, inl is, contents_table p limit m.iterations cs gss ks n t))))))
+    let known = not_false _ a in
+    let work = work_as_before m known in
+    let contents = subst (λ s. LegacyContentsTable (forms_of p) limit s cs (opened gss ks) n) (sym work) (contents_table p limit m.iterations cs gss ks n t) in
+    inr (
+      digest_not_false m.mac.digest_algorithm a,
+      inr (λ z. b (sym (count_as_before m known) ∙ z), inr (λ z. c (omega (arith, work, z)), inl (mac_as_before m (forms_of p) v (not_false _ d), inr (λ none. none cs (inl is), (cs, inl is, contents))))),
+    )
 
 store_table : (p : List ℕ) (limit : ℕ) (s : PFX) (gss : List (List SafeBag)) (ks : List (List ℕ)) (n : ℕ) → StoreTable p limit s (opened gss ks) n
-    → LegacyStoreTable p limit s (opened gss ks) n
+    → LegacyStoreTable Required p limit s (opened gss ks) n
 store_table p limit s gss ks n (inl h) = is_opened _ gss ks h.1
 store_table p limit s gss ks n (inr (a, (v, is, inl h))) = is_opened _ gss ks h.1
 store_table p limit s gss ks n (inr (a, (v, is, inr (b, (m, has, t))))) = inr (a, (v, is, inr (b, (m, has, mac_table p limit v m gss ks n t))))
 
 pub stores_as_before : OpensStoresAsBefore
-unfolding HasVerdict HasLegacyVerdict IsLegacyStore
+unfolding HasVerdict HasVerdictUnder IsLegacyStore
 stores_as_before b p limit gss ks n (inl h) = is_opened _ gss ks h.1
 stores_as_before b p limit gss ks n (inr (a, inl h)) = is_opened _ gss ks h.1
 stores_as_before b p limit gss ks n (inr (a, inr (c, (s, is, t)))) = inr (a, inr (λ none. none s (inl is), (s, inl is, store_table p limit s gss ks n t)))
 
 -- The same of the relations that leave out the order of the causes.
 pub opens_as_before : (b p : List ℕ) (gss : List (List SafeBag)) (ks : List (List ℕ)) (n : ℕ) → StoreOpens b p gss ks n → LegacyOpens b p gss ks n
-opens_as_before b p gss ks n o = ((opened_exactly b p n gss ks n).0 (stores_as_before b p n gss ks n (open_comes b p n gss ks n o (omega arith)))).0
+opens_as_before b p gss ks n o = ((opened_exactly Required b p n gss ks n).0 (stores_as_before b p n gss ks n (open_comes b p n gss ks n o (omega arith)))).0

@@ -1,18 +1,24 @@
--- The MAC of a store under the hash function that its digest names.
-use Rattle.std.proofs.Common.{◌≡◌, ◌∙◌, ℕ, List, Bool, true, subst, sym, ap}
-use Rattle.std.specs.Prelude.{Option, Some, None, Result, IfOk, is_some}
-use Rattle.std.specs.Str.{bytes_eq}
-use Rattle.p12.specs.declared.algorithm_identifier.AlgorithmIdentifier.{AlgorithmIdentifier}
+-- How the MAC of a store is made, by its digest.
+use Rattle.std.proofs.Common.{◌≡◌, ◌∙◌, ℕ, List, Bool, subst, sym, ap}
+use Rattle.std.specs.Prelude.{Option, Some, Result, IfOk}
 use Rattle.p12.specs.declared.mac_data.MacData.{MacData}
-use Rattle.transfer.proofs.Faults.{true_false}
-use Rattle.legacy_store.specs.declared.mac.MacHash.{MacHash}
-use Rattle.legacy_store.specs.Mac.{agrees_by, hash_mac, hash_of, is_legacy_digest, legacy_agrees}
+use Rattle.legacy_store.specs.declared.mac.MacScheme.{MacScheme}
+use Rattle.legacy_store.specs.Forms.{Forms}
+use Rattle.legacy_store.specs.Mac.{agrees_by, cost_by, count_by, legacy_agrees, mac_cost, mac_count, mac_scheme}
 
-pub agrees_as : {E : Type 0} (r : Result Bool E) (o : Option MacHash) (h : MacHash) (m : MacData) (q v : List ℕ) → o ≡ hash_of m.mac.digest_algorithm → o ≡ Some h
-    → IfOk r (λ a. a ≡ bytes_eq (hash_mac h q m.salt m.iterations v) m.mac.digest) → IfOk r (λ a. a ≡ legacy_agrees m q v)
-unfolding legacy_agrees
-agrees_as r o h m q v of is k =
-    subst (λ (x : Option MacHash). IfOk r (λ a. a ≡ agrees_by x m q v)) of (subst (λ (x : Option MacHash). IfOk r (λ a. a ≡ agrees_by x m q v)) (sym is) k)
+-- What is made in this way is what the digest says.
+module _ (m : MacData) (o : Option MacScheme) (x s : MacScheme) (of : o ≡ mac_scheme m.mac.digest_algorithm) (some : o ≡ Some x) (is : x ≡ s) where
+  made_so : Some s ≡ mac_scheme m.mac.digest_algorithm
+  made_so = sym (some ∙ ap Some is) ∙ of
 
-pub unknown_hash : {P : Type 0} (a : AlgorithmIdentifier) (o : Option MacHash) → is_legacy_digest a ≡ true → o ≡ hash_of a → o ≡ None → P
-unknown_hash a o known of none = true_false (is_some (hash_of a)) known (ap is_some (sym of) ∙ ap is_some none)
+  pub count_is : count_by (Some s) m ≡ mac_count m
+  unfolding mac_count
+  count_is = ap (λ y. count_by y m) made_so
+
+  pub cost_is : cost_by (Some s) m ≡ mac_cost m
+  unfolding mac_cost
+  cost_is = ap (λ y. cost_by y m) made_so
+
+  pub agrees_as : {E : Type 0} (r : Result Bool E) (f : Forms) (v : List ℕ) → IfOk r (λ a. a ≡ agrees_by (Some s) m f v) → IfOk r (λ a. a ≡ legacy_agrees m f v)
+  unfolding legacy_agrees
+  agrees_as r f v k = subst (λ (y : Option MacScheme). IfOk r (λ a. a ≡ agrees_by y m f v)) made_so k

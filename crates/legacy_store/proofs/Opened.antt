@@ -18,7 +18,7 @@ use Rattle.legacy_store.specs.declared.scheme.OldCipher.{OldCipher}
 use Rattle.legacy_store.specs.declared.scheme.OldCipher.TheVariants.{Rc2Of40, Rc2Of128, TwoKeyTripleDes}
 use Rattle.legacy_store.specs.Algorithm.{IsSchemeOpened, SchemeOf, legacy_unlock, of_old, of_p12, old_or_p12, p12_taken, p12_unlock, scheme_cost, scheme_count, scheme_of, scheme_openable, scheme_salt, scheme_taken, scheme_unlock}
 use Rattle.legacy_store.specs.Forms.{Forms}
-use Rattle.legacy_store.specs.Scheme.{SchemeParts, key_octets, old_fits, old_inverse, old_scheme, old_taken, old_text, old_unlock, salt_limit}
+use Rattle.legacy_store.specs.Scheme.{SchemeParts, key_octets, old_fits, old_inverse, old_scheme, old_taken, old_text, old_unlock, opens_with, salt_limit}
 
 -- ---- Old schemes
 
@@ -97,28 +97,33 @@ at_most : (t : Bool) (n : ℕ) → (if t then n else 0) ≤ n
 at_most true n = omega arith
 at_most false n = omega arith
 
-old_opened : (s : SchemeParts) (q c m : List ℕ) → old_unlock s q c ≡ Some m → IsSchemeOpened (of_old s) c
+is_then : (t : Bool) (r : Option (List ℕ)) (m : List ℕ) → (if t then r else None) ≡ Some m → r ≡ Some m
+is_then true r m e = e
+is_then false r m e = absurd cc
+
+old_opened : (has_mac : Bool) (s : SchemeParts) (q c m : List ℕ) → (if opens_with has_mac s.cipher then old_unlock s q c else None) ≡ Some m → IsSchemeOpened has_mac (of_old s) c
 unfolding old_unlock old_taken scheme_openable scheme_count scheme_taken scheme_cost
-old_opened s q c m h =
-    let t = not_none (old_fits s c) (unpadded 8 (old_text s q c)) m h in
+old_opened has_mac s q c m h =
+    let o : opens_with has_mac s.cipher ≡ true = not_none (opens_with has_mac s.cipher) (old_unlock s q c) m h in
+    let t = not_none (old_fits s c) (unpadded 8 (old_text s q c)) m (is_then (opens_with has_mac s.cipher) (old_unlock s q c) m h) in
     let x = both (nat_lt (length s.salt) salt_limit) (nat_lt 0 s.iterations && is_blocks c) t in
     let r = both (nat_lt 0 s.iterations) (is_blocks c) x.1 in
-    record { openable = x.0; some_rounds = ltb-true 0 s.iterations r.0; all = rw t refl }
+    record { openable = rw o x.0; some_rounds = ltb-true 0 s.iterations r.0; all = rw t refl }
 
 -- ---- As p12 opens
 
-triple_des_opened : (p : _) (q c m : List ℕ) → unlock_pbe (PbeWithSHAAnd3KeyTripleDESCBC p) q c ≡ Some m → IsSchemeOpened (of_p12 (PbeWithSHAAnd3KeyTripleDESCBC p)) c
+triple_des_opened : (has_mac : Bool) (p : _) (q c m : List ℕ) → unlock_pbe (PbeWithSHAAnd3KeyTripleDESCBC p) q c ≡ Some m → IsSchemeOpened has_mac (of_p12 (PbeWithSHAAnd3KeyTripleDESCBC p)) c
 unfolding unlock_pbe p12_taken taken_pbe scheme_openable scheme_count scheme_taken scheme_cost
-triple_des_opened p q c m h =
+triple_des_opened has_mac p q c m h =
     let t = both (nat_lt 0 p.iterations) (is_blocks c) (not_none (nat_lt 0 p.iterations && is_blocks c) (unpadded 8 (triple_des_text q p.salt p.iterations c)) m h) in
     record { openable = refl; some_rounds = ltb-true 0 p.iterations t.0; all = rw t.1 refl }
 
-own_opened : (f : Forms) (a : AlgorithmIdentifier) (c m : List ℕ) → p12_unlock f a c ≡ Some m → IsSchemeOpened (of_p12 a) c
+own_opened : (f : Forms) (a : AlgorithmIdentifier) (c m : List ℕ) → p12_unlock f a c ≡ Some m → IsSchemeOpened f.has_mac (of_p12 a) c
 unfolding p12_unlock p12_taken scheme_openable scheme_count scheme_taken scheme_cost
 own_opened f Sha1 c m h = none_some m h
 own_opened f Sha256 c m h = none_some m h
 own_opened f (PbewithSHAAnd40BitRC2CBC p) c m h = none_some m h
-own_opened f (PbeWithSHAAnd3KeyTripleDESCBC p) c m h = triple_des_opened p f.units c m h
+own_opened f (PbeWithSHAAnd3KeyTripleDESCBC p) c m h = triple_des_opened f.has_mac p f.units c m h
 own_opened f (Pbes2 par) c m h =
     let o = unlock_opened (Pbes2 par) f.utf8 c m h in
     record { openable = o.openable; some_rounds = o.some_rounds; all = o.all }
@@ -135,9 +140,9 @@ own_taken_most (OtherAlg o) c = omega arith
 
 -- ---- Schemes
 
-pub scheme_opened : (f : Forms) (s : SchemeOf) (c m : List ℕ) → scheme_unlock f s c ≡ Some m → IsSchemeOpened s c
+pub scheme_opened : (f : Forms) (s : SchemeOf) (c m : List ℕ) → scheme_unlock f s c ≡ Some m → IsSchemeOpened f.has_mac s c
 unfolding scheme_unlock
-scheme_opened f (of_old s) c m h = old_opened s f.units c m h
+scheme_opened f (of_old s) c m h = old_opened f.has_mac s f.units c m h
 scheme_opened f (of_p12 a) c m h = own_opened f a c m h
 
 pub scheme_taken_most : (s : SchemeOf) (c : List ℕ) → scheme_taken s c ≤ scheme_cost s
@@ -156,6 +161,6 @@ short_salt a h = salt_kept a (old_scheme a) h
 
 -- ---- Algorithms
 
-pub legacy_opened : (f : Forms) (a : AlgorithmIdentifier) (c m : List ℕ) → legacy_unlock f a c ≡ Some m → IsSchemeOpened (scheme_of a) c
+pub legacy_opened : (f : Forms) (a : AlgorithmIdentifier) (c m : List ℕ) → legacy_unlock f a c ≡ Some m → IsSchemeOpened f.has_mac (scheme_of a) c
 unfolding legacy_unlock
 legacy_opened f a c m h = scheme_opened f (scheme_of a) c m h

@@ -1,12 +1,11 @@
 -- What was refused before for a cause that no old store has is refused for it.
-use Rattle.std.proofs.Common.{ℕ, zero, suc, ◌≡◌, ◌≢◌, ◌∙◌, ◌+◌, ◌<◌, inl, inr, List, [], length, refl, sym, ap, subst, arith, Bool, true, false}
-use Rattle.std.specs.Prelude.{Some, None, ◌&&◌, nat_lt}
+use Rattle.std.proofs.Common.{ℕ, zero, suc, ◌≡◌, ◌≢◌, ◌∙◌, ◌+◌, inl, inr, List, [], length, refl, sym, ap, subst, arith, Bool, true, false}
+use Rattle.std.specs.Prelude.{◌&&◌, nat_lt}
 use Rattle.std.specs.Str.{bytes_eq}
 use Rattle.std.proofs.lemmas.Bool.{lt-ltb}
 use Rattle.sha1.specs.Sha1.{sha1}
 use Rattle.sha2.specs.Sha256.{sha256}
 use Rattle.pkcs12_kdf.specs.Mac.{mac_under}
-use Rattle.pkcs12_kdf.specs.Password.{bmp_password}
 use Rattle.p12.specs.AlgorithmIdentifier.{cost, count, openable, taken, unlock}
 use Rattle.p12.specs.declared.algorithm_identifier.AlgorithmIdentifier.{AlgorithmIdentifier}
 use Rattle.p12.specs.declared.algorithm_identifier.AlgorithmIdentifier.TheVariants.{Sha1, Sha256, PbewithSHAAnd40BitRC2CBC, PbeWithSHAAnd3KeyTripleDESCBC, Pbes2, OtherAlg}
@@ -24,13 +23,14 @@ use Rattle.transfer.specs.declared.store.error.TransferError.TheVariants.{Malfor
 use Rattle.transfer.proofs.Faults.{true_false}
 use Rattle.transfer.proofs.Valid.{not_refused}
 use Rattle.legacy_store.specs.Algorithm.{legacy_cost, legacy_count, legacy_openable, legacy_taken, legacy_unlock, p12_taken, p12_unlock, scheme_cost, scheme_count, scheme_of, scheme_openable, scheme_taken, scheme_unlock}
-use Rattle.legacy_store.specs.Forms.{forms_of}
+use Rattle.legacy_store.specs.Forms.{Forms, forms_of}
 use Rattle.legacy_store.specs.Laws.{RefusesStoresAsBefore, stays_refused}
-use Rattle.legacy_store.specs.Mac.{agrees_by, hash_mac, hash_of, legacy_agrees}
-use Rattle.legacy_store.specs.Opening.{HasLegacyVerdict, LegacyContentCause, LegacyContentsTable, LegacyKeyFault, LegacyLockFault, LegacyMacTable, LegacyStoreTable, LegacyTextTable, NullTable, legacy_contents, legacy_keys}
+use Rattle.legacy_store.specs.declared.mac_rule.MacRule.TheVariants.{Required}
+use Rattle.legacy_store.specs.Mac.{agrees_by, hash_mac, legacy_agrees, mac_scheme}
+use Rattle.legacy_store.specs.Opening.{HasVerdictUnder, LegacyContentCause, LegacyContentsTable, LegacyKeyFault, LegacyLockFault, LegacyMacTable, LegacyStoreTable, LegacyTextTable, NullTable, legacy_contents, legacy_keys}
 use Rattle.legacy_store.specs.Texts.{IsLegacySafe, IsLegacyStore}
 use Rattle.legacy_store.proofs.Closed.{refused_same}
-use Rattle.legacy_store.proofs.Conservative.{contents_as_before, digest_not_false, keys_as_before, mac_as_before, not_false}
+use Rattle.legacy_store.proofs.Conservative.{contents_as_before, count_as_before, digest_not_false, keys_as_before, mac_as_before, not_false, work_as_before}
 
 -- ---- Causes that stay
 
@@ -45,7 +45,7 @@ other_cause p e g s k is = absurd (not_one p e g s k (refused_same e g is))
 
 -- What p12 opens a text to, and its work, are the same here.
 record SameLock (p : List ℕ) (a : AlgorithmIdentifier) (c : List ℕ) : Type 0 where
-  opens : legacy_openable a ≡ true
+  opens : legacy_openable true a ≡ true
   rounds : legacy_count a ≡ count a
   share : legacy_cost a ≡ cost a
   steps : legacy_taken a c ≡ taken a c
@@ -158,20 +158,20 @@ some_count : (n : ℕ) → (n ≡ 0 → ⊥) → nat_lt 0 n ≡ true
 some_count zero h = absurd (h refl)
 some_count (suc n) h = lt-ltb 0 (suc n) (omega arith)
 
-other_octets : (a : AlgorithmIdentifier) (n : ℕ) (q v salt d : List ℕ) (m : MacData) → (is_mac_digest a && (nat_lt 0 n && bytes_eq (mac_value a q salt n v) d)) ≡ false → is_mac_digest a ≡ true
-    → nat_lt 0 n ≡ true → m.salt ≡ salt → m.iterations ≡ n → m.mac.digest ≡ d → agrees_by (hash_of a) m q v ≡ false
-unfolding hash_of mac_value hash_mac
-other_octets Sha1 n q v salt d m h k r s i g = rw (s, i, g) (and_false (nat_lt 0 n) (bytes_eq (mac_under sha1 20 q salt n v) d) h r)
-other_octets Sha256 n q v salt d m h k r s i g = rw (s, i, g) (and_false (nat_lt 0 n) (bytes_eq (mac_under sha256 32 q salt n v) d) h r)
-other_octets (PbewithSHAAnd40BitRC2CBC p) n q v salt d m h k r s i g = absurd cc
-other_octets (PbeWithSHAAnd3KeyTripleDESCBC p) n q v salt d m h k r s i g = absurd cc
-other_octets (Pbes2 par) n q v salt d m h k r s i g = absurd cc
-other_octets (OtherAlg o) n q v salt d m h k r s i g = absurd cc
+other_octets : (a : AlgorithmIdentifier) (n : ℕ) (f : Forms) (v salt d : List ℕ) (m : MacData) → (is_mac_digest a && (nat_lt 0 n && bytes_eq (mac_value a f.units salt n v) d)) ≡ false
+    → is_mac_digest a ≡ true → nat_lt 0 n ≡ true → m.salt ≡ salt → m.iterations ≡ n → m.mac.digest ≡ d → agrees_by (mac_scheme a) m f v ≡ false
+unfolding mac_scheme mac_value hash_mac
+other_octets Sha1 n f v salt d m h k r s i g = rw (s, i, g) (and_false (nat_lt 0 n) (bytes_eq (mac_under sha1 20 f.units salt n v) d) h r)
+other_octets Sha256 n f v salt d m h k r s i g = rw (s, i, g) (and_false (nat_lt 0 n) (bytes_eq (mac_under sha256 32 f.units salt n v) d) h r)
+other_octets (PbewithSHAAnd40BitRC2CBC p) n f v salt d m h k r s i g = absurd cc
+other_octets (PbeWithSHAAnd3KeyTripleDESCBC p) n f v salt d m h k r s i g = absurd cc
+other_octets (Pbes2 par) n f v salt d m h k r s i g = absurd cc
+other_octets (OtherAlg o) n f v salt d m h k r s i g = absurd cc
 
 -- A MAC that does not agree does not agree here.
-mac_disagrees : (m : MacData) (q v : List ℕ) → is_mac_digest m.mac.digest_algorithm ≡ true → (m.iterations ≡ 0 → ⊥) → mac_agrees m q v ≡ false → legacy_agrees m q v ≡ false
+mac_disagrees : (m : MacData) (f : Forms) (v : List ℕ) → is_mac_digest m.mac.digest_algorithm ≡ true → (m.iterations ≡ 0 → ⊥) → mac_agrees m f.units v ≡ false → legacy_agrees m f v ≡ false
 unfolding mac_agrees legacy_agrees
-mac_disagrees m q v known some h = other_octets m.mac.digest_algorithm m.iterations q v m.salt m.mac.digest m h known (some_count m.iterations some) refl refl refl
+mac_disagrees m f v known some h = other_octets m.mac.digest_algorithm m.iterations f v m.salt m.mac.digest m h known (some_count m.iterations some) refl refl refl
 
 -- Where a mismatch stays a refusal there is a password.
 some_password : (p : List ℕ) → stays_refused p MacMismatch ≡ true → p ≢ []
@@ -180,26 +180,41 @@ some_password p s none = true_false (stays_refused p MacMismatch) s (ap (λ q. n
 mac_refused : (p : List ℕ) (limit : ℕ) (v : List ℕ) (m : MacData) (e : TransferError) (n : ℕ) → stays_refused p e ≡ true → MacTable p limit v m (refused e) n → LegacyMacTable p limit v m (refused e) n
 unfolding MacTable LegacyMacTable LegacyTextTable NullTable IsLegacySafe
 mac_refused p limit v m e n s (inl h) = other_cause p e MacUnsupported s refl h.1
-mac_refused p limit v m e n s (inr (a, inl h)) = inr (digest_not_false m.mac.digest_algorithm a, inl h)
-mac_refused p limit v m e n s (inr (a, inr (b, inl h))) = inr (digest_not_false m.mac.digest_algorithm a, inr (b, inl h))
+mac_refused p limit v m e n s (inr (a, inl h)) =
+    let count = count_as_before m (not_false _ a) in
+    inr (digest_not_false m.mac.digest_algorithm a, inl (count ∙ h.0, h.1, h.2))
+mac_refused p limit v m e n s (inr (a, inr (b, inl h))) =
+    let known = not_false _ a in
+    inr (digest_not_false m.mac.digest_algorithm a, inr (λ z. b (sym (count_as_before m known) ∙ z), inl (omega (arith, work_as_before m known, h.0), h.1, h.2)))
 mac_refused p limit v m e n s (inr (a, inr (b, inr (c, inl h)))) =
+    let known = not_false _ a in
+    let work = work_as_before m known in
     let some = some_password p (ap (stays_refused p) (sym (refused_same e MacMismatch h.1)) ∙ s) in
-    let bad = mac_disagrees m (bmp_password p) v (not_false _ a) b h.0 in
-    inr (digest_not_false m.mac.digest_algorithm a, inr (b, inr (c, inr (λ good. true_false _ good bad, inl (some, h.1, h.2)))))
+    let bad = mac_disagrees m (forms_of p) v known b h.0 in
+    inr (
+      digest_not_false m.mac.digest_algorithm a,
+      inr (λ z. b (sym (count_as_before m known) ∙ z), inr (λ z. c (omega (arith, work, z)), inr (λ good. true_false _ good bad, inl (some, h.1, h.2 ∙ sym work)))),
+    )
 mac_refused p limit v m e n s (inr (a, inr (b, inr (c, inr (d, inl h))))) = other_cause p e ContentMalformed s refl h.1
 mac_refused p limit v m e n s (inr (a, inr (b, inr (c, inr (d, inr (none, (cs, is, t))))))) =
-    let good = mac_as_before m (bmp_password p) v (not_false _ d) in
-    inr (digest_not_false m.mac.digest_algorithm a, inr (b, inr (c, inl (good, inr (λ no. no cs (inl is), (cs, inl is, contents_refused_so p limit m.iterations cs e n s t))))))
+    let known = not_false _ a in
+    let work = work_as_before m known in
+    let good = mac_as_before m (forms_of p) v (not_false _ d) in
+    let contents = subst (λ w. LegacyContentsTable (forms_of p) limit w cs (refused e) n) (sym work) (contents_refused_so p limit m.iterations cs e n s t) in
+    inr (
+      digest_not_false m.mac.digest_algorithm a,
+      inr (λ z. b (sym (count_as_before m known) ∙ z), inr (λ z. c (omega (arith, work, z)), inl (good, inr (λ no. no cs (inl is), (cs, inl is, contents))))),
+    )
 
 -- ---- Stores
 
-store_refused : (p : List ℕ) (limit : ℕ) (x : PFX) (e : TransferError) (n : ℕ) → stays_refused p e ≡ true → StoreTable p limit x (refused e) n → LegacyStoreTable p limit x (refused e) n
+store_refused : (p : List ℕ) (limit : ℕ) (x : PFX) (e : TransferError) (n : ℕ) → stays_refused p e ≡ true → StoreTable p limit x (refused e) n → LegacyStoreTable Required p limit x (refused e) n
 store_refused p limit x e n s (inl h) = other_cause p e Unsupported s refl h.1
-store_refused p limit x e n s (inr (a, (v, is, inl h))) = inr (a, (v, is, inl h))
+store_refused p limit x e n s (inr (a, (v, is, inl h))) = inr (a, (v, is, inl (h.0, (h.1, h.2))))
 store_refused p limit x e n s (inr (a, (v, is, inr (b, (m, has, t))))) = inr (a, (v, is, inr (b, (m, has, mac_refused p limit v m e n s t))))
 
 pub stores_refused : RefusesStoresAsBefore
-unfolding HasVerdict HasLegacyVerdict IsLegacyStore
+unfolding HasVerdict HasVerdictUnder IsLegacyStore
 stores_refused b p limit e n s (inl h) = inl h
 stores_refused b p limit e n s (inr (a, inl h)) = other_cause p e Malformed s refl h.1
 stores_refused b p limit e n s (inr (a, inr (c, (x, is, t)))) = inr (a, inr (λ none. none x (inl is), (x, inl is, store_refused p limit x e n s t)))

@@ -16,15 +16,16 @@ use Rattle.transfer.specs.Limits.{store_limit}
 use Rattle.transfer.specs.Opening.{RefusedAfter, Verdict, all_shrouded, opened, refused}
 use Rattle.transfer.specs.Parts.{AreOpen, IsFirstFault}
 use Rattle.transfer.specs.declared.store.error.TransferError.{TransferError}
-use Rattle.transfer.specs.declared.store.error.TransferError.TheVariants.{TooLong, Malformed, Unsupported, MacMissing, MacUnsupported, ZeroIterations, WorkLimit, MacMismatch, ContentMalformed}
+use Rattle.transfer.specs.declared.store.error.TransferError.TheVariants.{TooLong, Malformed, Unsupported, MacUnsupported, ZeroIterations, WorkLimit, MacMismatch, ContentMalformed}
 use Rattle.legacy_store.specs.Forms.{Forms, forms_of, null_forms}
-use Rattle.legacy_store.specs.Mac.{is_legacy_digest, legacy_agrees}
+use Rattle.legacy_store.specs.declared.mac_rule.MacRule.{MacRule}
+use Rattle.legacy_store.specs.Mac.{is_legacy_digest, legacy_agrees, mac_cost, mac_count}
 use Rattle.legacy_store.specs.Texts.{IsLegacySafe, IsLegacyStore, NoLegacySafe, NoLegacyStore}
-use Rattle.legacy_store.specs.Opening.{HasLegacyVerdict, LegacyContentsTable, LegacyHolds, LegacyKeysTable, LegacyMacTable, LegacyStoreTable, LegacyTextTable, NullTable, legacy_contents, legacy_key_share, legacy_keys, legacy_share}
+use Rattle.legacy_store.specs.Opening.{BareTable, HasVerdictUnder, LegacyContentsTable, LegacyHolds, LegacyKeysTable, LegacyMacTable, LegacyStoreTable, LegacyTextTable, NullTable, legacy_contents, legacy_key_share, legacy_keys, legacy_share}
 use Rattle.transfer.specs.TransferError.{RefusedBy}
 use Rattle.transfer.proofs.Faults.{refused_after_as, refused_as, refused_later, true_false}
 
-mac_none : {P : Type 0} (r : Option MacData) (m : MacData) → r ≡ Some m → r ≡ None → P
+pub mac_none : {P : Type 0} (r : Option MacData) (m : MacData) → r ≡ Some m → r ≡ None → P
 mac_none r m h k = grind (arith, h, k)
 
 -- ---- What a store's parts fit
@@ -121,66 +122,69 @@ module _ (p : List ℕ) (limit : ℕ) (v : List ℕ) (m : MacData) where
   unfolding LegacyMacTable
   mac_unsupported h = inl (h, refl, refl)
 
-  pub no_rounds : is_legacy_digest m.mac.digest_algorithm ≡ true → m.iterations ≡ 0 → LegacyMacTable p limit v m (refused ZeroIterations) 0
+  pub no_rounds : is_legacy_digest m.mac.digest_algorithm ≡ true → mac_count m ≡ 0 → LegacyMacTable p limit v m (refused ZeroIterations) 0
   unfolding LegacyMacTable
   no_rounds s h = inr (λ g. true_false _ s g, inl (h, refl, refl))
 
-  pub too_much : is_legacy_digest m.mac.digest_algorithm ≡ true → 0 < m.iterations → limit < m.iterations → LegacyMacTable p limit v m (refused WorkLimit) 0
+  pub too_much : is_legacy_digest m.mac.digest_algorithm ≡ true → 0 < mac_count m → limit < mac_cost m → LegacyMacTable p limit v m (refused WorkLimit) 0
   unfolding LegacyMacTable
   too_much s r h = inr (λ g. true_false _ s g, inr (λ z. omega (arith, z, r), inl (h, refl, refl)))
 
-  pub agreed : (w : Verdict) (n : ℕ) → is_legacy_digest m.mac.digest_algorithm ≡ true → 0 < m.iterations → m.iterations ≤ limit → legacy_agrees m (forms_of p).units v ≡ true
-      → LegacyTextTable (forms_of p) limit m.iterations v w n → LegacyMacTable p limit v m w n
+  pub agreed : (w : Verdict) (n : ℕ) → is_legacy_digest m.mac.digest_algorithm ≡ true → 0 < mac_count m → mac_cost m ≤ limit → legacy_agrees m (forms_of p) v ≡ true
+      → LegacyTextTable (forms_of p) limit (mac_cost m) v w n → LegacyMacTable p limit v m w n
   unfolding LegacyMacTable
   agreed w n s r l h t = inr (λ g. true_false _ s g, inr (λ z. omega (arith, z, r), inr (λ z. omega (arith, z, l), inl (h, t))))
 
-  pub disagreed : (w : Verdict) (n : ℕ) → is_legacy_digest m.mac.digest_algorithm ≡ true → 0 < m.iterations → m.iterations ≤ limit → legacy_agrees m (forms_of p).units v ≡ false
+  pub disagreed : (w : Verdict) (n : ℕ) → is_legacy_digest m.mac.digest_algorithm ≡ true → 0 < mac_count m → mac_cost m ≤ limit → legacy_agrees m (forms_of p) v ≡ false
       → NullTable p limit v m w n → LegacyMacTable p limit v m w n
   unfolding LegacyMacTable
   disagreed w n s r l h t = inr (λ g. true_false _ s g, inr (λ z. omega (arith, z, r), inr (λ z. omega (arith, z, l), inr (λ g. true_false _ g h, t))))
 
   -- ---- The null password
 
-  pub not_empty : p ≢ [] → NullTable p limit v m (refused MacMismatch) (m.iterations + 0)
+  pub not_empty : p ≢ [] → NullTable p limit v m (refused MacMismatch) (mac_cost m + 0)
   unfolding NullTable
   not_empty h = inl (h, refl, omega arith)
 
-  pub null_too_much : p ≡ [] → limit < m.iterations + m.iterations → NullTable p limit v m (refused WorkLimit) (m.iterations + 0)
+  pub null_too_much : p ≡ [] → limit < mac_cost m + mac_cost m → NullTable p limit v m (refused WorkLimit) (mac_cost m + 0)
   unfolding NullTable
   null_too_much e h = inr (λ ne. ne e, inl (h, refl, omega arith))
 
-  pub null_mismatch : p ≡ [] → m.iterations + m.iterations ≤ limit → legacy_agrees m [] v ≡ false → NullTable p limit v m (refused MacMismatch) (m.iterations + m.iterations)
+  pub null_mismatch : p ≡ [] → mac_cost m + mac_cost m ≤ limit → legacy_agrees m null_forms v ≡ false → NullTable p limit v m (refused MacMismatch) (mac_cost m + mac_cost m)
   unfolding NullTable
   null_mismatch e l h = inr (λ ne. ne e, inr (λ z. omega (arith, z, l), inl (h, refl, refl)))
 
-  pub null_agreed : (w : Verdict) (n : ℕ) → p ≡ [] → m.iterations + m.iterations ≤ limit → legacy_agrees m [] v ≡ true → LegacyTextTable null_forms limit (m.iterations + m.iterations) v w n
+  pub null_agreed : (w : Verdict) (n : ℕ) → p ≡ [] → mac_cost m + mac_cost m ≤ limit → legacy_agrees m null_forms v ≡ true → LegacyTextTable null_forms limit (mac_cost m + mac_cost m) v w n
       → NullTable p limit v m w n
   unfolding NullTable
   null_agreed w n e l h t = inr (λ ne. ne e, inr (λ z. omega (arith, z, l), inr (λ g. true_false _ h g, t)))
 
 -- ---- The store
 
-pub too_long : (b p : List ℕ) (limit : ℕ) → store_limit < length b → HasLegacyVerdict b p limit (refused TooLong) 0
-unfolding HasLegacyVerdict
-too_long b p limit h = inl (h, refl, refl)
+module _ (rule : MacRule) where
+  pub too_long : (b p : List ℕ) (limit : ℕ) → store_limit < length b → HasVerdictUnder rule b p limit (refused TooLong) 0
+  unfolding HasVerdictUnder
+  too_long b p limit h = inl (h, refl, refl)
 
-pub no_store : (b p : List ℕ) (limit : ℕ) → length b ≤ store_limit → NoLegacyStore b → HasLegacyVerdict b p limit (refused Malformed) 0
-unfolding HasLegacyVerdict
-no_store b p limit h k = inr (λ z. omega (arith, z, h), inl (k, refl, refl))
+  pub no_store : (b p : List ℕ) (limit : ℕ) → length b ≤ store_limit → NoLegacyStore b → HasVerdictUnder rule b p limit (refused Malformed) 0
+  unfolding HasVerdictUnder
+  no_store b p limit h k = inr (λ z. omega (arith, z, h), inl (k, refl, refl))
 
-pub has_store : (b p : List ℕ) (limit : ℕ) (s : PFX) (w : Verdict) (n : ℕ) → length b ≤ store_limit → IsLegacyStore b s → LegacyStoreTable p limit s w n → HasLegacyVerdict b p limit w n
-unfolding HasLegacyVerdict
-has_store b p limit s w n h k t = inr (λ z. omega (arith, z, h), inr (λ none. none s k, (s, k, t)))
+  pub has_store : (b p : List ℕ) (limit : ℕ) (s : PFX) (w : Verdict) (n : ℕ) → length b ≤ store_limit → IsLegacyStore b s → LegacyStoreTable rule p limit s w n
+      → HasVerdictUnder rule b p limit w n
+  unfolding HasVerdictUnder
+  has_store b p limit s w n h k t = inr (λ z. omega (arith, z, h), inr (λ none. none s k, (s, k, t)))
 
-pub no_data : (p : List ℕ) (limit : ℕ) (s : PFX) → ((v : List ℕ) → s.auth_safe ≡ content.Data v → ⊥) → LegacyStoreTable p limit s (refused Unsupported) 0
-no_data p limit s h = inl (h, refl, refl)
+  pub no_data : (p : List ℕ) (limit : ℕ) (s : PFX) → ((v : List ℕ) → s.auth_safe ≡ content.Data v → ⊥) → LegacyStoreTable rule p limit s (refused Unsupported) 0
+  no_data p limit s h = inl (h, refl, refl)
 
-pub no_mac : (p : List ℕ) (limit : ℕ) (s : PFX) (v : List ℕ) → s.auth_safe ≡ content.Data v → s.mac_data ≡ None → LegacyStoreTable p limit s (refused MacMissing) 0
-no_mac p limit s v h k = inr (λ none. none v h, (v, h, inl (k, refl, refl)))
+  pub no_mac : (p : List ℕ) (limit : ℕ) (s : PFX) (v : List ℕ) (w : Verdict) (n : ℕ) → s.auth_safe ≡ content.Data v → s.mac_data ≡ None → BareTable rule p limit v w n
+      → LegacyStoreTable rule p limit s w n
+  no_mac p limit s v w n h k t = inr (λ none. none v h, (v, h, inl (k, t)))
 
-pub has_mac : (p : List ℕ) (limit : ℕ) (s : PFX) (v : List ℕ) (m : MacData) (w : Verdict) (n : ℕ) → s.auth_safe ≡ content.Data v → s.mac_data ≡ Some m → LegacyMacTable p limit v m w n
-    → LegacyStoreTable p limit s w n
-has_mac p limit s v m w n h k t = inr (λ none. none v h, (v, h, inr (λ z. mac_none _ m k z, (m, k, t))))
+  pub has_mac : (p : List ℕ) (limit : ℕ) (s : PFX) (v : List ℕ) (m : MacData) (w : Verdict) (n : ℕ) → s.auth_safe ≡ content.Data v → s.mac_data ≡ Some m → LegacyMacTable p limit v m w n
+      → LegacyStoreTable rule p limit s w n
+  has_mac p limit s v m w n h k t = inr (λ none. none v h, (v, h, inr (λ z. mac_none _ m k z, (m, k, t))))
 
 -- The same table at equal places.
 pub text_as : (f g : Forms) (l k s t : ℕ) (v : List ℕ) (w : Verdict) (n m : ℕ) → f ≡ g → l ≡ k → s ≡ t → n ≡ m → LegacyTextTable f l s v w n → LegacyTextTable g k t v w m

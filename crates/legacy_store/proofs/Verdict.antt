@@ -20,12 +20,16 @@ use Rattle.transfer.specs.Verdicts.{Sole}
 use Rattle.transfer.proofs.Faults.{true_false}
 use Rattle.transfer.proofs.Sole.{IsFair, last_sole, of_sole, parts_sole, row_sole, some_same}
 use Rattle.legacy_store.specs.Algorithm.{legacy_cost, legacy_unlock}
-use Rattle.legacy_store.specs.Forms.{Forms, forms_of, null_forms}
-use Rattle.legacy_store.specs.Mac.{legacy_agrees}
-use Rattle.legacy_store.specs.Opening.{Either, HasLegacyVerdict, LegacyContentCause, LegacyContentsTable, LegacyHolds, LegacyKeyOpens, LegacyKeysTable, LegacyLockFault, LegacyMacTable, LegacyStoreTable, LegacyTextTable, NullTable, legacy_contents, legacy_key_share, legacy_keys, legacy_plain, legacy_share}
+use Rattle.legacy_store.specs.Forms.{Forms, forms_of, forms_without_mac, null_forms}
+use Rattle.legacy_store.specs.declared.mac_rule.MacRule.{MacRule}
+use Rattle.legacy_store.specs.declared.mac_rule.MacRule.TheVariants.{Required, Optional}
+use Rattle.legacy_store.specs.Laws.{SameWithMac}
+use Rattle.legacy_store.specs.Mac.{legacy_agrees, mac_cost}
+use Rattle.legacy_store.specs.Opening.{BareTable, Either, HasVerdictUnder, LegacyContentCause, LegacyContentsTable, LegacyHolds, LegacyKeyOpens, LegacyKeysTable, LegacyLockFault, LegacyMacTable, LegacyStoreTable, LegacyTextTable, NullTable, legacy_contents, legacy_key_share, legacy_keys, legacy_plain, legacy_share}
 use Rattle.legacy_store.specs.Texts.{IsLegacySafe, IsLegacyStore}
 use Rattle.legacy_store.proofs.Normal.{same_of}
 use Rattle.legacy_store.proofs.Opened.{legacy_opened}
+use Rattle.legacy_store.proofs.Rows.{mac_none}
 
 -- ---- Texts
 
@@ -124,23 +128,44 @@ either_sole P T U s t v w m n (inr p) (inr q) = t v w m n p.1 q.1
 
 null_table_sole : (p : List ℕ) (limit : ℕ) (v : List ℕ) (m : MacData) → Sole (NullTable p limit v m)
 unfolding NullTable
-null_table_sole p limit v m = row_sole _ _ _ _ (row_sole _ _ _ _ (row_sole _ _ _ _ (text_table_sole null_forms limit (m.iterations + m.iterations) v)))
+null_table_sole p limit v m = row_sole _ _ _ _ (row_sole _ _ _ _ (row_sole _ _ _ _ (text_table_sole null_forms limit (mac_cost m + mac_cost m) v)))
 
 mac_table_sole : (p : List ℕ) (limit : ℕ) (v : List ℕ) (m : MacData) → Sole (LegacyMacTable p limit v m)
 unfolding LegacyMacTable
 mac_table_sole p limit v m =
     row_sole _ _ _ _ (row_sole _ _ _ _ (row_sole _ _ _ _
-    (either_sole (legacy_agrees m (forms_of p).units v ≡ true) (LegacyTextTable (forms_of p) limit m.iterations v) (NullTable p limit v m) (text_table_sole (forms_of p) limit m.iterations v) (null_table_sole p limit v m))))
+    (either_sole (legacy_agrees m (forms_of p) v ≡ true) (LegacyTextTable (forms_of p) limit (mac_cost m) v) (NullTable p limit v m) (text_table_sole (forms_of p) limit (mac_cost m) v) (null_table_sole p limit v m))))
 
 data_same : (a : ContentInfo) (v w : List ℕ) → a ≡ content.Data v → a ≡ content.Data w → v ≡ w
 data_same a v w h k = grind (arith, h, k)
 
-store_table_sole : (p : List ℕ) (limit : ℕ) (s : PFX) → Sole (LegacyStoreTable p limit s)
-store_table_sole p limit s =
-    row_sole _ _ _ _ (of_sole (λ v. s.auth_safe ≡ content.Data v) _ (λ v w h k. data_same s.auth_safe v w h k) (λ v h.
-    row_sole _ _ _ _ (of_sole (λ m. s.mac_data ≡ Some m) (λ m. LegacyMacTable p limit v m) (λ x y h k. some_same s.mac_data x y h k) (λ m h. mac_table_sole p limit v m))))
+bare_table_sole : (rule : MacRule) (p : List ℕ) (limit : ℕ) (v : List ℕ) → Sole (BareTable rule p limit v)
+bare_table_sole Required p limit v = λ w x m n h k. (h.0 ∙ sym k.0, h.1 ∙ sym k.1)
+bare_table_sole Optional p limit v = text_table_sole (forms_without_mac p) limit 0 v
 
-pub verdict_sole : (b p : List ℕ) (limit : ℕ) → Sole (HasLegacyVerdict b p limit)
-unfolding HasLegacyVerdict
-verdict_sole b p limit =
-    row_sole _ _ _ _ (row_sole _ _ _ _ (of_sole (IsLegacyStore b) (λ s. LegacyStoreTable p limit s) (legacy_store_sole b) (λ s h. store_table_sole p limit s)))
+store_table_sole : (rule : MacRule) (p : List ℕ) (limit : ℕ) (s : PFX) → Sole (LegacyStoreTable rule p limit s)
+store_table_sole rule p limit s =
+    row_sole _ _ _ _ (of_sole (λ v. s.auth_safe ≡ content.Data v) _ (λ v w h k. data_same s.auth_safe v w h k) (λ v h.
+    either_sole (s.mac_data ≡ None) (BareTable rule p limit v) _ (bare_table_sole rule p limit v)
+    (of_sole (λ m. s.mac_data ≡ Some m) (λ m. LegacyMacTable p limit v m) (λ x y h k. some_same s.mac_data x y h k) (λ m h. mac_table_sole p limit v m))))
+
+pub verdict_sole : (rule : MacRule) (b p : List ℕ) (limit : ℕ) → Sole (HasVerdictUnder rule b p limit)
+unfolding HasVerdictUnder
+verdict_sole rule b p limit =
+    row_sole _ _ _ _ (row_sole _ _ _ _ (of_sole (IsLegacyStore b) (λ s. LegacyStoreTable rule p limit s) (legacy_store_sole b) (λ s h. store_table_sole rule p limit s)))
+
+-- ---- A store with a MAC, under each rule
+
+store_with_mac : (one other : MacRule) (p : List ℕ) (limit : ℕ) (s : PFX) (m : MacData) (w : Verdict) (n : ℕ) → s.mac_data ≡ Some m → LegacyStoreTable one p limit s w n
+    → LegacyStoreTable other p limit s w n
+store_with_mac one other p limit s m w n has (inl h) = inl h
+store_with_mac one other p limit s m w n has (inr (a, (v, is, inl h))) = absurd (mac_none s.mac_data m has h.0)
+store_with_mac one other p limit s m w n has (inr (a, (v, is, inr h))) = inr (a, (v, is, inr h))
+
+pub same_with_mac : SameWithMac
+unfolding HasVerdictUnder
+same_with_mac one other b p limit s m w n is has (inl h) = inl h
+same_with_mac one other b p limit s m w n is has (inr (a, inl h)) = inr (a, inl h)
+same_with_mac one other b p limit s m w n is has (inr (a, inr (c, (t, at, h)))) =
+    let same = legacy_store_sole b s t is at in
+    inr (a, inr (c, (t, at, store_with_mac one other p limit t m w n (subst (λ (x : PFX). x.mac_data ≡ Some m) same has) h)))

@@ -1,12 +1,12 @@
 -- What the algorithms of a store open: those of p12 as there, and beside them the old schemes.
-use Rattle.std.specs.Prelude.{◌≡◌, ℕ, ◌<◌, ◌*◌, nat_lt, Bool, true, List, [], length, Option, Some, None}
+use Rattle.std.specs.Prelude.{◌≡◌, ℕ, ◌<◌, ◌*◌, nat_lt, ◌&&◌, if◌then◌else◌, Bool, true, List, [], length, Option, Some, None}
 use Rattle.p12.specs.declared.algorithm_identifier.AlgorithmIdentifier.{AlgorithmIdentifier}
 use Rattle.p12.specs.declared.algorithm_identifier.AlgorithmIdentifier.TheVariants.{PbeWithSHAAnd3KeyTripleDESCBC, Pbes2}
 use Rattle.p12.specs.AlgorithmIdentifier.{cost, count, openable, salt_of, taken, taken_pbe, unlock, unlock_pbe}
 use Rattle.legacy_store.specs.declared.scheme.Scheme.{Scheme}
 use Rattle.legacy_store.specs.declared.scheme.Scheme.TheVariants as scheme
 use Rattle.legacy_store.specs.Forms.{Forms}
-use Rattle.legacy_store.specs.Scheme.{SchemeParts, old_scheme, old_taken, old_unlock, salt_limit, seen_old}
+use Rattle.legacy_store.specs.Scheme.{SchemeParts, old_scheme, old_taken, old_unlock, opens_with, salt_limit, seen_old}
 
 -- the scheme under which a text is: an old one, or the algorithm as p12 opens it
 pub data SchemeOf : Type 0 where
@@ -39,9 +39,10 @@ p12_taken _ c = 0
 
 -- ---- a scheme
 
-unfoldable pub scheme_openable : SchemeOf → Bool
-scheme_openable (of_old s) = nat_lt (length s.salt) salt_limit
-scheme_openable (of_p12 a) = openable a
+-- whether a text under it can be opened, with a MAC or without one
+unfoldable pub scheme_openable : Bool → SchemeOf → Bool
+scheme_openable h (of_old s) = opens_with h s.cipher && nat_lt (length s.salt) salt_limit
+scheme_openable h (of_p12 a) = openable a
 
 unfoldable pub scheme_count : SchemeOf → ℕ
 scheme_count (of_old s) = s.iterations
@@ -56,7 +57,7 @@ scheme_taken (of_old s) c = old_taken s c
 scheme_taken (of_p12 a) c = p12_taken a c
 
 unfoldable pub scheme_unlock : Forms → SchemeOf → List ℕ → Option (List ℕ)
-scheme_unlock f (of_old s) c = old_unlock s f.units c
+scheme_unlock f (of_old s) c = if opens_with f.has_mac s.cipher then old_unlock s f.units c else None
 scheme_unlock f (of_p12 a) c = p12_unlock f a c
 
 -- the salt that p12 derives a key from
@@ -67,8 +68,8 @@ scheme_salt (of_p12 a) = salt_of a
 -- ---- an algorithm
 
 -- whether a text under it can be opened
-abbrev pub legacy_openable : AlgorithmIdentifier → Bool
-legacy_openable a = scheme_openable (scheme_of a)
+abbrev pub legacy_openable : Bool → AlgorithmIdentifier → Bool
+legacy_openable h a = scheme_openable h (scheme_of a)
 
 -- its count of rounds
 abbrev pub legacy_count : AlgorithmIdentifier → ℕ
@@ -87,7 +88,7 @@ unfoldable pub legacy_unlock : Forms → AlgorithmIdentifier → List ℕ → Op
 legacy_unlock f a c = scheme_unlock f (scheme_of a) c
 
 -- what opening a text shows
-pub record IsSchemeOpened (s : SchemeOf) (c : List ℕ) : Type 0 where
-  pub openable : scheme_openable s ≡ true
+pub record IsSchemeOpened (h : Bool) (s : SchemeOf) (c : List ℕ) : Type 0 where
+  pub openable : scheme_openable h s ≡ true
   pub some_rounds : 0 < scheme_count s
   pub all : scheme_taken s c ≡ scheme_cost s

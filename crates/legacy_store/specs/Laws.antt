@@ -4,16 +4,20 @@ use Rattle.p12.specs.AlgorithmIdentifier.{unlock}
 use Rattle.p12.specs.declared.algorithm_identifier.AlgorithmIdentifier.{AlgorithmIdentifier}
 use Rattle.p12.specs.ContentInfo.{IsContents}
 use Rattle.p12.specs.declared.content_info.ContentInfo.{ContentInfo}
+use Rattle.p12.specs.declared.mac_data.MacData.{MacData}
+use Rattle.p12.specs.declared.pfx.PFX.{PFX}
 use Rattle.p12.specs.declared.safe_bag.SafeBag.{SafeBag}
-use Rattle.transfer.specs.Opening.{HasVerdict, opened, refused}
+use Rattle.transfer.specs.Opening.{HasVerdict, Verdict, opened, refused}
 use Rattle.transfer.specs.declared.store.error.TransferError.{TransferError}
 use Rattle.transfer.specs.declared.store.error.TransferError.TheVariants.{Malformed, Unsupported, MacUnsupported, MacMismatch, ContentMalformed}
 use Rattle.transfer.specs.Verdicts.{Sole}
 use Rattle.legacy_store.specs.Algorithm.{legacy_unlock}
 use Rattle.legacy_store.specs.Forms.{forms_of}
 use Rattle.legacy_store.specs.Joined.{JoinedSafe}
-use Rattle.legacy_store.specs.Opening.{HasLegacyVerdict}
-use Rattle.legacy_store.specs.Verdicts.{LegacyOpens}
+use Rattle.legacy_store.specs.declared.mac_rule.MacRule.{MacRule}
+use Rattle.legacy_store.specs.Opening.{HasLegacyVerdict, HasVerdictUnder}
+use Rattle.legacy_store.specs.Texts.{IsLegacyStore}
+use Rattle.legacy_store.specs.Verdicts.{OpensUnder}
 
 -- A text that p12 opens opens to the same octets.
 abbrev pub OpensTextsAsBefore : Type 0
@@ -44,13 +48,20 @@ RefusesStoresAsBefore = (b p : List ℕ) (limit : ℕ) (e : TransferError) (n : 
 
 -- One store has one verdict, after one number of steps.
 abbrev pub OneLegacyVerdict : Type 0
-OneLegacyVerdict = (b p : List ℕ) (limit : ℕ) → Sole (HasLegacyVerdict b p limit)
+OneLegacyVerdict = (rule : MacRule) (b p : List ℕ) (limit : ℕ) → Sole (HasVerdictUnder rule b p limit)
 
 -- A store comes to be opened exactly where it opens within the limit, and then its work is the
 -- number of steps.
 abbrev pub LegacyOpenedExactly : Type 0
-LegacyOpenedExactly = (b p : List ℕ) (limit : ℕ) (gss : List (List SafeBag)) (ks : List (List ℕ))
-    (n : ℕ) → HasLegacyVerdict b p limit (opened gss ks) n ↔ (LegacyOpens b p gss ks n × (n ≤ limit))
+LegacyOpenedExactly = (rule : MacRule) (b p : List ℕ) (limit : ℕ) (gss : List (List SafeBag))
+    (ks : List (List ℕ)) (n : ℕ)
+    → HasVerdictUnder rule b p limit (opened gss ks) n ↔ (OpensUnder rule b p gss ks n × (n ≤ limit))
+
+-- A store with a MAC comes to the same whether one is required or not.
+abbrev pub SameWithMac : Type 0
+SameWithMac = (one other : MacRule) (b p : List ℕ) (limit : ℕ) (s : PFX) (m : MacData) (w : Verdict)
+    (n : ℕ) → IsLegacyStore b s → s.mac_data ≡ Some m → HasVerdictUnder one b p limit w n
+    → HasVerdictUnder other b p limit w n
 
 -- A list of contents in DER is its own text: nothing is joined in it.
 abbrev pub DerListsStay : Type 0

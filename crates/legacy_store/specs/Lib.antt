@@ -1,6 +1,7 @@
 pub mod Forms
 pub mod Scheme
 pub mod Algorithm
+pub mod Pbmac1
 pub mod Mac
 pub mod Joined
 pub mod JoinedReading

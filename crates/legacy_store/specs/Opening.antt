@@ -17,8 +17,10 @@ use Rattle.transfer.specs.Parts.{Of, PartKind, Row}
 use Rattle.transfer.specs.declared.store.error.TransferError.{TransferError}
 use Rattle.transfer.specs.declared.store.error.TransferError.TheVariants.{TooLong, Malformed, Unsupported, MacMissing, MacUnsupported, ZeroIterations, WorkLimit, MacMismatch, ContentMalformed, DecryptFailed, KeyMalformed}
 use Rattle.legacy_store.specs.Algorithm.{SchemeOf, legacy_cost, legacy_count, legacy_openable, legacy_taken, legacy_unlock, scheme_cost, scheme_count, scheme_openable, scheme_taken, scheme_unlock}
-use Rattle.legacy_store.specs.Forms.{Forms, forms_of, null_forms}
-use Rattle.legacy_store.specs.Mac.{is_legacy_digest, legacy_agrees}
+use Rattle.legacy_store.specs.Forms.{Forms, forms_of, forms_without_mac, null_forms}
+use Rattle.legacy_store.specs.declared.mac_rule.MacRule.{MacRule}
+use Rattle.legacy_store.specs.declared.mac_rule.MacRule.TheVariants.{Required, Optional}
+use Rattle.legacy_store.specs.Mac.{is_legacy_digest, legacy_agrees, mac_cost, mac_count}
 use Rattle.legacy_store.specs.Texts.{IsLegacySafe, IsLegacyStore, NoLegacySafe, NoLegacyStore}
 
 -- ---- Locked texts
@@ -28,7 +30,7 @@ use Rattle.legacy_store.specs.Texts.{IsLegacySafe, IsLegacyStore, NoLegacySafe, 
 abbrev pub LegacyLockFault : Forms → ℕ → ℕ → AlgorithmIdentifier → List ℕ
     → (List ℕ → TransferError → ℕ → Type 0) → TransferError → ℕ → Type 0
 LegacyLockFault f limit sum a c rest =
-    Row (legacy_openable a ≡ false) Unsupported 0
+    Row (legacy_openable f.has_mac a ≡ false) Unsupported 0
     (Row (legacy_count a ≡ 0) ZeroIterations 0
     (Row (limit < sum + legacy_cost a) WorkLimit 0
     (Row (legacy_unlock f a c ≡ None) DecryptFailed (legacy_taken a c)
@@ -38,7 +40,7 @@ LegacyLockFault f limit sum a c rest =
 abbrev pub SchemeLockFault : Forms → ℕ → ℕ → SchemeOf → List ℕ
     → (List ℕ → TransferError → ℕ → Type 0) → TransferError → ℕ → Type 0
 SchemeLockFault f limit sum s c rest =
-    Row (scheme_openable s ≡ false) Unsupported 0
+    Row (scheme_openable f.has_mac s ≡ false) Unsupported 0
     (Row (scheme_count s ≡ 0) ZeroIterations 0
     (Row (limit < sum + scheme_cost s) WorkLimit 0
     (Row (scheme_unlock f s c ≡ None) DecryptFailed (scheme_taken s c)
@@ -130,37 +132,50 @@ Either P T U w n = (P × T w n) ⊎ ((P → ⊥) × U w n)
 -- Where the MAC did not agree under the password: the null password is tried if that was empty.
 unfoldable pub NullTable : List ℕ → ℕ → List ℕ → MacData → Verdict → ℕ → Type 0
 NullTable p limit v m =
-    Row (p ≢ []) (refused MacMismatch) m.iterations
-    (Row (limit < m.iterations + m.iterations) (refused WorkLimit) m.iterations
-    (Row (legacy_agrees m [] v ≡ false) (refused MacMismatch) (m.iterations + m.iterations)
-    (LegacyTextTable null_forms limit (m.iterations + m.iterations) v)))
+    Row (p ≢ []) (refused MacMismatch) (mac_cost m)
+    (Row (limit < mac_cost m + mac_cost m) (refused WorkLimit) (mac_cost m)
+    (Row (legacy_agrees m null_forms v ≡ false) (refused MacMismatch) (mac_cost m + mac_cost m)
+    (LegacyTextTable null_forms limit (mac_cost m + mac_cost m) v)))
 
 unfoldable pub LegacyMacTable : List ℕ → ℕ → List ℕ → MacData → Verdict → ℕ → Type 0
 LegacyMacTable p limit v m =
     Row (is_legacy_digest m.mac.digest_algorithm ≡ false) (refused MacUnsupported) 0
-    (Row (m.iterations ≡ 0) (refused ZeroIterations) 0
-    (Row (limit < m.iterations) (refused WorkLimit) 0
-    (Either (legacy_agrees m (forms_of p).units v ≡ true)
-    (LegacyTextTable (forms_of p) limit m.iterations v)
+    (Row (mac_count m ≡ 0) (refused ZeroIterations) 0
+    (Row (limit < mac_cost m) (refused WorkLimit) 0
+    (Either (legacy_agrees m (forms_of p) v ≡ true)
+    (LegacyTextTable (forms_of p) limit (mac_cost m) v)
     (NullTable p limit v m))))
 
-abbrev pub LegacyStoreTable : List ℕ → ℕ → PFX → Verdict → ℕ → Type 0
-LegacyStoreTable p limit s =
+-- A store without a MAC: it is refused where one is required, and else opened under the password,
+-- and never under the null password.
+abbrev pub BareTable : MacRule → List ℕ → ℕ → List ℕ → Verdict → ℕ → Type 0
+BareTable Required p limit v w n = (w ≡ refused MacMissing) × (n ≡ 0)
+BareTable Optional p limit v w n = LegacyTextTable (forms_without_mac p) limit 0 v w n
+
+abbrev pub LegacyStoreTable : MacRule → List ℕ → ℕ → PFX → Verdict → ℕ → Type 0
+LegacyStoreTable rule p limit s =
     Row ((v : List ℕ) → s.auth_safe ≡ content.Data v → ⊥) (refused Unsupported) 0
     (Of (λ v. s.auth_safe ≡ content.Data v) (λ v.
-    Row (s.mac_data ≡ None) (refused MacMissing) 0
+    Either (s.mac_data ≡ None) (BareTable rule p limit v)
     (Of (λ m. s.mac_data ≡ Some m) (λ m. LegacyMacTable p limit v m))))
 
 -- The octets b under the password p and the limit: the first row that holds decides what the store
 -- comes to, and the steps that were taken by then.
-unfoldable pub HasLegacyVerdict : List ℕ → List ℕ → ℕ → Verdict → ℕ → Type 0
-HasLegacyVerdict b p limit =
+unfoldable pub HasVerdictUnder : MacRule → List ℕ → List ℕ → ℕ → Verdict → ℕ → Type 0
+HasVerdictUnder rule b p limit =
     Row (store_limit < length b) (refused TooLong) 0
     (Row (NoLegacyStore b) (refused Malformed) 0
-    (Of (IsLegacyStore b) (λ s. LegacyStoreTable p limit s)))
+    (Of (IsLegacyStore b) (λ s. LegacyStoreTable rule p limit s)))
+
+-- The same where a MAC is required.
+abbrev pub HasLegacyVerdict : List ℕ → List ℕ → ℕ → Verdict → ℕ → Type 0
+HasLegacyVerdict = HasVerdictUnder Required
 
 -- The first cause to refuse the store, or none.
+abbrev pub FirstCauseUnder : MacRule → List ℕ → List ℕ → ℕ → Option TransferError → Type 0
+FirstCauseUnder rule b p limit (Some e) = (n : ℕ) × HasVerdictUnder rule b p limit (refused e) n
+FirstCauseUnder rule b p limit None = (gss : List (List SafeBag)) × (ks : List (List ℕ)) × (n : ℕ)
+    × HasVerdictUnder rule b p limit (opened gss ks) n
+
 abbrev pub FirstLegacyCause : List ℕ → List ℕ → ℕ → Option TransferError → Type 0
-FirstLegacyCause b p limit (Some e) = (n : ℕ) × HasLegacyVerdict b p limit (refused e) n
-FirstLegacyCause b p limit None = (gss : List (List SafeBag)) × (ks : List (List ℕ)) × (n : ℕ)
-    × HasLegacyVerdict b p limit (opened gss ks) n
+FirstLegacyCause = FirstCauseUnder Required

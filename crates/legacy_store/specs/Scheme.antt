@@ -1,6 +1,6 @@
 -- Schemes of RFC 7292 appendix C that p12 does not open: RC2 with keys of 40 and of 128 bits, and
 -- Triple DES with two keys.
-use Rattle.std.specs.Prelude.{ℕ, ◌*◌, ◌++◌, ◌&&◌, nat_lt, if◌then◌else◌, option_map, Bool, List, [], ◌∷◌, length, take, Option, Some, None, Result, Ok, Err}
+use Rattle.std.specs.Prelude.{ℕ, ◌*◌, ◌++◌, ◌&&◌, nat_lt, if◌then◌else◌, option_map, Bool, true, false, List, [], ◌∷◌, length, take, Option, Some, None, Result, Ok, Err}
 use Rattle.std.specs.Str.{bytes_eq}
 use Rattle.asn1_core.specs.Oid.{oid_octets}
 use Rattle.asn1_core.specs.Reading.{Fault, whole}
@@ -77,6 +77,14 @@ abbrev pub key_octets : OldCipher → ℕ
 key_octets Rc2Of40 = 5
 key_octets Rc2Of128 = 16
 key_octets TwoKeyTripleDes = 16
+
+-- whether texts under it are opened, with a MAC or without one: a key of 40 bits is found by trying
+-- all, so without a MAC nothing says that who wrote the text knew the password
+abbrev pub opens_with : Bool → OldCipher → Bool
+opens_with true k = true
+opens_with false Rc2Of40 = false
+opens_with false Rc2Of128 = true
+opens_with false TwoKeyTripleDes = true
 
 -- a block decrypted under a key; of two keys of Triple DES the first is the third too
 abbrev pub old_inverse : OldCipher → List ℕ → List ℕ → List ℕ

@@ -46,6 +46,15 @@ pub(crate) const SHA512: ObjectIdentifier = ObjectIdentifier {
     size: 9,
 };
 
+/// id-PBMAC1 (RFC 8018 appendix A.5).
+pub(crate) const PBMAC1: ObjectIdentifier = ObjectIdentifier {
+    octets: [
+        0x2a, 0x86, 0x48, 0x86, 0xf7, 0x0d, 0x01, 0x05, 0x0e, 0, 0, 0, 0, 0, 0, 0, 0, 0, 0, 0, 0,
+        0, 0, 0, 0, 0, 0, 0, 0, 0, 0, 0, 0, 0, 0, 0, 0, 0, 0,
+    ],
+    size: 9,
+};
+
 /// id-data (RFC 5652 section 4).
 pub(crate) const DATA: ObjectIdentifier = ObjectIdentifier {
     octets: [

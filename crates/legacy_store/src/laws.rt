@@ -1,5 +1,5 @@
 //! Laws of the way of opening: each is the contract of a function that does nothing.
-ghost use Rattle.legacy_store.specs.Laws.{DerListsStay, LegacyOpenedExactly, OneLegacyVerdict, OpensStoresAsBefore, OpensTextsAsBefore, RefusesStoresAsBefore};
+ghost use Rattle.legacy_store.specs.Laws.{DerListsStay, LegacyOpenedExactly, OneLegacyVerdict, OpensStoresAsBefore, OpensTextsAsBefore, RefusesStoresAsBefore, SameWithMac};
 
 /// A text that p12 opens opens to the same octets.
 #[tactic(auto, using(crate::proofs::Conservative::texts_as_before))]
@@ -29,6 +29,12 @@ pub fn one_legacy_verdict()
 #[tactic(auto, using(crate::proofs::Closed::opened_exactly))]
 pub fn legacy_opened_exactly()
     ensures { LegacyOpenedExactly }
+{}
+
+/// A store with a MAC comes to the same whether one is required or not.
+#[tactic(auto, using(crate::proofs::Verdict::same_with_mac))]
+pub fn same_with_mac()
+    ensures { SameWithMac }
 {}
 
 /// Nothing is joined in a list of contents in DER.

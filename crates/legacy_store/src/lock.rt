@@ -1,8 +1,8 @@
 //! Locked texts of old stores.
-ghost use Rattle.std.specs.Prelude.{◌≡◌, ◌+◌, ◌≤◌, ◌<◌, ◌^◌, length, IfOk, IfErr, IfSome, OnOk, Some};
+ghost use Rattle.std.specs.Prelude.{◌≡◌, ◌+◌, ◌≤◌, ◌<◌, ◌^◌, length, IfOk, IfErr, IfSome, OnOk, Some, true};
 ghost use Rattle.p12.specs.AlgorithmIdentifier.{salt_of};
 ghost use Rattle.transfer.specs.Opening.{RefusedAfter};
-ghost use Rattle.legacy_store.specs.Algorithm.{legacy_cost, legacy_unlock, p12_taken, p12_unlock, scheme_cost, scheme_salt, scheme_taken, scheme_unlock, seen_scheme};
+ghost use Rattle.legacy_store.specs.Algorithm.{legacy_cost, legacy_unlock, p12_taken, p12_unlock, scheme_cost, scheme_openable, scheme_salt, scheme_taken, scheme_unlock, seen_scheme};
 ghost use Rattle.legacy_store.specs.Budget.{Spends, TakesWithin};
 ghost use Rattle.legacy_store.specs.Forms.{seen_forms};
 ghost use Rattle.legacy_store.specs.Opening.{LegacyLockFault, SchemeLockFault};
@@ -58,8 +58,8 @@ fn decrypt_own<L: Ledger>(
     }
 }
 
-/// The plain octets of a ciphertext under a scheme. The only error is out of memory.
-#[tactic(auto, unfolding(crate::specs::Algorithm::scheme_unlock, crate::specs::Algorithm::scheme_taken, crate::specs::Algorithm::scheme_salt))]
+/// The plain octets of a ciphertext under a scheme that can be opened. The only error is out of memory.
+#[tactic(auto, unfolding(crate::specs::Algorithm::scheme_openable, crate::specs::Algorithm::scheme_unlock, crate::specs::Algorithm::scheme_taken, crate::specs::Algorithm::scheme_salt))]
 fn decrypt<L: Ledger>(
     alloc: Global,
     scheme: &Scheme<'_>,
@@ -68,6 +68,7 @@ fn decrypt<L: Ledger>(
     steps: &mut Steps<L>,
 ) -> Result<Option<Octets>, AllocError>
     requires ciphertext { length ciphertext.now < 2 ^ 32 }
+    requires openable { scheme_openable secret.now.has_mac (seen_scheme scheme.now) ≡ true }
     requires salt { length (scheme_salt (seen_scheme scheme.now)) < 2 ^ 59 }
     requires password { length secret.now.text.now < 2 ^ 57 }
     requires units { length secret.now.units.now < 2 ^ 59 }
@@ -108,7 +109,7 @@ fn open_scheme<L: Ledger>(
         (seen_scheme scheme.now) ciphertext.now (λ _ _ _. ⊥)) steps.old steps.new) }
     ensures at_most { TakesWithin budget.old steps.old steps.new }
 {
-    if !scheme.is_openable() {
+    if !scheme.is_openable(secret.has_mac) {
         return Err(TransferError::Unsupported);
     }
     if scheme.count() == 0 {

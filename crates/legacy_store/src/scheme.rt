@@ -6,7 +6,7 @@ ghost use Rattle.asn1_core.specs.Reading.{whole};
 ghost use Rattle.asn1_core.specs.Texts.{seen_option};
 ghost use Rattle.p12.specs.Reading.{params_at};
 ghost use Rattle.legacy_store.specs.Algorithm.{scheme_cost, scheme_count, scheme_of, scheme_openable, seen_scheme};
-ghost use Rattle.legacy_store.specs.Scheme.{cipher_named, found_params, key_octets, old_scheme, other_scheme, params_in, seen_old, seen_params, with_cipher};
+ghost use Rattle.legacy_store.specs.Scheme.{cipher_named, found_params, key_octets, old_scheme, opens_with, other_scheme, params_in, seen_old, seen_params, with_cipher};
 
 use crate::identifiers::{PBE_WITH_SHA1_AND_2KEY_TRIPLE_DES_CBC, PBE_WITH_SHA1_AND_128BIT_RC2_CBC};
 use asn1_core::{ObjectIdentifier, Octets, Reader, SliceReader, Tag, read_inner, read_uint};
@@ -34,6 +34,16 @@ impl OldCipher {
         match self {
             OldCipher::Rc2Of40 => 5,
             OldCipher::Rc2Of128 | OldCipher::TwoKeyTripleDes => 16,
+        }
+    }
+
+    /// Whether texts under it are opened, with a MAC or without one.
+    pub(crate) fn opens_with(self, has_mac: bool) -> bool
+        ensures { result ≡ opens_with has_mac self }
+    {
+        match self {
+            OldCipher::Rc2Of40 => has_mac,
+            OldCipher::Rc2Of128 | OldCipher::TwoKeyTripleDes => true,
         }
     }
 }
@@ -173,13 +183,14 @@ impl<'a> Scheme<'a> {
         }
     }
 
-    /// Whether a text under it can be opened.
+    /// Whether a text under it can be opened, with a MAC or without one.
     #[tactic(auto, unfolding(crate::specs::Algorithm::scheme_openable))]
-    pub(crate) fn is_openable(&self) -> bool
-        ensures { result ≡ scheme_openable (seen_scheme self.now) }
+    pub(crate) fn is_openable(&self, has_mac: bool) -> bool
+        ensures { result ≡ scheme_openable has_mac (seen_scheme self.now) }
     {
         match self {
-            Scheme::Old(scheme) => scheme.salt.len() < SALT_LIMIT,
+            Scheme::Old(scheme) => scheme.cipher.opens_with(has_mac)
+                && scheme.salt.len() < SALT_LIMIT,
             Scheme::Own(algorithm) => algorithm.is_openable(),
         }
     }

@@ -4,11 +4,19 @@
 #![tactic(auto)]
 
 #[cfg(test)]
+mod bare_opened;
+#[cfg(test)]
+mod bare_stores;
+#[cfg(test)]
 mod ber_texts;
 #[cfg(test)]
 mod nss_store;
 #[cfg(test)]
 mod old_stores;
+#[cfg(test)]
+mod pbmac1_opened;
+#[cfg(test)]
+mod pbmac1_stores;
 #[cfg(test)]
 mod rc2_blocks;
 #[cfg(test)]

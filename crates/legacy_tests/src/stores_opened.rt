@@ -3,7 +3,7 @@ ghost use Rattle.std.specs.Prelude.{◌≡◌, ◌<◌, ◌^◌, length};
 
 use crate::nss_store;
 use crate::old_stores::{BER, KEY, NULL, PARTS, RC2_40, RC2_128, SHA224, TWO_KEY};
-use legacy_store::open_legacy;
+use legacy_store::{MacRule, open_legacy};
 use std::alloc::Global;
 use std::marker::Brand;
 use std::sync::ledger::{Blank, Ledger};
@@ -12,13 +12,15 @@ use transfer::{Opened, TransferError};
 
 /// The passwords that are tried.
 #[derive(Clone, Copy)]
-enum Password {
+pub(crate) enum Password {
     /// That of the stores.
     Old,
     Empty,
     Other,
     /// That of the store of NSS.
     Nss,
+    /// That of the stores of RFC 9579.
+    Digits,
 }
 
 impl Password {
@@ -30,6 +32,7 @@ impl Password {
             Password::Empty => "",
             Password::Other => "x",
             Password::Nss => "battery-staple",
+            Password::Digits => "1234",
         }
     }
 }
@@ -39,6 +42,7 @@ fn opened_counted<L: Ledger>(
     alloc: Global,
     store: &[u8],
     password: Password,
+    rule: MacRule,
     limit: u64,
     blank: Blank,
 ) -> Result<Opened, TransferError>
@@ -47,17 +51,28 @@ fn opened_counted<L: Ledger>(
     requires some { 0 < blank.parts }
 {
     let mut steps = Steps::<L>::open(blank);
-    open_legacy(alloc, store, password.text(), limit, &mut steps)
+    open_legacy(alloc, store, password.text(), rule, limit, &mut steps)
 }
 
 /// The same with a counter of its own.
-fn opened(
+pub(crate) fn opened_by(
+    alloc: Global,
+    store: &[u8],
+    password: Password,
+    rule: MacRule,
+    limit: u64,
+) -> Result<Opened, TransferError> {
+    opened_counted::<Brand>(alloc, store, password, rule, limit, Blank::new(1))
+}
+
+/// The same where a MAC is required.
+pub(crate) fn opened(
     alloc: Global,
     store: &[u8],
     password: Password,
     limit: u64,
 ) -> Result<Opened, TransferError> {
-    opened_counted::<Brand>(alloc, store, password, limit, Blank::new(1))
+    opened_by(alloc, store, password, MacRule::Required, limit)
 }
 
 /// Whether a store was opened to two contents and this key.
@@ -69,7 +84,7 @@ fn has_the_key(store: &Opened, wanted: &[u8]) -> bool {
 }
 
 /// Whether the result is that.
-fn is_opened(answer: Result<Opened, TransferError>, wanted: &[u8]) -> bool {
+pub(crate) fn is_opened(answer: Result<Opened, TransferError>, wanted: &[u8]) -> bool {
     match answer {
         Ok(store) => has_the_key(&store, wanted),
         Err(_) => false,
@@ -77,7 +92,7 @@ fn is_opened(answer: Result<Opened, TransferError>, wanted: &[u8]) -> bool {
 }
 
 /// Whether the result is this refusal.
-fn is_refused(answer: Result<Opened, TransferError>, cause: TransferError) -> bool {
+pub(crate) fn is_refused(answer: Result<Opened, TransferError>, cause: TransferError) -> bool {
     match answer {
         Ok(_) => false,
         Err(e) => e == cause,

@@ -4,7 +4,6 @@ use Rattle.std.specs.List.{sum_by}
 use Rattle.std.proofs.lemmas.Result.{err_from_is_err_and}
 use Rattle.p12.specs.ContentInfo.{SealFits}
 use Rattle.legacy_store.specs.Texts.{NoLegacySafe}
-use Rattle.p12.specs.SafeBag.{BagFits}
 use Rattle.transfer.specs.declared.store.error.TransferError.{TransferError}
 use Rattle.transfer.specs.OpenedSafe.{BagsAndKeys}
 use Rattle.transfer.specs.Opening.{RefusedAfter, all_shrouded, opened, refused}

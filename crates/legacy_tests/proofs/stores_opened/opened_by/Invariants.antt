@@ -1,4 +1,4 @@
-use Rattle.legacy_tests.proofs.stores_opened.opened.Given as goal
+use Rattle.legacy_tests.proofs.stores_opened.opened_by.Given as goal
 
 abbrev pub ghosts-opened_counted : goal.ghosts-opened_counted
 ghosts-opened_counted a = record { name = a.blank.name; parts = a.blank.parts }
