@@ -37,6 +37,10 @@ int main(int argc, char **argv)
     if (number == PKCS12_DONE && (pkcs12_upgrade(store, store_len, password, password_len, new_password, new_len, 1, LIMIT, drawn, 15,
             changed, len, &needed) != PKCS12_RANDOM_SHORT || needed))
         return 97;
+    /* what could not be opened under the limit is not made */
+    if (number == PKCS12_DONE && (pkcs12_upgrade(store, store_len, password, password_len, new_password, new_len, 100001, 100000, drawn, sizeof drawn,
+            changed, len, &needed) != PKCS12_WORK_LIMIT || needed))
+        return 96;
     free(changed);
     return (int)number;
 }

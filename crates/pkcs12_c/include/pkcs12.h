@@ -191,10 +191,13 @@ uint32_t pkcs12_rekey(
  * The new password may be the old one.
  *
  *   rounds        for each part and for the MAC, 1 to 100,000,000
+ *   limit         the most steps that opening the store may take, and that opening the upgraded store may take
  *   random        32 octets for each encrypted part, a key or a content, and 16 for the MAC; as many octets as the store has may
  *                 be too few
  *
- * Opening the upgraded store takes `rounds` steps for each of these parts and for the MAC: no limit below that opens it again. */
+ * Opening the upgraded store takes `rounds` steps for each of these parts and for the MAC, and sealing it takes as many. Where that is
+ * more than the limit PKCS12_WORK_LIMIT is returned, before a random octet is used and a part is sealed. So what is written always
+ * opens under its new password and the same limit. */
 uint32_t pkcs12_upgrade(
     const uint8_t *store, size_t store_len,
     const uint8_t *password, size_t password_len,

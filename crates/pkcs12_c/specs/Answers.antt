@@ -1,16 +1,16 @@
 -- What an export returns.
-use Rattle.std.specs.Prelude.{ℕ, ◌⊎◌, ◌<◌, ◌≤◌, ◌≡◌, List, ◌++◌, length, drop, Some, Result, Ok, Err, IfOk, IfErr}
+use Rattle.std.specs.Prelude.{ℕ, ◌⊎◌, ◌<◌, ◌≤◌, ◌≡◌, List, ◌++◌, length, drop, Some, None, Result, Ok, Err, IfOk, IfErr}
 use Rattle.transfer.specs.Limits.{rounds_limit}
+use Rattle.transfer.specs.Opening.{FirstCause}
 use Rattle.transfer.specs.Transferred.{IsDecided, Settles}
 use Rattle.transfer.specs.declared.store.error.TransferError.{TransferError}
 use Rattle.transfer.specs.declared.store.error.TransferError.TheVariants as cause
 use Rattle.transfer.specs.declared.store.opened.Opened.{Opened}
 use Rattle.transfer.specs.declared.store.transfer.Transferred.{Transferred}
-use Rattle.rekey_core.specs.Rekeyed.{IsSettledTo}
-use Rattle.rekey_core.specs.declared.kinds.Kinds.{Kinds}
-use Rattle.rekey_core.specs.declared.kinds.Kinds.TheVariants.{Kept, Renewed}
+use Rattle.rekey_core.specs.Rekeyed.{IsSettled}
+use Rattle.rekey_core.specs.Upgraded.{IsUpgradeSettled}
 use Rattle.rekey_core.specs.declared.kinds.Rounds.{Rounds as Count}
-use Rattle.pkcs12_c.specs.Changed.{ChangesDrawnTo, IsRefusedChangeTo}
+use Rattle.pkcs12_c.specs.Changed.{ChangesDrawn, IsRefusedChange, IsRefusedUpgrade, UpgradesDrawn, renewal}
 use Rattle.pkcs12_c.specs.Created.{Asked, CreatesDrawn, IsRefusedCreation}
 use Rattle.pkcs12_c.specs.Drawn.{IsRefusedDrawn, TransfersDrawn}
 use Rattle.pkcs12_c.specs.Given.{IsGivenText}
@@ -114,44 +114,53 @@ pub record ListAnswers (b p : List ℕ) (limit : ℕ) (old new : List ℕ) (need
 
 -- ---- Another password
 
--- What the change of a store to these kinds came to, and what was returned for it.
-pub record StoreChangedTo (to : Kinds) (b p q random : List ℕ) (limit : ℕ) (old new : List ℕ)
-    (needed : ℕ) (r : Result (Unit {0}) Refusal) : Type 0 where
+-- What the change of a store came to, and what was returned for it.
+pub record StoreChanged (b p q random : List ℕ) (limit : ℕ) (old new : List ℕ) (needed : ℕ)
+    (r : Result (Unit {0}) Refusal) : Type 0 where
   pub changed : Result (List ℕ) TransferError
   -- it is changed to this text, over these random octets
-  pub changes : IfOk changed (ChangesDrawnTo to b p q limit random)
+  pub changes : IfOk changed (ChangesDrawn b p q limit random)
   -- it is refused for its first cause
-  pub refused : IfErr changed (IsRefusedChangeTo to b p limit random)
+  pub refused : IfErr changed (IsRefusedChange b p limit random)
   -- and each comes exactly where its cause holds, apart from being out of memory
-  pub exact : IsSettledTo to b p limit (Some random) changed
+  pub exact : IsSettled b p limit (Some random) changed
   pub follows : Follows (λ c. c) changed old new needed r
 
--- The result of a change to these kinds: the passwords are tested first, then the store.
-pub record ChangeAnswersTo (to : Kinds) (b p q random : List ℕ) (limit : ℕ) (old new : List ℕ)
-    (needed : ℕ) (r : Result (Unit {0}) Refusal) : Type 0 where
+-- The result of a call with two passwords: these are tested first, and then S holds of the store.
+pub record PasswordsFirst (p q old new : List ℕ) (needed : ℕ) (r : Result (Unit {0}) Refusal)
+    (S : Type 0) : Type 0 where
   pub password_first : (IsPassword p → ⊥) → Refuses old new needed r Password
   pub then_new_password : IsPassword p → (IsPassword q → ⊥) → Refuses old new needed r Password
-  pub then_store : IsPassword p → IsPassword q
-      → StoreChangedTo to b p q random limit old new needed r
-
--- The same where each part and the MAC keeps its kind.
-abbrev pub StoreChanged : List ℕ → List ℕ → List ℕ → List ℕ → ℕ → List ℕ → List ℕ → ℕ
-    → Result (Unit {0}) Refusal → Type 0
-StoreChanged b p q random limit old new needed r =
-    StoreChangedTo Kept b p q random limit old new needed r
+  pub then_store : IsPassword p → IsPassword q → S
 
 abbrev pub ChangeAnswers : List ℕ → List ℕ → List ℕ → List ℕ → ℕ → List ℕ → List ℕ → ℕ
     → Result (Unit {0}) Refusal → Type 0
 ChangeAnswers b p q random limit old new needed r =
-    ChangeAnswersTo Kept b p q random limit old new needed r
+    PasswordsFirst p q old new needed r (StoreChanged b p q random limit old new needed r)
 
--- The result of an upgrade: the rounds are tested first; then it is that of a change to parts and a
--- MAC of so many rounds.
+-- ---- Today's algorithms
+
+-- What the upgrade of a store to parts and a MAC of so many rounds came to, and what was returned
+-- for it.
+pub record StoreUpgraded (rounds : Count) (b p q random : List ℕ) (limit : ℕ) (old new : List ℕ)
+    (needed : ℕ) (r : Result (Unit {0}) Refusal) : Type 0 where
+  pub upgraded : Result (List ℕ) TransferError
+  -- it is upgraded to this text, over these random octets
+  pub upgrades : IfOk upgraded (UpgradesDrawn rounds b p q limit random)
+  -- which no cause refuses under the new password and the same limit
+  pub reopens : IfOk upgraded (λ c. FirstCause c q limit None)
+  -- it is refused for its first cause
+  pub refused : IfErr upgraded (IsRefusedUpgrade rounds b p limit random)
+  -- and each comes exactly where its cause holds, apart from being out of memory
+  pub exact : IsUpgradeSettled (renewal rounds limit) b p limit (Some random) upgraded
+  pub follows : Follows (λ c. c) upgraded old new needed r
+
+-- The result of an upgrade: the rounds are tested first, then the passwords, then the store.
 pub record UpgradeAnswers (b p q random : List ℕ) (rounds limit : ℕ) (old new : List ℕ)
     (needed : ℕ) (r : Result (Unit {0}) Refusal) : Type 0 where
   pub rounds_first : (AreRounds rounds → ⊥) → Refuses old new needed r Rounds
-  pub then_change : AreRounds rounds → (k : Count) × (k.count ≡ rounds)
-      × ChangeAnswersTo (Renewed k) b p q random limit old new needed r
+  pub then_passwords : AreRounds rounds → (k : Count) × (k.count ≡ rounds)
+      × PasswordsFirst p q old new needed r (StoreUpgraded k b p q random limit old new needed r)
 
 -- ---- A store of PEM texts
 

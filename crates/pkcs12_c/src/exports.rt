@@ -1,8 +1,7 @@
 //! The exports, and the typed calls that they number.
 ghost use Rattle.std.specs.Prelude.{◌≡◌, ◌≢◌, ◌≤◌, ◌⊎◌, Result, length};
-ghost use Rattle.pkcs12_c.specs.Answers.{ChangeAnswers, ChangeAnswersTo, CreateAnswers, ListAnswers, OpenAnswers, TransferAnswers, UpgradeAnswers};
+ghost use Rattle.pkcs12_c.specs.Answers.{ChangeAnswers, CreateAnswers, ListAnswers, OpenAnswers, PasswordsFirst, StoreUpgraded, TransferAnswers, UpgradeAnswers};
 ghost use Rattle.pkcs12_c.specs.Given.{given};
-ghost use Rattle.rekey_core.specs.declared.kinds.Kinds.TheVariants.{Renewed};
 ghost use Rattle.pkcs12_c.specs.Refusal.{answer_number};
 ghost use Rattle.pkcs12_c.specs.Room.{HasRoom, HasStoreRoom, key_draws, room_for};
 ghost use Rattle.pkcs12_c.specs.declared.refusal.Refusal.{Refusal};
@@ -147,8 +146,9 @@ fn upgrade_to(
     output: &mut [u8],
     needed: &mut usize,
 ) -> Result<(), Refusal>
-    ensures { ChangeAnswersTo (Renewed rounds) store.now password.now new_password.now random.now
-        limit output.old output.new needed.new result }
+    ensures { PasswordsFirst password.now new_password.now output.old output.new needed.new result
+        (StoreUpgraded rounds store.now password.now new_password.now random.now limit
+        output.old output.new needed.new result) }
 {
     *needed = 0;
     let Some(password) = password_of(password) else {

@@ -1,13 +1,14 @@
 //! The change of a store to the algorithms of today over random octets that are given, with a step counter of its own.
-ghost use Rattle.std.specs.Prelude.{◌≡◌, ◌<◌, ◌^◌, length, IfOk, IfErr, Some};
-ghost use Rattle.rekey_core.specs.Rekeyed.{IsSettledTo};
-ghost use Rattle.rekey_core.specs.declared.kinds.Kinds.TheVariants.{Renewed};
-ghost use Rattle.pkcs12_c.specs.Changed.{ChangesDrawnTo, IsRefusedChangeTo};
+ghost use Rattle.std.specs.Prelude.{◌≡◌, ◌<◌, ◌^◌, length, IfOk, IfErr, Some, None};
+ghost use Rattle.rekey_core.specs.Upgraded.{IsUpgradeSettled};
+ghost use Rattle.transfer.specs.Opening.{FirstCause};
+ghost use Rattle.pkcs12_c.specs.Changed.{IsRefusedUpgrade, UpgradesDrawn, renewal};
 
 use crate::password::Password;
 use asn1_core::Octets;
 use mac_modes::DrawnBytes;
-use rekey_core::{Rounds, upgrade};
+use rekey_core::laws::upgrades_reopen;
+use rekey_core::{Renewal, Rounds, upgrade};
 use std::alloc::Global;
 use std::marker::Brand;
 use std::sync::ledger::{Blank, Ledger};
@@ -30,13 +31,15 @@ fn upgraded_from<L: Ledger>(
     requires some { 0 < blank.parts }
     requires password { length password.now.text.now < 2 ^ 57 }
     requires new_password { length new_password.now.text.now < 2 ^ 57 }
-    ensures changed { IfOk result (ChangesDrawnTo (Renewed rounds) store.now password.now.text.now
+    ensures upgraded { IfOk result (UpgradesDrawn rounds store.now password.now.text.now
         new_password.now.text.now limit random.now) }
-    ensures refused { IfErr result (IsRefusedChangeTo (Renewed rounds) store.now
-        password.now.text.now limit random.now) }
-    ensures exact { IsSettledTo (Renewed rounds) store.now password.now.text.now limit
+    ensures reopens { IfOk result (λ c. FirstCause c new_password.now.text.now limit None) }
+    ensures refused { IfErr result (IsRefusedUpgrade rounds store.now password.now.text.now limit
+        random.now) }
+    ensures exact { IsUpgradeSettled (renewal rounds limit) store.now password.now.text.now limit
         (Some random.now) result }
 {
+    upgrades_reopen();
     let octets = Octets::from_slice(alloc, random)?;
     let mut draw = DrawnBytes::new(octets);
     let mut steps = Steps::<L>::open(blank);
@@ -45,14 +48,18 @@ fn upgraded_from<L: Ledger>(
         store,
         password.text,
         new_password.text,
-        rounds,
+        Renewal {
+            rounds,
+            seal_limit: limit,
+        },
         &mut draw,
         limit,
         &mut steps,
     )
 }
 
-/// The store under another password, each part and the MAC sealed anew in so many rounds with these random octets.
+/// The store under another password, each part and the MAC sealed anew in so many rounds with these random octets. `limit` is
+/// that of opening the store, and of opening what is made of it.
 ///
 /// Caller: both passwords have fewer than 2^57 octets.
 pub fn upgraded(
@@ -66,11 +73,12 @@ pub fn upgraded(
 ) -> Result<Octets, TransferError>
     requires password { length password.now.text.now < 2 ^ 57 }
     requires new_password { length new_password.now.text.now < 2 ^ 57 }
-    ensures changed { IfOk result (ChangesDrawnTo (Renewed rounds) store.now password.now.text.now
+    ensures upgraded { IfOk result (UpgradesDrawn rounds store.now password.now.text.now
         new_password.now.text.now limit random.now) }
-    ensures refused { IfErr result (IsRefusedChangeTo (Renewed rounds) store.now
-        password.now.text.now limit random.now) }
-    ensures exact { IsSettledTo (Renewed rounds) store.now password.now.text.now limit
+    ensures reopens { IfOk result (λ c. FirstCause c new_password.now.text.now limit None) }
+    ensures refused { IfErr result (IsRefusedUpgrade rounds store.now password.now.text.now limit
+        random.now) }
+    ensures exact { IsUpgradeSettled (renewal rounds limit) store.now password.now.text.now limit
         (Some random.now) result }
 {
     upgraded_from::<Brand>(

@@ -22,3 +22,5 @@ mod run;
 mod stores;
 #[cfg(test)]
 mod terminal_texts;
+#[cfg(test)]
+mod upgrades;

@@ -1,5 +1,5 @@
 -- What changes of a store's password keep.
-use Rattle.std.proofs.Common.{◌≡◌, ℕ, ◌*◌, ◌≤◌, List, [], ◌∷◌, ◌++◌, length, Option, Some, None, Bool, true, false, ◌&&◌, mul-suc, suc, zero, refl, sym, ap, subst, ◌∙◌, arith}
+use Rattle.std.proofs.Common.{◌≡◌, ℕ, ◌*◌, ◌≤◌, List, [], ◌∷◌, ◌++◌, length, Option, Some, None, mul-suc, suc, zero, refl, sym, ap, subst, ◌∙◌, arith}
 use Rattle.p12.specs.SafeBag.{x509_of}
 use Rattle.std.specs.List.{sum_by}
 use Rattle.std.proofs.lemmas.List.Sorted.{IsPermutation-trans}
@@ -7,7 +7,7 @@ use Rattle.std.proofs.lemmas.List.Sums.{sum_by-append, sum_by-cons}
 use Rattle.asn1_core.specs.Sets.{Each, SameSet}
 use Rattle.asn1_core.proofs.SetLaws.{SameSet-refl, each-permuted, each-refl, each-swapped, each-through}
 use Rattle.pbkdf2.specs.Pbkdf2.{block_count}
-use Rattle.pkcs5.specs.Kinds.{is_pbkdf2, key_size, rounds_of}
+use Rattle.pkcs5.specs.Kinds.{key_size, rounds_of}
 use Rattle.pkcs5.specs.Opening.{answers_of, prf_output}
 use Rattle.pkcs5.specs.declared.pbes2.encryption_scheme.EncryptionScheme.{EncryptionScheme}
 use Rattle.pkcs5.specs.declared.pbes2.encryption_scheme.EncryptionScheme.TheVariants.{Aes128Cbc, Aes192Cbc, Aes256Cbc, Aes128Gcm, Aes256Gcm, DesEde3Cbc, DesCbc}
@@ -15,7 +15,7 @@ use Rattle.pkcs5.specs.declared.pbes2.kdf.Kdf.{Kdf}
 use Rattle.pkcs5.specs.declared.pbes2.kdf.Kdf.TheVariants.{Pbkdf2, Scrypt}
 use Rattle.pkcs5.specs.declared.pbes2.pbkdf2_prf.Pbkdf2Prf.{Pbkdf2Prf}
 use Rattle.pkcs5.specs.declared.pbes2.pbkdf2_prf.Pbkdf2Prf.TheVariants.{HmacWithSha1, HmacWithSha224, HmacWithSha256, HmacWithSha384, HmacWithSha512}
-use Rattle.p12.specs.AlgorithmIdentifier.{cost, openable}
+use Rattle.p12.specs.AlgorithmIdentifier.{cost}
 use Rattle.p12.specs.Collected.{HoldsBags, at_most_one, certificates_among}
 use Rattle.p12.specs.ContentInfo.{IsContents}
 use Rattle.p12.specs.Same.{SameAttribute}
@@ -30,7 +30,7 @@ use Rattle.p12.specs.declared.pfx.PFX.{PFX}
 use Rattle.p12.specs.declared.safe_bag.SafeBag.{SafeBag}
 use Rattle.p12.specs.declared.safe_bag.SafeBagKind.{SafeBagKind}
 use Rattle.p12.specs.declared.safe_bag.SafeBagKind.TheVariants as kind
-use Rattle.p12.proofs.DefinitionLaws.{contents_sole, store_sole, unlock_opened}
+use Rattle.p12.proofs.DefinitionLaws.{contents_sole, store_sole}
 use Rattle.transfer.specs.Limits.{store_limit}
 use Rattle.transfer.specs.Opening.{FirstCause, KeyOpens, all_certificates, all_shrouded, content_share, key_share, shrouded_among, shrouded_in}
 use Rattle.transfer.specs.Verdicts.{StoreOpens, work}
@@ -43,10 +43,11 @@ use Rattle.rekey_core.specs.Resealing.{EachDrawn}
 use Rattle.rekey_core.proofs.OuterParts.{data_is, mac_is}
 use Rattle.rekey_core.proofs.Sizes.{holds_sole}
 use Rattle.rekey_core.specs.Kinds.{count_for, kind_for}
+use Rattle.rekey_core.specs.Unlocking.{HoldsBy, KeyOpensBy, Unlocking, under}
 use Rattle.rekey_core.specs.Work.{content_work, key_work, work_to}
 use Rattle.rekey_core.specs.declared.kinds.Kinds.{Kinds}
 use Rattle.rekey_core.specs.declared.kinds.Kinds.TheVariants.{Kept}
-use Rattle.rekey_core.proofs.KindFacts.{kind_opens}
+use Rattle.rekey_core.proofs.Held.{all_held}
 
 -- ---- costs
 
@@ -88,29 +89,25 @@ one_answer (DesCbc v) HmacWithSha256 = omega arith
 one_answer (DesCbc v) HmacWithSha384 = omega arith
 one_answer (DesCbc v) HmacWithSha512 = omega arith
 
-answers : (k : Kdf) (e : EncryptionScheme) → is_pbkdf2 k ≡ true → rounds_of k ≤ rounds_of k * answers_of k (key_size e)
-answers (Pbkdf2 p) e h = more p.iteration_count (block_count (key_size e) (prf_output p.prf)) (one_answer e p.prf)
+answers : (k : Kdf) (e : EncryptionScheme) → rounds_of k ≤ rounds_of k * answers_of k (key_size e)
+answers (Pbkdf2 p) e = more p.iteration_count (block_count (key_size e) (prf_output p.prf)) (one_answer e p.prf)
   where
     more : (n m : ℕ) → 1 ≤ m → n ≤ n * m
     more n zero le = absurd (omega (arith, le))
     more n (suc m) le = let s = mul-suc n m in omega (arith, s)
-answers (Scrypt p) e h = absurd cc
-
-first_true : (x y : Bool) → x && y ≡ true → x ≡ true
-first_true true y e = refl
-first_true false y e = absurd cc
+answers (Scrypt p) e = omega arith
 
 -- The cost of the algorithm that is stated never passes that of the one of whose kind it is.
-cost_kind : (a : AlgorithmIdentifier) (z : List ℕ) → openable a ≡ true → cost (anew a z) ≤ cost a
-cost_kind Sha1 z o = absurd cc
-cost_kind Sha256 z o = absurd cc
-cost_kind (PbewithSHAAnd40BitRC2CBC p) z o = absurd cc
-cost_kind (PbeWithSHAAnd3KeyTripleDESCBC p) z o = omega arith
-cost_kind (Pbes2 par) z o = let k = answers par.kdf par.encryption (first_true _ _ o) in omega (arith, k)
-cost_kind (OtherAlg p) z o = absurd cc
+cost_kind : (a : AlgorithmIdentifier) (z : List ℕ) → cost (anew a z) ≤ cost a
+cost_kind Sha1 z = omega arith
+cost_kind Sha256 z = omega arith
+cost_kind (PbewithSHAAnd40BitRC2CBC p) z = omega arith
+cost_kind (PbeWithSHAAnd3KeyTripleDESCBC p) z = omega arith
+cost_kind (Pbes2 par) z = let k = answers par.kdf par.encryption in omega (arith, k)
+cost_kind (OtherAlg p) z = omega arith
 
-pub cost_anew : (to : Kinds) (a b : AlgorithmIdentifier) (z : List ℕ) → openable a ≡ true → IsAnew to z a b → cost b ≤ cost (kind_for to a)
-cost_anew to a b z o n = subst (λ (x : AlgorithmIdentifier). cost x ≤ cost (kind_for to a)) (sym n.algorithm) (cost_kind (kind_for to a) z (kind_opens to a o))
+pub cost_anew : (to : Kinds) (a b : AlgorithmIdentifier) (z : List ℕ) → IsAnew to z a b → cost b ≤ cost (kind_for to a)
+cost_anew to a b z n = subst (λ (x : AlgorithmIdentifier). cost x ≤ cost (kind_for to a)) (sym n.algorithm) (cost_kind (kind_for to a) z)
 
 -- ---- attributes
 
@@ -175,19 +172,19 @@ record BagsKeep (to : Kinds) (q : List ℕ) (gs hs : List SafeBag) (us : List (L
   pub cost : sum_by key_share (shrouded_among hs) ≤ sum_by (key_work to) (shrouded_among gs)
   pub kept : Each BagKept gs hs
 
-key_keeps : (to : Kinds) (p q z : List ℕ) (k l : EncryptedPrivateKeyInfo) (u : List ℕ) → KindLike to p q z (kind.Pkcs8ShroudedKeyBag k) (kind.Pkcs8ShroudedKeyBag l) → KeyOpens p k u → KeyOpens q l u
-key_keeps to p q z k l u v o = (v.1.opens_anew ∙ ap (λ (x : List ℕ). Some x) (some_is v.1.text u (sym v.1.opens ∙ o.0)), o.1)
+key_keeps : (to : Kinds) (u : Unlocking) (q z : List ℕ) (k l : EncryptedPrivateKeyInfo) (y : List ℕ) → KindLike to u q z (kind.Pkcs8ShroudedKeyBag k) (kind.Pkcs8ShroudedKeyBag l) → KeyOpensBy u k y → KeyOpens q l y
+key_keeps to u q z k l y v o = (v.1.opens_anew ∙ ap (λ (x : List ℕ). Some x) (some_is v.1.text y (sym v.1.opens ∙ o.0)), o.1)
 
-kind_kept : (to : Kinds) (p q z : List ℕ) (k l : SafeBagKind) → KindLike to p q z k l → KindKept k l
-kind_kept to p q z (kind.CertBag c) l v = v.1
-kind_kept to p q z (kind.OtherBagKind o) l v = v.1
-kind_kept to p q z (kind.Pkcs8ShroudedKeyBag k) (kind.CertBag c) v = absurd v
-kind_kept to p q z (kind.Pkcs8ShroudedKeyBag k) (kind.OtherBagKind o) v = absurd v
-kind_kept to p q z (kind.Pkcs8ShroudedKeyBag k) (kind.Pkcs8ShroudedKeyBag l) v = tt
+kind_kept : (to : Kinds) (u : Unlocking) (q z : List ℕ) (k l : SafeBagKind) → KindLike to u q z k l → KindKept k l
+kind_kept to u q z (kind.CertBag c) l v = v.1
+kind_kept to u q z (kind.OtherBagKind o) l v = v.1
+kind_kept to u q z (kind.Pkcs8ShroudedKeyBag k) (kind.CertBag c) v = absurd v
+kind_kept to u q z (kind.Pkcs8ShroudedKeyBag k) (kind.OtherBagKind o) v = absurd v
+kind_kept to u q z (kind.Pkcs8ShroudedKeyBag k) (kind.Pkcs8ShroudedKeyBag l) v = tt
 
-one_keeps : (to : Kinds) (p q z : List ℕ) (g h : SafeBag) (k l : SafeBagKind) (gs hs : List SafeBag) (us : List (List ℕ)) → g.bag ≡ k → h.bag ≡ l → KindLike to p q z k l → SameSet SameAttribute h.attributes g.attributes
-    → ((ws : List (List ℕ)) → Each (KeyOpens p) (shrouded_among gs) ws → BagsKeep to q gs hs ws) → Each (KeyOpens p) (shrouded_in k ++ shrouded_among gs) us → BagsKeep to q (g ∷ gs) (h ∷ hs) us
-one_keeps to p q z g h (kind.CertBag c) l gs hs us is il v s e o =
+one_keeps : (to : Kinds) (u : Unlocking) (q z : List ℕ) (g h : SafeBag) (k l : SafeBagKind) (gs hs : List SafeBag) (us : List (List ℕ)) → g.bag ≡ k → h.bag ≡ l → KindLike to u q z k l → SameSet SameAttribute h.attributes g.attributes
+    → ((ws : List (List ℕ)) → Each (KeyOpensBy u) (shrouded_among gs) ws → BagsKeep to q gs hs ws) → Each (KeyOpensBy u) (shrouded_in k ++ shrouded_among gs) us → BagsKeep to q (g ∷ gs) (h ∷ hs) us
+one_keeps to u q z g h (kind.CertBag c) l gs hs us is il v s e o =
     let m = e us o in
     let same : h.bag ≡ g.bag = il ∙ v.1 ∙ sym is in
     let none : shrouded_in h.bag ≡ [] = ap shrouded_in (il ∙ v.1) in
@@ -199,7 +196,7 @@ one_keeps to p q z g h (kind.CertBag c) l gs hs us is il v s e o =
           (subst (λ (x : List EncryptedPrivateKeyInfo). sum_by key_share (shrouded_among hs) ≤ sum_by (key_work to) (x ++ shrouded_among gs)) (sym none_old) m.cost);
       kept = (record { attributes = s; value = subst (λ (x : SafeBagKind). KindKept x h.bag) (sym is) (il ∙ v.1) }, m.kept);
     }
-one_keeps to p q z g h (kind.OtherBagKind c) l gs hs us is il v s e o =
+one_keeps to u q z g h (kind.OtherBagKind c) l gs hs us is il v s e o =
     let m = e us o in
     let same : h.bag ≡ g.bag = il ∙ v.1 ∙ sym is in
     let none : shrouded_in h.bag ≡ [] = ap shrouded_in (il ∙ v.1) in
@@ -211,33 +208,33 @@ one_keeps to p q z g h (kind.OtherBagKind c) l gs hs us is il v s e o =
           (subst (λ (x : List EncryptedPrivateKeyInfo). sum_by key_share (shrouded_among hs) ≤ sum_by (key_work to) (x ++ shrouded_among gs)) (sym none_old) m.cost);
       kept = (record { attributes = s; value = subst (λ (x : SafeBagKind). KindKept x h.bag) (sym is) (il ∙ v.1) }, m.kept);
     }
-one_keeps to p q z g h (kind.Pkcs8ShroudedKeyBag k) (kind.CertBag c) gs hs us is il v s e o = absurd v
-one_keeps to p q z g h (kind.Pkcs8ShroudedKeyBag k) (kind.OtherBagKind c) gs hs us is il v s e o = absurd v
-one_keeps to p q z g h (kind.Pkcs8ShroudedKeyBag k) (kind.Pkcs8ShroudedKeyBag l) gs hs [] is il v s e o = absurd o
-one_keeps to p q z g h (kind.Pkcs8ShroudedKeyBag k) (kind.Pkcs8ShroudedKeyBag l) gs hs (u ∷ us) is il v s e o =
+one_keeps to u q z g h (kind.Pkcs8ShroudedKeyBag k) (kind.CertBag c) gs hs us is il v s e o = absurd v
+one_keeps to u q z g h (kind.Pkcs8ShroudedKeyBag k) (kind.OtherBagKind c) gs hs us is il v s e o = absurd v
+one_keeps to u q z g h (kind.Pkcs8ShroudedKeyBag k) (kind.Pkcs8ShroudedKeyBag l) gs hs [] is il v s e o = absurd o
+one_keeps to u q z g h (kind.Pkcs8ShroudedKeyBag k) (kind.Pkcs8ShroudedKeyBag l) gs hs (y ∷ us) is il v s e o =
     let m = e us o.1 in
     let new : shrouded_in h.bag ≡ l ∷ [] = ap shrouded_in il in
     let old : shrouded_in g.bag ≡ k ∷ [] = ap shrouded_in is in
-    let less : cost l.encryption_algorithm ≤ cost (kind_for to k.encryption_algorithm) = cost_anew to k.encryption_algorithm l.encryption_algorithm z (unlock_opened k.encryption_algorithm p k.encrypted_data u o.0.0).openable v.0 in
+    let less : cost l.encryption_algorithm ≤ cost (kind_for to k.encryption_algorithm) = cost_anew to k.encryption_algorithm l.encryption_algorithm z v.0 in
     let all : sum_by key_share (l ∷ shrouded_among hs) ≤ sum_by (key_work to) (k ∷ shrouded_among gs) = omega (arith, m.cost, less, sum_by-cons key_share l (shrouded_among hs), sum_by-cons (key_work to) k (shrouded_among gs)) in
-    let keys : Each (KeyOpens q) (l ∷ shrouded_among hs) (u ∷ us) = (key_keeps to p q z k l u v o.0, m.keys) in
+    let keys : Each (KeyOpens q) (l ∷ shrouded_among hs) (y ∷ us) = (key_keeps to u q z k l y v o.0, m.keys) in
     record {
-      keys = subst (λ (x : List EncryptedPrivateKeyInfo). Each (KeyOpens q) (x ++ shrouded_among hs) (u ∷ us)) (sym new) keys;
+      keys = subst (λ (x : List EncryptedPrivateKeyInfo). Each (KeyOpens q) (x ++ shrouded_among hs) (y ∷ us)) (sym new) keys;
       certificates = ap (λ (x : SafeBagKind). at_most_one (x509_of x) ++ certificates_among hs) il ∙ m.certificates ∙ sym (ap (λ (x : SafeBagKind). at_most_one (x509_of x) ++ certificates_among gs) is);
       cost = subst (λ (x : List EncryptedPrivateKeyInfo). sum_by key_share (x ++ shrouded_among hs) ≤ sum_by (key_work to) (shrouded_in g.bag ++ shrouded_among gs)) (sym new)
           (subst (λ (x : List EncryptedPrivateKeyInfo). sum_by key_share (l ∷ shrouded_among hs) ≤ sum_by (key_work to) (x ++ shrouded_among gs)) (sym old) all);
       kept = (record { attributes = s; value = subst (λ (x : SafeBagKind). KindKept x h.bag) (sym is) (subst (λ (x : SafeBagKind). KindKept (kind.Pkcs8ShroudedKeyBag k) x) (sym il) tt) }, m.kept);
     }
 
-bags_keep : (to : Kinds) (p q : List ℕ) (gs hs : List SafeBag) (d : List ℕ) (us : List (List ℕ)) → EachDrawn (BagLike to p q) gs hs d → Each (KeyOpens p) (shrouded_among gs) us → BagsKeep to q gs hs us
-bags_keep to p q [] [] d us e o = record { keys = o; certificates = refl; cost = omega arith; kept = tt }
-bags_keep to p q [] (h ∷ hs) d us e o = absurd e
-bags_keep to p q (g ∷ gs) [] d us e o = absurd e
-bags_keep to p q (g ∷ gs) (h ∷ hs) d us (z, rest, f, b, e) o = one_keeps to p q z g h g.bag h.bag gs hs us refl refl b.value b.attributes (λ ws r. bags_keep to p q gs hs rest ws e r) o
+bags_keep : (to : Kinds) (u : Unlocking) (q : List ℕ) (gs hs : List SafeBag) (d : List ℕ) (us : List (List ℕ)) → EachDrawn (BagLike to u q) gs hs d → Each (KeyOpensBy u) (shrouded_among gs) us → BagsKeep to q gs hs us
+bags_keep to u q [] [] d us e o = record { keys = o; certificates = refl; cost = omega arith; kept = tt }
+bags_keep to u q [] (h ∷ hs) d us e o = absurd e
+bags_keep to u q (g ∷ gs) [] d us e o = absurd e
+bags_keep to u q (g ∷ gs) (h ∷ hs) d us (z, rest, f, b, e) o = one_keeps to u q z g h g.bag h.bag gs hs us refl refl b.value b.attributes (λ ws r. bags_keep to u q gs hs rest ws e r) o
 
 -- ---- contents that are like others
 
-record PartsKeep (to : Kinds) (q : List ℕ) (cs es : List ContentInfo) (gss : List (List SafeBag)) (us : List (List ℕ)) : Type 0 where
+pub record PartsKeep (to : Kinds) (q : List ℕ) (cs es : List ContentInfo) (gss : List (List SafeBag)) (us : List (List ℕ)) : Type 0 where
   pub bags : List (List SafeBag)
   pub holds : Each (HoldsBags q) es bags
   pub keys : Each (KeyOpens q) (all_shrouded bags) us
@@ -246,16 +243,15 @@ record PartsKeep (to : Kinds) (q : List ℕ) (cs es : List ContentInfo) (gss : L
   pub cost : sum_by key_share (all_shrouded bags) ≤ sum_by (key_work to) (all_shrouded gss)
   pub kept : Each (Each BagKept) gss bags
 
-share_keeps : (to : Kinds) (p q d : List ℕ) (c e : ContentInfo) → ContentLike to p q d c e → content_share e ≤ content_work to c
-share_keeps to p q d (content.Data v) (content.Data w) l = omega arith
-share_keeps to p q d (content.EncryptedData v) (content.EncryptedData w) l =
-    let i = v.encrypted_content_info in
-    cost_anew to i.content_encryption_algorithm w.encrypted_content_info.content_encryption_algorithm l.own (unlock_opened i.content_encryption_algorithm p i.encrypted_content l.holds.0 l.holds.1).openable l.form
-share_keeps to p q d (content.Data v) (content.EncryptedData w) l = absurd l.form
-share_keeps to p q d (content.Data v) (content.OtherContext o) l = absurd l.form
-share_keeps to p q d (content.EncryptedData v) (content.Data w) l = absurd l.form
-share_keeps to p q d (content.EncryptedData v) (content.OtherContext o) l = absurd l.form
-share_keeps to p q d (content.OtherContext o) e l = absurd l.form
+share_keeps : (to : Kinds) (u : Unlocking) (q d : List ℕ) (c e : ContentInfo) → ContentLike to u q d c e → content_share e ≤ content_work to c
+share_keeps to u q d (content.Data v) (content.Data w) l = omega arith
+share_keeps to u q d (content.EncryptedData v) (content.EncryptedData w) l =
+    cost_anew to v.encrypted_content_info.content_encryption_algorithm w.encrypted_content_info.content_encryption_algorithm l.own l.form
+share_keeps to u q d (content.Data v) (content.EncryptedData w) l = absurd l.form
+share_keeps to u q d (content.Data v) (content.OtherContext o) l = absurd l.form
+share_keeps to u q d (content.EncryptedData v) (content.Data w) l = absurd l.form
+share_keeps to u q d (content.EncryptedData v) (content.OtherContext o) l = absurd l.form
+share_keeps to u q d (content.OtherContext o) e l = absurd l.form
 
 record Halves {A B : Type 0} (R : A → B → Type 0) (xs ys : List A) (zs : List B) : Type 0 where
   front : List B
@@ -277,19 +273,19 @@ whole R [] ys (u ∷ us) vs e f = absurd e
 whole R (x ∷ xs) ys [] vs e f = absurd e
 whole R (x ∷ xs) ys (u ∷ us) vs e f = (e.0, whole R xs ys us vs e.1 f)
 
-parts_keep : (to : Kinds) (p q : List ℕ) (cs es : List ContentInfo) (gss : List (List SafeBag)) (d : List ℕ) (us : List (List ℕ)) → EachDrawn (ContentLike to p q) cs es d → Each (HoldsBags p) cs gss
-    → Each (KeyOpens p) (all_shrouded gss) us → PartsKeep to q cs es gss us
-parts_keep to p q [] [] [] d us e h o = record { bags = []; holds = tt; keys = o; certificates = refl; share = omega arith; cost = omega arith; kept = tt }
-parts_keep to p q [] [] (gs ∷ gss) d us e h o = absurd h
-parts_keep to p q [] (x ∷ es) gss d us e h o = absurd e
-parts_keep to p q (c ∷ cs) [] gss d us e h o = absurd e
-parts_keep to p q (c ∷ cs) (x ∷ es) [] d us e h o = absurd h
-parts_keep to p q (c ∷ cs) (x ∷ es) (gs ∷ gss) d us (z, rest, f, l, e) h o =
-    let k = halves (KeyOpens p) (shrouded_among gs) (all_shrouded gss) us o in
-    let same : l.bags ≡ gs = holds_sole p c l.bags gs l.holds h.0 in
-    let b = bags_keep to p q gs l.bags_anew l.of_keys k.front (subst (λ (g : List SafeBag). EachDrawn (BagLike to p q) g l.bags_anew l.of_keys) same l.like) k.first in
-    let m = parts_keep to p q cs es gss rest k.back e h.1 k.second in
-    let one : content_share x ≤ content_work to c = share_keeps to p q z c x l in
+pub parts_keep : (to : Kinds) (u : Unlocking) (q : List ℕ) (cs es : List ContentInfo) (gss : List (List SafeBag)) (d : List ℕ) (us : List (List ℕ)) → EachDrawn (ContentLike to u q) cs es d → Each (HoldsBy u) cs gss
+    → Each (KeyOpensBy u) (all_shrouded gss) us → PartsKeep to q cs es gss us
+parts_keep to u q [] [] [] d us e h o = record { bags = []; holds = tt; keys = o; certificates = refl; share = omega arith; cost = omega arith; kept = tt }
+parts_keep to u q [] [] (gs ∷ gss) d us e h o = absurd h
+parts_keep to u q [] (x ∷ es) gss d us e h o = absurd e
+parts_keep to u q (c ∷ cs) [] gss d us e h o = absurd e
+parts_keep to u q (c ∷ cs) (x ∷ es) [] d us e h o = absurd h
+parts_keep to u q (c ∷ cs) (x ∷ es) (gs ∷ gss) d us (z, rest, f, l, e) h o =
+    let k = halves (KeyOpensBy u) (shrouded_among gs) (all_shrouded gss) us o in
+    let same : l.bags ≡ gs = holds_sole u c l.bags gs l.holds h.0 in
+    let b = bags_keep to u q gs l.bags_anew l.of_keys k.front (subst (λ (g : List SafeBag). EachDrawn (BagLike to u q) g l.bags_anew l.of_keys) same l.like) k.first in
+    let m = parts_keep to u q cs es gss rest k.back e h.1 k.second in
+    let one : content_share x ≤ content_work to c = share_keeps to u q z c x l in
     record {
       bags = l.bags_anew ∷ m.bags;
       holds = (l.holds_anew, m.holds);
@@ -314,7 +310,7 @@ change_keeps_to to b p q c d short ch = record { keeps = keeps }
         let mac : o.mac ≡ x.mac = mac_is o.mac x.mac (sym o.has ∙ ap (λ (s : PFX). s.mac_data) store ∙ x.has_mac) in
         let parts : o.parts ≡ x.parts = contents_sole x.text o.parts x.parts (subst (λ (t : List ℕ). IsContents t o.parts) text o.opening.contents) x.lists in
         let bags : Each (HoldsBags p) x.parts gss = subst (λ (t : List ContentInfo). Each (HoldsBags p) t gss) parts o.opening.bags in
-        let k = parts_keep to p q x.parts x.parts_anew gss x.of_parts ks x.like bags o.opening.keys in
+        let k = parts_keep to (under p) q x.parts x.parts_anew gss x.of_parts ks x.like (all_held p x.parts gss bags) o.opening.keys in
         let made : StoreOpens c q k.bags ks (work x.mac_anew x.parts_anew k.bags) = record {
           short = short;
           store = ch.store_anew;

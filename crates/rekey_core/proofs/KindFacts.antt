@@ -4,7 +4,9 @@ use Rattle.p12.specs.AlgorithmIdentifier.{count, openable}
 use Rattle.p12.specs.MacData.{is_mac_digest}
 use Rattle.p12.specs.declared.algorithm_identifier.AlgorithmIdentifier.{AlgorithmIdentifier}
 use Rattle.p12.specs.declared.mac_data.MacData.{MacData}
-use Rattle.rekey_core.specs.Kinds.{count_for, digest_for, kind_for}
+use Rattle.rekey_core.specs.Kinds.{count_for, digest_for, kind_for, mac_kind}
+use Rattle.rekey_core.specs.declared.kinds.MacAnew.{MacAnew}
+use Rattle.rekey_core.specs.declared.kinds.MacAnew.TheVariants as made
 use Rattle.rekey_core.specs.declared.kinds.Kinds.{Kinds}
 use Rattle.rekey_core.specs.declared.kinds.Kinds.TheVariants.{Kept, Renewed}
 
@@ -23,3 +25,7 @@ digest_known (Renewed rounds) m e = refl
 pub count_some : (to : Kinds) (m : MacData) → 1 ≤ m.iterations → 1 ≤ count_for to m
 count_some Kept m e = e
 count_some (Renewed rounds) m e = rounds.some
+
+pub kind_known : (mac : MacAnew) → is_mac_digest (mac_kind mac).digest ≡ true
+kind_known (made.Sha1 rounds) = refl
+kind_known (made.Sha256 rounds) = refl

@@ -7,7 +7,6 @@ use Rattle.std.proofs.lemmas.List.Elements.{All-nil, All-cons}
 use Rattle.asn1_core.specs.Sets.{Each, IsRead}
 use Rattle.asn1_core.specs.Texts.{Many}
 use Rattle.p12.specs.Canonical.{WritableContent, contents_canon, store_canon}
-use Rattle.p12.specs.Collected.{HoldsBags}
 use Rattle.p12.specs.ContentInfo.{ContentText, IsContents}
 use Rattle.asn1_core.specs.Texts.{seen_option}
 use Rattle.p12.specs.ContentView.{seen_content}
@@ -31,19 +30,20 @@ use Rattle.transfer.specs.declared.store.error.TransferError.{TransferError}
 use Rattle.rekey_core.specs.Anew.{change_draws, content_draws}
 use Rattle.rekey_core.specs.Making.{HeldOpen, IsMacked, TextSealed, store_anew}
 use Rattle.p12.specs.declared.content_info.ContentInfo.TheVariants as content
-use Rattle.rekey_core.specs.Sealing.{ContentsSealed, LongOnly, SuppliesAll, bags_draw}
+use Rattle.rekey_core.specs.Unlocking.{HoldsBy, Unlocking}
+use Rattle.rekey_core.specs.Sealing.{CanSeal, ContentsSealed, LongOnly, SuppliesAll, bags_draw}
 use Rattle.rekey_core.specs.Size.{blank_contents, changed_size}
 use Rattle.rekey_core.proofs.Sizes.{contents_in, store_size}
 use Rattle.rekey_core.proofs.Supplying.{all_keys, long_map}
 use Rattle.rekey_core.proofs.Texts.{contents_many}
-use Rattle.rekey_core.specs.Kinds.{mac_salt}
+use Rattle.rekey_core.specs.Kinds.{MacKind, mac_salt}
 use Rattle.rekey_core.specs.declared.kinds.Kinds.{Kinds}
 
-pub supply_of : (p : List ℕ) (cs : List ContentInfo) (gss : List (List SafeBag)) (keys : List (List ℕ)) → HeldOpen p cs gss keys → SuppliesAll p gss keys []
-supply_of p cs gss keys h = record { front = keys; splits = sym (append-nil keys); are_opened = h.are_opened }
+pub supply_of : (u : Unlocking) (cs : List ContentInfo) (gss : List (List SafeBag)) (keys : List (List ℕ)) → HeldOpen u cs gss keys → SuppliesAll u gss keys []
+supply_of u cs gss keys h = record { front = keys; splits = sym (append-nil keys); are_opened = h.are_opened }
 
-pub supplied : (cs : List ContentInfo) (gss : List (List SafeBag)) (keys : List (List ℕ)) → (p : List ℕ) × HeldOpen p cs gss keys → (p : List ℕ) × (more : List (List ℕ)) × Each (HoldsBags p) cs gss × SuppliesAll p gss keys more
-supplied cs gss keys (p, h) = (p, [], h.bags, supply_of p cs gss keys h)
+pub supplied : (to : Kinds) (cs : List ContentInfo) (gss : List (List SafeBag)) (keys : List (List ℕ)) → (u : Unlocking) × CanSeal to u × HeldOpen u cs gss keys → (u : Unlocking) × (more : List (List ℕ)) × CanSeal to u × Each (HoldsBy u) cs gss × SuppliesAll u gss keys more
+supplied to cs gss keys (u, can, h) = (u, [], can, h.bags, supply_of u cs gss keys h)
 
 pub room_of : (to : Kinds) (cs : List ContentInfo) (gss : List (List SafeBag)) (drawn : List ℕ) → length drawn ≡ change_draws to cs gss → sum_by (content_draws to) cs + sum_by (bags_draw to) gss ≤ length drawn
 room_of to cs gss drawn e = omega (arith, e, all_keys to gss)
@@ -59,8 +59,8 @@ many_of : (v : List ℕ) (cs : List ContentInfo) → IsContents v cs → IsRead 
 unfolding IsContents
 many_of v cs ((w, m, e), short) = (w, m)
 
-pub contents_write : (to : Kinds) (v p q : List ℕ) (cs es : List ContentInfo) (drawn rest : List ℕ) → IsContents v cs → ContentsSealed to p q cs drawn rest es → All WritableContent es
-contents_write to v p q cs es drawn rest is s = let m = many_of v cs is in write_all _ es (contents_many to p q cs es s.took m.0 s.sealed m.1)
+pub contents_write : (to : Kinds) (u : Unlocking) (v q : List ℕ) (cs es : List ContentInfo) (drawn rest : List ℕ) → IsContents v cs → ContentsSealed to u q cs drawn rest es → All WritableContent es
+contents_write to u v q cs es drawn rest is s = let m = many_of v cs is in write_all _ es (contents_many to u q cs es s.took m.0 s.sealed m.1)
 
 all_of_it : (n : ℕ) (rest salt more : List ℕ) → rest ≡ salt ++ more → length rest ≡ n → length salt ≡ n → rest ≡ salt
 all_of_it n rest salt more e l k = e ∙ ap (λ t. salt ++ t) (none more (omega (arith, ap length e, length-append salt more, l, k))) ∙ append-nil salt
@@ -69,11 +69,11 @@ all_of_it n rest salt more e l k = e ∙ ap (λ t. salt ++ t) (none more (omega 
     none [] h = refl
     none (x ∷ t) h = absurd (omega (arith, h))
 
-pub text_sealed : (to : Kinds) (p q : List ℕ) (version : ℕ) (m : MacData) (cs es : List ContentInfo) (gss : List (List SafeBag)) (keys : List (List ℕ)) (drawn rest salt more b : List ℕ)
-    → ((p : List ℕ) (k : List (List ℕ)) → Each (HoldsBags p) cs gss → SuppliesAll p gss keys k → ContentsSealed to p q cs drawn rest es) → length rest ≡ mac_salt to → rest ≡ salt ++ more → length salt ≡ mac_salt to
-    → (b ≡ store_canon (store_anew to version m q salt es)) × (length b ≤ store_limit) → HeldOpen p cs gss keys → TextSealed to p q version m cs drawn b
-text_sealed to p q version m cs es gss keys drawn rest salt more b all left e long is h =
-    let s = all p [] h.bags (supply_of p cs gss keys h) in
+pub text_sealed : (to : Kinds) (u : Unlocking) (q : List ℕ) (version : ℕ) (m : MacKind) (cs es : List ContentInfo) (gss : List (List SafeBag)) (keys : List (List ℕ)) (drawn rest salt more b : List ℕ)
+    → ((u : Unlocking) (k : List (List ℕ)) → Each (HoldsBy u) cs gss → SuppliesAll u gss keys k → ContentsSealed to u q cs drawn rest es) → length rest ≡ mac_salt to → rest ≡ salt ++ more → length salt ≡ mac_salt to
+    → (b ≡ store_canon (store_anew version m q salt es)) × (length b ≤ store_limit) → HeldOpen u cs gss keys → TextSealed to u q version m cs drawn b
+text_sealed to u q version m cs es gss keys drawn rest salt more b all left e long is h =
+    let s = all u [] h.bags (supply_of u cs gss keys h) in
     record {
       contents = es;
       taken = s.took;
@@ -85,17 +85,17 @@ text_sealed to p q version m cs es gss keys drawn rest salt more b all left e lo
       short = is.1;
     }
 
-pub long_contents : (to : Kinds) (version : ℕ) (m : MacData) (cs : List ContentInfo) (gss : List (List SafeBag)) (keys : List (List ℕ)) (f : TransferError)
-    → LongOnly ((p : List ℕ) (more : List (List ℕ)) → Each (HoldsBags p) cs gss → SuppliesAll p gss keys more → 2 ^ 32 ≤ length (contents_canon (blank_contents to p cs gss))) f
-    → LongOnly ((p : List ℕ) → HeldOpen p cs gss keys → store_limit < changed_size to version m p cs gss) f
-long_contents to version m cs gss keys f h = long_map _ _ f (λ all p o. omega (arith, all p [] o.bags (supply_of p cs gss keys o), contents_in to version m p cs gss)) h
+pub long_contents : (to : Kinds) (version : ℕ) (m : MacKind) (cs : List ContentInfo) (gss : List (List SafeBag)) (keys : List (List ℕ)) (f : TransferError)
+    → LongOnly ((u : Unlocking) (more : List (List ℕ)) → Each (HoldsBy u) cs gss → SuppliesAll u gss keys more → 2 ^ 32 ≤ length (contents_canon (blank_contents to u cs gss))) f
+    → LongOnly ((u : Unlocking) → HeldOpen u cs gss keys → store_limit < changed_size to version m u cs gss) f
+long_contents to version m cs gss keys f h = long_map _ _ f (λ all u o. omega (arith, all u [] o.bags (supply_of u cs gss keys o), contents_in to version m u cs gss)) h
 
-pub long_store : (to : Kinds) (q : List ℕ) (version : ℕ) (m : MacData) (cs es : List ContentInfo) (gss : List (List SafeBag)) (keys : List (List ℕ)) (drawn rest salt : List ℕ) (f : TransferError)
-    → ((p : List ℕ) (k : List (List ℕ)) → Each (HoldsBags p) cs gss → SuppliesAll p gss keys k → ContentsSealed to p q cs drawn rest es) → length salt ≡ mac_salt to → is_mac_digest m.mac.digest_algorithm ≡ true
-    → LongOnly (store_limit < length (store_canon (store_anew to version m q salt es))) f → LongOnly ((p : List ℕ) → HeldOpen p cs gss keys → store_limit < changed_size to version m p cs gss) f
-long_store to q version m cs es gss keys drawn rest salt f all long known h = long_map _ _ f (λ l p o. (
-    let s = all p [] o.bags (supply_of p cs gss keys o) in
-    omega (arith, l, store_size to p q version m cs es gss s.took salt known s.sealed o.bags long)
+pub long_store : (to : Kinds) (q : List ℕ) (version : ℕ) (m : MacKind) (cs es : List ContentInfo) (gss : List (List SafeBag)) (keys : List (List ℕ)) (drawn rest salt : List ℕ) (f : TransferError)
+    → ((u : Unlocking) (k : List (List ℕ)) → Each (HoldsBy u) cs gss → SuppliesAll u gss keys k → ContentsSealed to u q cs drawn rest es) → length salt ≡ mac_salt to → is_mac_digest m.digest ≡ true
+    → LongOnly (store_limit < length (store_canon (store_anew version m q salt es))) f → LongOnly ((u : Unlocking) → HeldOpen u cs gss keys → store_limit < changed_size to version m u cs gss) f
+long_store to q version m cs es gss keys drawn rest salt f all long known h = long_map _ _ f (λ l u o. (
+    let s = all u [] o.bags (supply_of u cs gss keys o) in
+    omega (arith, l, store_size to u q version m cs es gss s.took salt known s.sealed o.bags long)
     )) h
 
 -- ---- the parts around the contents

@@ -20,6 +20,8 @@ use Rattle.p12.specs.declared.safe_bag.SafeBagKind.TheVariants as kind
 use Rattle.p12.proofs.DefinitionLaws.{contents_sole, store_sole}
 use Rattle.transfer.specs.Opening.{all_shrouded, shrouded_among, shrouded_in}
 use Rattle.rekey_core.specs.Change.{ChangesTo}
+use Rattle.rekey_core.specs.Unlocking.{Unlocking, under}
+use Rattle.rekey_core.proofs.Held.{held}
 use Rattle.rekey_core.specs.Like.{BagLike, ContentLike, FormLike, IsAnew, KindLike}
 use Rattle.rekey_core.specs.Renewed.{ContentRenewed, IsRenewed, KeyRenewed, StoreRenewed, encrypted_in, encrypted_parts}
 use Rattle.rekey_core.specs.Work.{content_work, key_work, work_to}
@@ -32,20 +34,20 @@ use Rattle.rekey_core.proofs.Sizes.{holds_sole}
 algorithm_renewed : (r : Rounds) (z : List ℕ) (a b : AlgorithmIdentifier) → IsAnew (Renewed r) z a b → IsRenewed r.count b
 algorithm_renewed r z a b n = (z, n.drawn, n.algorithm)
 
-kind_renewed : (r : Rounds) (p q z : List ℕ) (k l : SafeBagKind) → KindLike (Renewed r) p q z k l → All (KeyRenewed r.count) (shrouded_in l)
-kind_renewed r p q z (kind.CertBag c) l v = subst (λ (x : SafeBagKind). All (KeyRenewed r.count) (shrouded_in x)) (sym v.1) (All-nil (KeyRenewed r.count))
-kind_renewed r p q z (kind.OtherBagKind o) l v = subst (λ (x : SafeBagKind). All (KeyRenewed r.count) (shrouded_in x)) (sym v.1) (All-nil (KeyRenewed r.count))
-kind_renewed r p q z (kind.Pkcs8ShroudedKeyBag k) (kind.CertBag c) v = absurd v
-kind_renewed r p q z (kind.Pkcs8ShroudedKeyBag k) (kind.OtherBagKind o) v = absurd v
-kind_renewed r p q z (kind.Pkcs8ShroudedKeyBag k) (kind.Pkcs8ShroudedKeyBag l) v =
+kind_renewed : (r : Rounds) (u : Unlocking) (q z : List ℕ) (k l : SafeBagKind) → KindLike (Renewed r) u q z k l → All (KeyRenewed r.count) (shrouded_in l)
+kind_renewed r u q z (kind.CertBag c) l v = subst (λ (x : SafeBagKind). All (KeyRenewed r.count) (shrouded_in x)) (sym v.1) (All-nil (KeyRenewed r.count))
+kind_renewed r u q z (kind.OtherBagKind o) l v = subst (λ (x : SafeBagKind). All (KeyRenewed r.count) (shrouded_in x)) (sym v.1) (All-nil (KeyRenewed r.count))
+kind_renewed r u q z (kind.Pkcs8ShroudedKeyBag k) (kind.CertBag c) v = absurd v
+kind_renewed r u q z (kind.Pkcs8ShroudedKeyBag k) (kind.OtherBagKind o) v = absurd v
+kind_renewed r u q z (kind.Pkcs8ShroudedKeyBag k) (kind.Pkcs8ShroudedKeyBag l) v =
     All-cons (KeyRenewed r.count) l [] (algorithm_renewed r z k.encryption_algorithm l.encryption_algorithm v.0) (All-nil (KeyRenewed r.count))
 
-bags_renewed : (r : Rounds) (p q : List ℕ) (gs hs : List SafeBag) (d : List ℕ) → EachDrawn (BagLike (Renewed r) p q) gs hs d → All (KeyRenewed r.count) (shrouded_among hs)
-bags_renewed r p q [] [] d s = All-nil (KeyRenewed r.count)
-bags_renewed r p q [] (h ∷ hs) d s = absurd s
-bags_renewed r p q (g ∷ gs) [] d s = absurd s
-bags_renewed r p q (g ∷ gs) (h ∷ hs) d (z, rest, e, b, s) =
-    All-append (KeyRenewed r.count) (shrouded_in h.bag) (shrouded_among hs) (kind_renewed r p q z g.bag h.bag b.value) (bags_renewed r p q gs hs rest s)
+bags_renewed : (r : Rounds) (u : Unlocking) (q : List ℕ) (gs hs : List SafeBag) (d : List ℕ) → EachDrawn (BagLike (Renewed r) u q) gs hs d → All (KeyRenewed r.count) (shrouded_among hs)
+bags_renewed r u q [] [] d s = All-nil (KeyRenewed r.count)
+bags_renewed r u q [] (h ∷ hs) d s = absurd s
+bags_renewed r u q (g ∷ gs) [] d s = absurd s
+bags_renewed r u q (g ∷ gs) (h ∷ hs) d (z, rest, e, b, s) =
+    All-append (KeyRenewed r.count) (shrouded_in h.bag) (shrouded_among hs) (kind_renewed r u q z g.bag h.bag b.value) (bags_renewed r u q gs hs rest s)
 
 form_renewed : (r : Rounds) (z : List ℕ) (c e : ContentInfo) → FormLike (Renewed r) z c e → ContentRenewed r.count e
 form_renewed r z (content.Data v) (content.Data w) l = tt
@@ -56,24 +58,24 @@ form_renewed r z (content.EncryptedData v) (content.Data w) l = absurd l
 form_renewed r z (content.EncryptedData v) (content.OtherContext o) l = absurd l
 form_renewed r z (content.OtherContext o) e l = absurd l
 
-contents_renewed : (r : Rounds) (p q : List ℕ) (cs es : List ContentInfo) (d : List ℕ) → EachDrawn (ContentLike (Renewed r) p q) cs es d → All (ContentRenewed r.count) es
-contents_renewed r p q [] [] d s = All-nil (ContentRenewed r.count)
-contents_renewed r p q [] (e ∷ es) d s = absurd s
-contents_renewed r p q (c ∷ cs) [] d s = absurd s
-contents_renewed r p q (c ∷ cs) (e ∷ es) d (z, rest, f, l, s) =
-    All-cons (ContentRenewed r.count) e es (form_renewed r l.own c e l.form) (contents_renewed r p q cs es rest s)
+pub contents_renewed : (r : Rounds) (u : Unlocking) (q : List ℕ) (cs es : List ContentInfo) (d : List ℕ) → EachDrawn (ContentLike (Renewed r) u q) cs es d → All (ContentRenewed r.count) es
+contents_renewed r u q [] [] d s = All-nil (ContentRenewed r.count)
+contents_renewed r u q [] (e ∷ es) d s = absurd s
+contents_renewed r u q (c ∷ cs) [] d s = absurd s
+contents_renewed r u q (c ∷ cs) (e ∷ es) d (z, rest, f, l, s) =
+    All-cons (ContentRenewed r.count) e es (form_renewed r l.own c e l.form) (contents_renewed r u q cs es rest s)
 
-keys_renewed : (r : Rounds) (p q : List ℕ) (cs es : List ContentInfo) (hss : List (List SafeBag)) (d : List ℕ) → EachDrawn (ContentLike (Renewed r) p q) cs es d → Each (HoldsBags q) es hss
+pub keys_renewed : (r : Rounds) (u : Unlocking) (q : List ℕ) (cs es : List ContentInfo) (hss : List (List SafeBag)) (d : List ℕ) → EachDrawn (ContentLike (Renewed r) u q) cs es d → Each (HoldsBags q) es hss
     → All (KeyRenewed r.count) (all_shrouded hss)
-keys_renewed r p q [] [] [] d s h = All-nil (KeyRenewed r.count)
-keys_renewed r p q [] [] (hs ∷ hss) d s h = absurd h
-keys_renewed r p q [] (e ∷ es) hss d s h = absurd s
-keys_renewed r p q (c ∷ cs) [] hss d s h = absurd s
-keys_renewed r p q (c ∷ cs) (e ∷ es) [] d s h = absurd h
-keys_renewed r p q (c ∷ cs) (e ∷ es) (hs ∷ hss) d (z, rest, f, l, s) h =
-    let same : l.bags_anew ≡ hs = holds_sole q e l.bags_anew hs l.holds_anew h.0 in
-    let first = subst (λ (x : List SafeBag). All (KeyRenewed r.count) (shrouded_among x)) same (bags_renewed r p q l.bags l.bags_anew l.of_keys l.like) in
-    All-append (KeyRenewed r.count) (shrouded_among hs) (all_shrouded hss) first (keys_renewed r p q cs es hss rest s h.1)
+keys_renewed r u q [] [] [] d s h = All-nil (KeyRenewed r.count)
+keys_renewed r u q [] [] (hs ∷ hss) d s h = absurd h
+keys_renewed r u q [] (e ∷ es) hss d s h = absurd s
+keys_renewed r u q (c ∷ cs) [] hss d s h = absurd s
+keys_renewed r u q (c ∷ cs) (e ∷ es) [] d s h = absurd h
+keys_renewed r u q (c ∷ cs) (e ∷ es) (hs ∷ hss) d (z, rest, f, l, s) h =
+    let same : l.bags_anew ≡ hs = holds_sole (under q) e l.bags_anew hs (held q e l.bags_anew l.holds_anew) (held q e hs h.0) in
+    let first = subst (λ (x : List SafeBag). All (KeyRenewed r.count) (shrouded_among x)) same (bags_renewed r u q l.bags l.bags_anew l.of_keys l.like) in
+    All-append (KeyRenewed r.count) (shrouded_among hs) (all_shrouded hss) first (keys_renewed r u q cs es hss rest s h.1)
 
 pub changes_renew : (r : Rounds) (b p q c d : List ℕ) → ChangesTo (Renewed r) b p c q d → StoreRenewed r.count c q
 changes_renew r b p q c d ch = record {
@@ -87,8 +89,8 @@ changes_renew r b p q c d ch = record {
         ap (λ (m : MacData). m.mac.digest_algorithm) mac ∙ x.digest,
         ap (λ (m : MacData). m.iterations) mac ∙ x.count,
         ap (λ (m : MacData). length m.salt) mac ∙ x.salt_drawn,
-        subst (λ (t : List ContentInfo). All (ContentRenewed r.count) t) (sym parts) (contents_renewed r p q x.parts x.parts_anew x.of_parts x.like),
-        keys_renewed r p q x.parts x.parts_anew gss x.of_parts x.like bags,
+        subst (λ (t : List ContentInfo). All (ContentRenewed r.count) t) (sym parts) (contents_renewed r (under p) q x.parts x.parts_anew x.of_parts x.like),
+        keys_renewed r (under p) q x.parts x.parts_anew gss x.of_parts x.like bags,
       )
       );
 }

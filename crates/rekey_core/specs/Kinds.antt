@@ -3,10 +3,13 @@ use Rattle.std.specs.Prelude.{ℕ, []}
 use Rattle.pkcs5.specs.Generation.{pbkdf2_sha256}
 use Rattle.pkcs5.specs.declared.pbes2.encryption_scheme.EncryptionScheme.TheVariants.{Aes256Cbc}
 use Rattle.p12.specs.declared.algorithm_identifier.AlgorithmIdentifier.{AlgorithmIdentifier}
-use Rattle.p12.specs.declared.algorithm_identifier.AlgorithmIdentifier.TheVariants.{Sha256, Pbes2}
+use Rattle.p12.specs.declared.algorithm_identifier.AlgorithmIdentifier.TheVariants.{Sha1, Sha256, Pbes2}
 use Rattle.p12.specs.declared.mac_data.MacData.{MacData}
 use Rattle.rekey_core.specs.declared.kinds.Kinds.{Kinds}
 use Rattle.rekey_core.specs.declared.kinds.Kinds.TheVariants.{Kept, Renewed}
+use Rattle.rekey_core.specs.declared.kinds.MacAnew.{MacAnew}
+use Rattle.rekey_core.specs.declared.kinds.MacAnew.TheVariants as made
+use Rattle.rekey_core.specs.declared.kinds.Rounds.{Rounds}
 
 -- the kind of PBKDF2 with HMAC-SHA-256 in so many rounds and of AES-256-CBC, whatever the salt and
 -- the IV
@@ -26,6 +29,22 @@ digest_for (Renewed rounds) m = Sha256
 abbrev pub count_for : Kinds → MacData → ℕ
 count_for Kept m = m.iterations
 count_for (Renewed rounds) m = rounds.count
+
+-- what a MAC is made with
+pub record MacKind : Type 0 where
+  pub digest : AlgorithmIdentifier
+  pub count : ℕ
+
+abbrev pub mac_for : Kinds → MacData → MacKind
+mac_for to m = record { digest = digest_for to m; count = count_for to m }
+
+abbrev pub renewed_mac : Rounds → MacKind
+renewed_mac rounds = record { digest = Sha256; count = rounds.count }
+
+-- what the MAC that is asked for is made with
+abbrev pub mac_kind : MacAnew → MacKind
+mac_kind (made.Sha1 rounds) = record { digest = Sha1; count = rounds.count }
+mac_kind (made.Sha256 rounds) = record { digest = Sha256; count = rounds.count }
 
 abbrev pub mac_salt : Kinds → ℕ
 mac_salt Kept = 8

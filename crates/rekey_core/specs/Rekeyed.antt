@@ -11,7 +11,9 @@ use Rattle.transfer.specs.declared.store.error.TransferError.{TransferError}
 use Rattle.transfer.specs.declared.store.error.TransferError.TheVariants.{TooLong, Rng, Memory}
 use Rattle.rekey_core.specs.Anew.{change_draws}
 use Rattle.rekey_core.specs.Change.{ChangesTo}
+use Rattle.rekey_core.specs.Kinds.{mac_for}
 use Rattle.rekey_core.specs.Size.{changed_size}
+use Rattle.rekey_core.specs.Unlocking.{under}
 use Rattle.rekey_core.specs.declared.kinds.Kinds.{Kinds}
 use Rattle.rekey_core.specs.declared.kinds.Kinds.TheVariants.{Kept}
 
@@ -29,7 +31,8 @@ draws_to to b p limit a = change_draws to a.opens.parts a.bags
 
 -- how many octets the text of the changed store has
 abbrev pub size_to : Kinds → (b p : List ℕ) (limit : ℕ) → IsAllowed b p limit → ℕ
-size_to to b p limit a = changed_size to a.opens.store.version a.opens.mac p a.opens.parts a.bags
+size_to to b p limit a = changed_size to a.opens.store.version (mac_for to a.opens.mac) (under p)
+    a.opens.parts a.bags
 
 -- The store is changed to the text c, of these kinds, which is short enough, by exactly the octets that it draws,
 -- and the steps are the work of opening it.

@@ -2,7 +2,6 @@
 -- the digest are only counted.
 use Rattle.std.specs.Prelude.{ℕ, ◌+◌, List, [], ◌∷◌, length, map, replicate, Option, Some, None}
 use Rattle.mac_modes.specs.Padding.{pad_count}
-use Rattle.p12.specs.AlgorithmIdentifier.{unlock}
 use Rattle.p12.specs.Canonical.{bags_canon, contents_canon, store_canon}
 use Rattle.p12.specs.declared.algorithm_identifier.AlgorithmIdentifier.{AlgorithmIdentifier}
 use Rattle.p12.specs.declared.algorithm_identifier.AlgorithmIdentifier.TheVariants.{Sha1, Sha256, PbewithSHAAnd40BitRC2CBC, PbeWithSHAAnd3KeyTripleDESCBC, Pbes2, OtherAlg}
@@ -15,7 +14,8 @@ use Rattle.p12.specs.declared.safe_bag.SafeBag.{SafeBag}
 use Rattle.p12.specs.declared.safe_bag.SafeBagKind.{SafeBagKind}
 use Rattle.p12.specs.declared.safe_bag.SafeBagKind.TheVariants as kind
 use Rattle.rekey_core.specs.Anew.{anew, drawn_for}
-use Rattle.rekey_core.specs.Kinds.{count_for, digest_for, kind_for, mac_salt}
+use Rattle.rekey_core.specs.Kinds.{MacKind, kind_for, mac_salt}
+use Rattle.rekey_core.specs.Unlocking.{Unlocking}
 use Rattle.rekey_core.specs.declared.kinds.Kinds.{Kinds}
 
 -- n octets that are only counted
@@ -40,47 +40,47 @@ abbrev pub size_in : Option (List ℕ) → ℕ
 size_in None = 0
 size_in (Some m) = length m
 
-abbrev pub blank_key : Kinds → List ℕ → EncryptedPrivateKeyInfo → EncryptedPrivateKeyInfo
-blank_key to p k = record {
+abbrev pub blank_key : Kinds → Unlocking → EncryptedPrivateKeyInfo → EncryptedPrivateKeyInfo
+blank_key to u k = record {
   encryption_algorithm = blank_algorithm (kind_for to k.encryption_algorithm);
   encrypted_data = blank
       (sealed_size (kind_for to k.encryption_algorithm)
-      (size_in (unlock k.encryption_algorithm p k.encrypted_data)));
+      (size_in (u k.encryption_algorithm k.encrypted_data)));
 }
 
-abbrev pub blank_kind : Kinds → List ℕ → SafeBagKind → SafeBagKind
-blank_kind to p (kind.CertBag c) = kind.CertBag c
-blank_kind to p (kind.OtherBagKind o) = kind.OtherBagKind o
-blank_kind to p (kind.Pkcs8ShroudedKeyBag k) = kind.Pkcs8ShroudedKeyBag (blank_key to p k)
+abbrev pub blank_kind : Kinds → Unlocking → SafeBagKind → SafeBagKind
+blank_kind to u (kind.CertBag c) = kind.CertBag c
+blank_kind to u (kind.OtherBagKind o) = kind.OtherBagKind o
+blank_kind to u (kind.Pkcs8ShroudedKeyBag k) = kind.Pkcs8ShroudedKeyBag (blank_key to u k)
 
-abbrev pub blank_bag : Kinds → List ℕ → SafeBag → SafeBag
-blank_bag to p g = record { bag = blank_kind to p g.bag; attributes = g.attributes }
+abbrev pub blank_bag : Kinds → Unlocking → SafeBag → SafeBag
+blank_bag to u g = record { bag = blank_kind to u g.bag; attributes = g.attributes }
 
--- the text of bags under the password p, once they are sealed anew
-abbrev pub blank_text : Kinds → List ℕ → List SafeBag → List ℕ
-blank_text to p gs = bags_canon (map (blank_bag to p) gs)
+-- the text of bags whose keys open by u, once they are sealed anew
+abbrev pub blank_text : Kinds → Unlocking → List SafeBag → List ℕ
+blank_text to u gs = bags_canon (map (blank_bag to u) gs)
 
 -- a content that holds these bags
-abbrev pub blank_content : Kinds → List ℕ → ContentInfo → List SafeBag → ContentInfo
-blank_content to p (content.Data v) gs = content.Data (blank_text to p gs)
-blank_content to p (content.EncryptedData d) gs =
+abbrev pub blank_content : Kinds → Unlocking → ContentInfo → List SafeBag → ContentInfo
+blank_content to u (content.Data v) gs = content.Data (blank_text to u gs)
+blank_content to u (content.EncryptedData d) gs =
     let a = kind_for to d.encrypted_content_info.content_encryption_algorithm in
     content.EncryptedData
     (record {
       encrypted_content_info =
           record {
             content_encryption_algorithm = blank_algorithm a;
-            encrypted_content = blank (sealed_size a (length (blank_text to p gs)));
+            encrypted_content = blank (sealed_size a (length (blank_text to u gs)));
           };
     })
-blank_content to p (content.OtherContext o) gs = content.OtherContext o
+blank_content to u (content.OtherContext o) gs = content.OtherContext o
 
-abbrev pub blank_contents : Kinds → List ℕ → List ContentInfo → List (List SafeBag)
+abbrev pub blank_contents : Kinds → Unlocking → List ContentInfo → List (List SafeBag)
     → List ContentInfo
-blank_contents to p [] gss = []
-blank_contents to p (c ∷ cs) [] = []
-blank_contents to p (c ∷ cs) (gs ∷ gss) =
-    blank_content to p c gs ∷ blank_contents to p cs gss
+blank_contents to u [] gss = []
+blank_contents to u (c ∷ cs) [] = []
+blank_contents to u (c ∷ cs) (gs ∷ gss) =
+    blank_content to u c gs ∷ blank_contents to u cs gss
 
 -- how many octets a digest has
 abbrev pub digest_size : AlgorithmIdentifier → ℕ
@@ -91,28 +91,28 @@ digest_size (PbeWithSHAAnd3KeyTripleDESCBC p) = 0
 digest_size (Pbes2 par) = 0
 digest_size (OtherAlg o) = 0
 
-abbrev pub blank_mac : Kinds → MacData → MacData
-blank_mac to m = record {
+abbrev pub blank_mac : Kinds → MacKind → MacData
+blank_mac to k = record {
   mac = record {
-    digest_algorithm = digest_for to m;
-    digest = blank (digest_size (digest_for to m));
+    digest_algorithm = k.digest;
+    digest = blank (digest_size k.digest);
   };
   salt = blank (mac_salt to);
-  iterations = count_for to m;
+  iterations = k.count;
 }
 
--- a store of this version and MAC, whose contents hold these bags under the password p, once it is
+-- a store of this version and MAC, whose contents hold these bags as u opens them, once it is
 -- changed
-abbrev pub blank_store : Kinds → ℕ → MacData → List ℕ → List ContentInfo → List (List SafeBag)
+abbrev pub blank_store : Kinds → ℕ → MacKind → Unlocking → List ContentInfo → List (List SafeBag)
     → PFX
-blank_store to version m p cs gss =
+blank_store to version k u cs gss =
     record {
       version = version;
-      auth_safe = content.Data (contents_canon (blank_contents to p cs gss));
-      mac_data = Some (blank_mac to m);
+      auth_safe = content.Data (contents_canon (blank_contents to u cs gss));
+      mac_data = Some (blank_mac to k);
     }
 
 -- how many octets its text has
-unfoldable pub changed_size : Kinds → ℕ → MacData → List ℕ → List ContentInfo
+unfoldable pub changed_size : Kinds → ℕ → MacKind → Unlocking → List ContentInfo
     → List (List SafeBag) → ℕ
-changed_size to version m p cs gss = length (store_canon (blank_store to version m p cs gss))
+changed_size to version k u cs gss = length (store_canon (blank_store to version k u cs gss))

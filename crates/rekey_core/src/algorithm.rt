@@ -133,7 +133,7 @@ fn anew(
     algorithm: &AlgorithmIdentifier,
     drawn: &[u8],
 ) -> Result<AlgorithmIdentifier, TransferError>
-    requires opens { openable algorithm.now ≡ true }
+    requires opens { openable (kind_for to algorithm.now) ≡ true }
     requires drawn { length drawn.now ≡ drawn_for (kind_for to algorithm.now) }
     ensures ok { IfOk result (λ a. IsAnew to drawn.now algorithm.now a) }
     ensures err { IfErr result (λ e. e ≡ refusal.Memory) }
@@ -163,8 +163,8 @@ fn seal_by_password(
     text: &[u8],
     new: &str,
 ) -> Result<Sealed, TransferError>
-    requires opens { openable algorithm.now ≡ true }
-    requires rounds { 0 < count algorithm.now }
+    requires opens { openable (kind_for to algorithm.now) ≡ true }
+    requires rounds { 0 < count (kind_for to algorithm.now) }
     requires drawn { length drawn.now ≡ drawn_for (kind_for to algorithm.now) }
     requires password { length new.now < 2 ^ 57 }
     ensures anew { IfOk result (λ s. IsAnew to drawn.now algorithm.now s.algorithm) }
@@ -234,8 +234,8 @@ pub(crate) fn seal(
     text: &[u8],
     new: &str,
 ) -> Result<Sealed, TransferError>
-    requires opens { openable algorithm.now ≡ true }
-    requires rounds { 0 < count algorithm.now }
+    requires opens { openable (kind_for to algorithm.now) ≡ true }
+    requires rounds { 0 < count (kind_for to algorithm.now) }
     requires drawn { length part.now.drawn.now ≡ drawn_for (kind_for to algorithm.now) }
     requires password { length new.now < 2 ^ 57 }
     ensures anew { IfOk result (λ s. IsAnew to part.now.drawn.now algorithm.now s.algorithm) }

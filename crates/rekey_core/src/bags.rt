@@ -1,8 +1,9 @@
 //! Bags that are sealed anew.
 ghost use Rattle.std.specs.Prelude.{◌≡◌, ◌≤◌, ◌<◌, ◌^◌, ◌+◌, ◌++◌, ◌∷◌, [], All, List, ℕ, length, IfOk, IfErr, OnOk, Some};
 ghost use Rattle.p12.specs.Canonical.{WritableBag, bag_canon, bags_canon};
-ghost use Rattle.rekey_core.specs.Sealing.{BagSealed, BagsSealed, LongOnly, Supplies, bag_draws, bags_draw};
+ghost use Rattle.rekey_core.specs.Sealing.{BagSealed, BagsSealed, CanSeal, LongOnly, Supplies, bag_draws, bags_draw};
 ghost use Rattle.rekey_core.specs.Size.{blank_bag, blank_text};
+ghost use Rattle.rekey_core.specs.Unlocking.{Unlocking};
 
 use crate::algorithm::{Sealed, seal};
 use crate::kinds::Kinds;
@@ -20,20 +21,20 @@ fn seal_bag(
     supply: &mut Supply<'_>,
     new: &str,
 ) -> Result<SafeBag, TransferError>
-    requires open { (p : List ℕ) × (more : List (List ℕ))
-        × Supplies p (bag.now ∷ []) supply.old.keys.now more }
+    requires open { (u : Unlocking) × (more : List (List ℕ)) × CanSeal to u
+        × Supplies u (bag.now ∷ []) supply.old.keys.now more }
     requires room { bag_draws to bag.now ≤ length supply.old.drawn.now }
     requires password { length new.now < 2 ^ 57 }
-    ensures sealed { IfOk result (λ h. (p : List ℕ) (more : List (List ℕ))
-        → Supplies p (bag.now ∷ []) supply.old.keys.now more
+    ensures sealed { IfOk result (λ h. (u : Unlocking) (more : List (List ℕ))
+        → Supplies u (bag.now ∷ []) supply.old.keys.now more
         → (supply.new.keys.now ≡ more) × (z : List ℕ) × (supply.old.drawn.now
         ≡ z ++ supply.new.drawn.now)
-        × BagSealed to p new.now z bag.now h) }
+        × BagSealed to u new.now z bag.now h) }
     ensures used { OnOk result (length supply.old.drawn.now
         ≡ bag_draws to bag.now + length supply.new.drawn.now) }
-    ensures err { IfErr result (LongOnly ((p : List ℕ) (more : List (List ℕ))
-        → Supplies p (bag.now ∷ []) supply.old.keys.now more
-        → 2 ^ 32 ≤ length (bag_canon (blank_bag to p bag.now)))) }
+    ensures err { IfErr result (LongOnly ((u : Unlocking) (more : List (List ℕ))
+        → Supplies u (bag.now ∷ []) supply.old.keys.now more
+        → 2 ^ 32 ≤ length (bag_canon (blank_bag to u bag.now)))) }
 {
     let copy = match bag.try_clone(alloc) {
         Ok(copy) => copy,
@@ -71,19 +72,19 @@ pub(crate) fn seal_bags(
     supply: &mut Supply<'_>,
     new: &str,
 ) -> Result<Items<SafeBag>, TransferError>
-    requires open { (p : List ℕ) × (more : List (List ℕ))
-        × Supplies p bags.now supply.old.keys.now more }
+    requires open { (u : Unlocking) × (more : List (List ℕ)) × CanSeal to u
+        × Supplies u bags.now supply.old.keys.now more }
     requires room { bags_draw to bags.now ≤ length supply.old.drawn.now }
     requires password { length new.now < 2 ^ 57 }
-    ensures sealed { IfOk result (λ hs. (p : List ℕ) (more : List (List ℕ))
-        → Supplies p bags.now supply.old.keys.now more
-        → (supply.new.keys.now ≡ more) × BagsSealed to p new.now bags.now supply.old.drawn.now
+    ensures sealed { IfOk result (λ hs. (u : Unlocking) (more : List (List ℕ))
+        → Supplies u bags.now supply.old.keys.now more
+        → (supply.new.keys.now ≡ more) × BagsSealed to u new.now bags.now supply.old.drawn.now
         supply.new.drawn.now hs) }
     ensures used { OnOk result (length supply.old.drawn.now
         ≡ bags_draw to bags.now + length supply.new.drawn.now) }
-    ensures err { IfErr result (LongOnly ((p : List ℕ) (more : List (List ℕ))
-        → Supplies p bags.now supply.old.keys.now more
-        → 2 ^ 32 ≤ length (blank_text to p bags.now))) }
+    ensures err { IfErr result (LongOnly ((u : Unlocking) (more : List (List ℕ))
+        → Supplies u bags.now supply.old.keys.now more
+        → 2 ^ 32 ≤ length (blank_text to u bags.now))) }
 {
     let mut made = Items::new(alloc);
     let mut rest = bags;

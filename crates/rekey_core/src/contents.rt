@@ -3,12 +3,12 @@ ghost use Rattle.std.specs.Prelude.{◌≡◌, ◌≤◌, ◌<◌, ◌^◌, ◌+
 ghost use Rattle.std.specs.List.{sum_by};
 ghost use Rattle.asn1_core.specs.Sets.{Each};
 ghost use Rattle.p12.specs.Canonical.{content_canon, contents_canon};
-ghost use Rattle.p12.specs.Collected.{HoldsBags};
 ghost use Rattle.p12.specs.declared.safe_bag.SafeBag.{SafeBag};
 ghost use Rattle.rekey_core.specs.Anew.{content_draws};
 ghost use Rattle.rekey_core.specs.Resealing.{EachDrawn};
-ghost use Rattle.rekey_core.specs.Sealing.{ContentSealed, ContentsSealed, LongOnly, Supplies, SuppliesAll, bags_draw};
+ghost use Rattle.rekey_core.specs.Sealing.{CanSeal, ContentSealed, ContentsSealed, LongOnly, Supplies, SuppliesAll, bags_draw};
 ghost use Rattle.rekey_core.specs.Size.{blank_content, blank_contents};
+ghost use Rattle.rekey_core.specs.Unlocking.{HoldsBy, Unlocking};
 
 use crate::algorithm::{Sealed, seal};
 use crate::bags::{seal_bags, text_of};
@@ -28,20 +28,21 @@ fn seal_content(
     supply: &mut Supply<'_>,
     new: &str,
 ) -> Result<ContentInfo, TransferError>
-    requires open { (p : List ℕ) × (more : List (List ℕ)) × HoldsBags p content.now bags.now
-        × Supplies p bags.now supply.old.keys.now more }
+    requires open { (u : Unlocking) × (more : List (List ℕ)) × CanSeal to u
+        × HoldsBy u content.now bags.now
+        × Supplies u bags.now supply.old.keys.now more }
     requires room { content_draws to content.now + bags_draw to bags.now ≤ length supply.old.drawn.now }
     requires password { length new.now < 2 ^ 57 }
-    ensures sealed { IfOk result (λ e. (p : List ℕ) (more : List (List ℕ))
-        → HoldsBags p content.now bags.now → Supplies p bags.now supply.old.keys.now more
+    ensures sealed { IfOk result (λ e. (u : Unlocking) (more : List (List ℕ))
+        → HoldsBy u content.now bags.now → Supplies u bags.now supply.old.keys.now more
         → (supply.new.keys.now ≡ more) × (z : List ℕ) × (supply.old.drawn.now
         ≡ z ++ supply.new.drawn.now)
-        × ContentSealed to p new.now z content.now e) }
+        × ContentSealed to u new.now z content.now e) }
     ensures used { OnOk result (length supply.old.drawn.now
         ≡ content_draws to content.now + bags_draw to bags.now + length supply.new.drawn.now) }
-    ensures err { IfErr result (LongOnly ((p : List ℕ) (more : List (List ℕ))
-        → HoldsBags p content.now bags.now → Supplies p bags.now supply.old.keys.now more
-        → 2 ^ 32 ≤ length (content_canon (blank_content to p content.now bags.now)))) }
+    ensures err { IfErr result (LongOnly ((u : Unlocking) (more : List (List ℕ))
+        → HoldsBy u content.now bags.now → Supplies u bags.now supply.old.keys.now more
+        → 2 ^ 32 ≤ length (content_canon (blank_content to u content.now bags.now)))) }
 {
     match content {
         ContentInfo::Data(_) => {
@@ -76,21 +77,21 @@ pub(crate) fn seal_contents(
     supply: &mut Supply<'_>,
     new: &str,
 ) -> Result<Items<ContentInfo>, TransferError>
-    requires open { (p : List ℕ) × (more : List (List ℕ))
-        × Each (HoldsBags p) contents.now bags.now
-        × SuppliesAll p bags.now supply.old.keys.now more }
+    requires open { (u : Unlocking) × (more : List (List ℕ)) × CanSeal to u
+        × Each (HoldsBy u) contents.now bags.now
+        × SuppliesAll u bags.now supply.old.keys.now more }
     requires room { sum_by (content_draws to) contents.now + sum_by (bags_draw to) bags.now
         ≤ length supply.old.drawn.now }
     requires password { length new.now < 2 ^ 57 }
-    ensures sealed { IfOk result (λ es. (p : List ℕ) (more : List (List ℕ))
-        → Each (HoldsBags p) contents.now bags.now → SuppliesAll p bags.now supply.old.keys.now more
-        → ContentsSealed to p new.now contents.now supply.old.drawn.now supply.new.drawn.now es) }
+    ensures sealed { IfOk result (λ es. (u : Unlocking) (more : List (List ℕ))
+        → Each (HoldsBy u) contents.now bags.now → SuppliesAll u bags.now supply.old.keys.now more
+        → ContentsSealed to u new.now contents.now supply.old.drawn.now supply.new.drawn.now es) }
     ensures used { OnOk result (length supply.old.drawn.now
         ≡ sum_by (content_draws to) contents.now + sum_by (bags_draw to) bags.now + length
         supply.new.drawn.now) }
-    ensures err { IfErr result (LongOnly ((p : List ℕ) (more : List (List ℕ))
-        → Each (HoldsBags p) contents.now bags.now → SuppliesAll p bags.now supply.old.keys.now more
-        → 2 ^ 32 ≤ length (contents_canon (blank_contents to p contents.now bags.now)))) }
+    ensures err { IfErr result (LongOnly ((u : Unlocking) (more : List (List ℕ))
+        → Each (HoldsBy u) contents.now bags.now → SuppliesAll u bags.now supply.old.keys.now more
+        → 2 ^ 32 ≤ length (contents_canon (blank_contents to u contents.now bags.now)))) }
 {
     let mut made = Items::new(alloc);
     let mut rest = contents;

@@ -28,6 +28,22 @@ impl Rounds {
     }
 }
 
+/// What the MAC of a store is made with: a digest, in so many rounds.
+#[derive(Clone, Copy, Drop)]
+pub(crate) enum MacAnew {
+    Sha1(Rounds),
+    Sha256(Rounds),
+}
+
+/// The rounds of a store that is sealed anew, and how many of them sealing may take in all.
+#[derive(Clone, Copy, Drop)]
+pub struct Renewal {
+    /// The rounds for each encrypted content, for each encrypted key and for the MAC.
+    pub rounds: Rounds,
+    /// The most rounds of all of them together.
+    pub seal_limit: u64,
+}
+
 /// Of what kind the parts and the MAC of a changed store are.
 #[derive(Clone, Copy, Drop)]
 pub enum Kinds {

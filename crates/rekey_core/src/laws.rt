@@ -2,6 +2,7 @@
 ghost use Rattle.rekey_core.specs.Changes.{AllChangesKeep, ChangesAlike, ChangesKeep, ChangesKeepTo, NoCauseAfter, SealsWithin};
 ghost use Rattle.rekey_core.specs.Making.{MadeStoresAreChanges, MadeStoresAreSized};
 ghost use Rattle.rekey_core.specs.Renewed.{ChangesRenew, RenewedWork};
+ghost use Rattle.rekey_core.specs.Upgraded.{RenewedTextsOpen, UpgradesReopen};
 
 /// A store that is made of contents sealed anew is a change of the first store.
 pub fn made_stores_are_changes()
@@ -32,6 +33,16 @@ pub fn changes_renew()
 /// Opening an upgraded store takes the count of rounds for its MAC and for each encrypted part.
 pub fn renewed_stores_cost()
     ensures { RenewedWork }
+{}
+
+/// An upgraded store opens by as many steps as sealing it took rounds, so no cause refuses it under a limit of as many.
+pub fn upgrades_reopen()
+    ensures { UpgradesReopen }
+{}
+
+/// What is sealed as renewed kinds opens again, however the old parts opened.
+pub fn renewed_texts_open()
+    ensures { RenewedTextsOpen }
 {}
 
 /// A part that is sealed anew costs no more steps than it did before.

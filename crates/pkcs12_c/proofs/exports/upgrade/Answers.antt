@@ -3,5 +3,5 @@ use Rattle.pkcs12_c.proofs.exports.upgrade.Goals as goal
 pub returns : goal.returns
 returns c = record {
   rounds_first = λ not. absurd (not c.in-Some.ensures.some.1);
-  then_change = λ are. (c.in-Some.rounds, c.in-Some.ensures.some.0, c.upgrade_to.ensures);
+  then_passwords = λ are. (c.in-Some.rounds, c.in-Some.ensures.some.0, c.upgrade_to.ensures);
 }

@@ -9,7 +9,7 @@ use Rattle.rekey_core.proofs.contents.seal_content.Goals as goal
 pub returns-in_err-bags-in-Data-clause-err : goal.returns-in_err-bags-in-Data-clause-err
 returns-in_err-bags-in-Data-clause-err c =
     let p = err_from_is_err_and c.from_residual.result c.from_residual.ensures.1 in
-    rw (p.1, p.2) (long_bags c.args.to c.args.content.now c.args.bags.now c.args.supply.now.keys.now c.args.supply.now.keys.now c.in_err-bags-in-Data.field-0.0 refl c.in_err-bags-in-Data.ensures.err)
+    rw (p.1, p.2) (long_bags c.args.to c.args.content.now c.args.bags.now c.args.supply.now.keys.now c.args.supply.now.keys.now c.in_err-bags-in-Data.field-0.0 refl c.requires.open c.in_err-bags-in-Data.ensures.err)
 
 pub text_of-requires : goal.text_of-requires
 text_of-requires c = subst (λ (l : List SafeBag). All WritableBag l) (sym c.as_slice.ensures)
@@ -25,12 +25,12 @@ pub returns-in_err-text-in-Data-clause-err : goal.returns-in_err-text-in-Data-cl
 returns-in_err-text-in-Data-clause-err c =
     let p = err_from_is_err_and c.from_residual-in_err-text-in-Data.result c.from_residual-in_err-text-in-Data.ensures.1 in
     rw (p.1, p.2) (long_text c.args.to c.args.new.now c.args.content.now c.args.bags.now c.as_slice.result.now c.args.supply.now.keys.now c.args.supply.now.keys.now c.seal_bags.new.supply.keys.now c.args.supply.now.drawn.now
-    c.seal_bags.new.supply.drawn.now c.in_err-text-in-Data.field-0.0 refl (rw (c.as_slice.ensures) c.in_ok-bags-in-Data.ensures.sealed) c.in_err-text-in-Data.ensures.err)
+    c.seal_bags.new.supply.drawn.now c.in_err-text-in-Data.field-0.0 refl c.requires.open (rw (c.as_slice.ensures) c.in_ok-bags-in-Data.ensures.sealed) c.in_err-text-in-Data.ensures.err)
 
 pub returns-in_err-bags-in-EncryptedData-clause-err : goal.returns-in_err-bags-in-EncryptedData-clause-err
 returns-in_err-bags-in-EncryptedData-clause-err c =
     let p = err_from_is_err_and c.from_residual-in_err-bags-in-EncryptedData.result c.from_residual-in_err-bags-in-EncryptedData.ensures.1 in
-    rw (p.1, p.2) (long_bags c.args.to c.args.content.now c.args.bags.now c.args.supply.now.keys.now c.next_part-part.new.self.keys.now c.in_err-bags-in-EncryptedData.field-0.0 c.next_part-part.ensures.keys c.in_err-bags-in-EncryptedData.ensures.err)
+    rw (p.1, p.2) (long_bags c.args.to c.args.content.now c.args.bags.now c.args.supply.now.keys.now c.next_part-part.new.self.keys.now c.in_err-bags-in-EncryptedData.field-0.0 c.next_part-part.ensures.keys c.requires.open c.in_err-bags-in-EncryptedData.ensures.err)
 
 pub text_of-requires-in-EncryptedData : goal.text_of-requires-in-EncryptedData
 text_of-requires-in-EncryptedData c = subst (λ (l : List SafeBag). All WritableBag l) (sym c.as_slice-in-EncryptedData.ensures)
@@ -41,14 +41,14 @@ pub returns-in_err-text-in-EncryptedData-clause-err : goal.returns-in_err-text-i
 returns-in_err-text-in-EncryptedData-clause-err c =
     let p = err_from_is_err_and c.from_residual-in_err-text-in-EncryptedData.result c.from_residual-in_err-text-in-EncryptedData.ensures.1 in
     rw (p.1, p.2) (long_text c.args.to c.args.new.now c.args.content.now c.args.bags.now c.as_slice-in-EncryptedData.result.now c.args.supply.now.keys.now c.next_part-part.new.self.keys.now
-    c.seal_bags-in-EncryptedData.new.supply.keys.now c.next_part-part.new.self.drawn.now c.seal_bags-in-EncryptedData.new.supply.drawn.now c.in_err-text-in-EncryptedData.field-0.0 c.next_part-part.ensures.keys
+    c.seal_bags-in-EncryptedData.new.supply.keys.now c.next_part-part.new.self.drawn.now c.seal_bags-in-EncryptedData.new.supply.drawn.now c.in_err-text-in-EncryptedData.field-0.0 c.next_part-part.ensures.keys c.requires.open
     (rw (c.as_slice-in-EncryptedData.ensures) c.in_ok-bags-in-EncryptedData.ensures.sealed) c.in_err-text-in-EncryptedData.ensures.err)
 
 pub seal-requires-clause-opens : goal.seal-requires-clause-opens
-seal-requires-clause-opens c = (content_opens c.args.content.now c.in-EncryptedData.data c.args.bags.now c.args.supply.now.keys.now c.in-EncryptedData.is c.requires.open).0
+seal-requires-clause-opens c = (content_opens c.args.to c.args.content.now c.in-EncryptedData.data c.args.bags.now c.args.supply.now.keys.now c.in-EncryptedData.is c.requires.open).0
 
 pub seal-requires-clause-rounds : goal.seal-requires-clause-rounds
-seal-requires-clause-rounds c = (content_opens c.args.content.now c.in-EncryptedData.data c.args.bags.now c.args.supply.now.keys.now c.in-EncryptedData.is c.requires.open).1
+seal-requires-clause-rounds c = (content_opens c.args.to c.args.content.now c.in-EncryptedData.data c.args.bags.now c.args.supply.now.keys.now c.in-EncryptedData.is c.requires.open).1
 
 pub returns-in_err-sealed-in-EncryptedData-clause-err : goal.returns-in_err-sealed-in-EncryptedData-clause-err
 returns-in_err-sealed-in-EncryptedData-clause-err c =
