@@ -6,14 +6,14 @@ use Rattle.std.proofs.lemmas.Bool.{eqb-true, ltb-true}
 use Rattle.std.proofs.lemmas.List.{length-append, map-append}
 use Rattle.std.proofs.lemmas.List.Folds.{list_any-append}
 use Rattle.std.proofs.lemmas.Slice.Eq.{bytes_eq-Decides}
-use Rattle.create_core.specs.Laws.{certificates_of}
+use Rattle.create_core.specs.Laws.{OpensToNothingElse, certificates_of, keys_of}
 use Rattle.create_core.specs.declared.entry.CertificateEntry.{CertificateEntry}
 use Rattle.create_core.specs.declared.entry.KeyEntry.{KeyEntry}
 use Rattle.inventory_core.specs.Chains.{has}
 use Rattle.pem_stores.specs.ChainOrder.{IsOrder, with_fresh, with_next}
 use Rattle.pem_stores.specs.EachOnce.{has_octets, with_new, with_one}
 use Rattle.pem_stores.specs.Entries.{IsEntryWith, all_once, certificates_at, unnamed}
-use Rattle.pem_stores.specs.Laws.{CertificatesAreKept}
+use Rattle.pem_stores.specs.Laws.{CertificatesAreKept, StoresKeepTexts}
 use Rattle.pem_stores.specs.Texts.{AreEntries}
 use Rattle.pem_stores.specs.declared.ownership.OwnEntry.{OwnEntry}
 use Rattle.pem_stores.specs.declared.text_entries.TextEntries.{TextEntries}
@@ -182,14 +182,25 @@ module _ (b : List ℕ) (all : List (List ℕ)) (place : ℕ) (key : List ℕ) (
       ∙ new_any b (o.entry.certificate ∷ []) o.others.items ∙ ap (λ t. t || list_any (is_it b) o.others.items) (or_none (is_it b o.entry.certificate))
       ∙ ap (λ l. is_it b o.entry.certificate || list_any (is_it b) l) is.others ∙ sym (taken_out (is_it b) all place o.entry.certificate is.certificate)
 
+entry_of : (key certificates : List ℕ) (name password : Option (List ℕ)) (limit : ℕ) (e : TextEntries) (h : AreEntries key certificates name password limit e) → (place : ℕ) × IsEntryWith h.key_text h.all place name h.own
+entry_of key certificates name password limit e h = elim h.owned [ inl w ↦ (w.0, w.2) | inr w ↦ (w.0, w.2) ]
+
 pub certificates_are_kept : CertificatesAreKept
 certificates_are_kept key certificates name password limit e h b =
     let o = h.own in
     let f = h.entered.further in
     let once = all_once (o.entry ∷ []) o.others.items in
     let own : map (λ (k : KeyEntry). k.certificate) e.keys.items ≡ o.entry.certificate ∷ [] = ap (λ ks. map (λ (k : KeyEntry). k.certificate) ks) h.entered.keys in
-    let place : (p : ℕ) × IsEntryWith h.key_text h.all p name o = elim h.owned [ inl w ↦ (w.0, w.2) | inr w ↦ (w.0, w.2) ] in
+    let place = entry_of key certificates name password limit e h in
     ap (λ l. list_any (is_it b) (l ++ map (λ (c : CertificateEntry). c.certificate) e.further.certificates.items)) own
     ∙ ap (λ l. is_it b o.entry.certificate || list_any (is_it b) (map (λ (c : CertificateEntry). c.certificate) l)) f.are
     ∙ ap (λ t. is_it b o.entry.certificate || t) (at_any (is_it b) once f.places)
     ∙ store_any b h.all place.0 h.key_text name o place.1 f.places f.chained f.order
+
+pub stores_keep_texts : OpensToNothingElse → StoresKeepTexts
+stores_keep_texts nothing_else key certificates name password limit e h p r drawn b some most made gss ks n opens =
+    let only = nothing_else e.keys.items e.further.certificates.items p r drawn b some most made gss ks n opens in
+    let place = entry_of key certificates name password limit e h in (
+      only.0 ∙ ap keys_of h.entered.keys ∙ ap (λ k. k ∷ []) place.1.is_key,
+      λ c. ap (λ l. has_octets l c) only.1 ∙ certificates_are_kept key certificates name password limit e h c,
+    )
