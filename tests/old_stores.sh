@@ -1,9 +1,9 @@
 #!/bin/sh
 # shellcheck disable=SC2154,SC2317 # the checks are called by name, and tests/shared/checks.sh sets names
 # What ./pkcs12 opens of stores that only older programs write, or other programs by older options: in BER, under RC2 and Triple DES with
-# two keys, with MACs by further hashes, and made with no password at all. Each is opened by check, list and export, and what comes out is
-# what was put in; each is refused with --modern-only, and damaged ones are refused. Prints `ok NAME` or `not ok NAME` for each,
-# `skipped NAME` with the reason for what this machine has no means for, and ends with 1 where one is not ok.
+# two keys, with MACs by further hashes, and made with no password at all; and of stores with PBMAC1, which is new. Each is opened by check,
+# list and export, and what comes out is what was put in; each is refused with --modern-only, and damaged ones are refused. Prints `ok NAME`
+# or `not ok NAME` for each, `skipped NAME` with the reason for what this machine has no means for, and ends with 1 where one is not ok.
 set -eu
 
 home=$(cd "$(dirname "$0")/.." && pwd)
@@ -47,6 +47,7 @@ made_by_openssl_two_keys() { of_openssl "$1" -legacy -certpbe PBE-SHA1-2DES -key
 made_by_openssl_sha224() { of_openssl "$1" -macalg sha224; }
 made_by_openssl_sha384() { of_openssl "$1" -macalg sha384; }
 made_by_openssl_sha512() { of_openssl "$1" -macalg sha512; }
+made_by_openssl_pbmac1() { of_openssl "$1" -pbmac1_pbkdf2; }
 
 # The same by GnuTLS.
 of_certtool() {
@@ -159,6 +160,7 @@ holds openssl_two_keys opens_store_of openssl_two_keys 11 Unsupported 'something
 holds openssl_sha224 opens_store_of openssl_sha224 13 MacUnsupported ''
 holds openssl_sha384 opens_store_of openssl_sha384 13 MacUnsupported ''
 holds openssl_sha512 opens_store_of openssl_sha512 13 MacUnsupported ''
+holds openssl_pbmac1 opens_store_of openssl_pbmac1 13 MacUnsupported ''
 holds certtool_rc2 opens_store_of certtool_rc2 11 Unsupported "$short_rc2"
 holds certtool_sha512 opens_store_of certtool_sha512 13 MacUnsupported ''
 holds pk12util opens_store_of pk12util 10 Malformed "$in_ber"
@@ -167,6 +169,83 @@ holds keytool_legacy opens_store_of keytool_legacy 11 Unsupported "$short_rc2"
 holds bouncycastle_ber opens_store_of bouncycastle_ber 10 Malformed "$in_ber"
 holds bouncycastle_rc2 opens_store_of bouncycastle_rc2 11 Unsupported "$short_rc2"
 holds bouncycastle_ber_rc2 opens_store_of bouncycastle_ber_rc2 10 Malformed "$short_rc2"
+
+# --- PBMAC1, which is newer than the stores of today ---
+
+# The store $1 of RFC 9579 appendix A, which crates/legacy_tests has in base64, in the file $2.
+of_the_standard() {
+    "${PYTHON:-python3}" -c '
+import base64, re, sys
+text = open(sys.argv[1], encoding="utf-8").read()
+lines = re.search("const " + sys.argv[2] + ": &str = \"([^\"]*)\"", text).group(1)
+open(sys.argv[3], "wb").write(base64.b64decode(re.sub(r"[\\\s]", "", lines)))' "$home/crates/legacy_tests/src/pbmac1_stores.rt" "$1" "$2"
+}
+# OpenSSL takes the private key out of it without looking at the MAC.
+pbmac1() {
+    have_openssl pbmac1 || return 0
+    printf 1234 >"$work/digits"
+    for each in 'SHA256 HMAC-SHA-256 and PBKDF2 (HMAC-SHA-256' 'SHA256_BY_SHA512 HMAC-SHA-256 and PBKDF2 (HMAC-SHA-512' \
+        'SHA512 HMAC-SHA-512 and PBKDF2 (HMAC-SHA-512'; do
+        of_the_standard "${each%% *}" "$work/pbmac1.p12" &&
+            openssl pkcs12 -in "$work/pbmac1.p12" -nomacver -passin pass:1234 -nocerts -nodes 2>"$work/told" | openssl pkey -outform DER >"$work/one" &&
+            ends 0 check "$work/pbmac1.p12" --password-file "$work/digits" && [ ! -s "$work/told" ] &&
+            grep -qxF "MAC: PBMAC1 with ${each#* }, 2048 rounds)" "$work/said" || return 1
+        rm -rf "$work/out"
+        ends 0 export "$work/pbmac1.p12" --out "$work/out" --password-file "$work/digits" --new-password-file "$work/new" --rounds 1000 &&
+            openssl pkey -in "$work/out/key-0.pem" -passin "file:$work/new" -outform DER | cmp "$work/one" - &&
+            fails 13 MacUnsupported PBMAC1 check "$work/pbmac1.p12" --password-file "$work/digits" --modern-only &&
+            fails 15 WorkLimit '' check "$work/pbmac1.p12" --password-file "$work/digits" --limit 2047 || return 1
+    done
+    for each in WRONG_COUNT WRONG_SALT; do
+        of_the_standard "$each" "$work/pbmac1.p12" && fails 16 MacMismatch '' check "$work/pbmac1.p12" --password-file "$work/digits" || return 1
+    done
+    of_the_standard NO_LENGTH "$work/pbmac1.p12" &&
+        fails 13 MacUnsupported 'do not say how long the key is' check "$work/pbmac1.p12" --password-file "$work/digits"
+}
+holds stores_with_pbmac1 pbmac1
+
+# --- no MAC ---
+
+# Opened where that is asked for alone, and said on the standard error.
+opens_bare() {
+    ends 0 check "$1" --password-file "$2" --allow-no-mac && grep -qxF 'MAC: none' "$work/said" &&
+        grep -qxF 'pkcs12: the store has no MAC, so nothing tells whether somebody changed it' "$work/told" &&
+        ends 0 check "$1" --password-file "$2" --allow-no-mac --json && "${PYTHON:-python3}" -m json.tool <"$work/said" >/dev/null &&
+        fails 12 MacMissing '' check "$1" --password-file "$2" && grep -qxF -- '    --allow-no-mac' "$work/told" &&
+        fails 12 MacMissing '' list "$1" --password-file "$2" --modern-only &&
+        fails 2 Usage '' check "$1" --password-file "$2" --allow-no-mac --modern-only
+}
+no_mac() {
+    of_openssl "$work/bare.p12" -nomac && opens_bare "$work/bare.p12" "$work/old" &&
+        ends 0 list "$work/bare.p12" --password-file "$work/old" --allow-no-mac && grep -qF 'rsa.example' "$work/said" || return 1
+    rm -rf "$work/out"
+    ends 0 export "$work/bare.p12" --out "$work/out" --password-file "$work/old" --new-password-file "$work/new" --rounds 1000 --allow-no-mac &&
+        has_what_was_put_in "$work/out" || return 1
+    # With another password it does not decrypt, and a store with a MAC is opened as without the flag.
+    code=0
+    setsid -w "$home/pkcs12" check "$work/bare.p12" --password-file "$work/new" --allow-no-mac >"$work/said" 2>"$work/told" || code=$?
+    { [ "$code" -eq 18 ] || [ "$code" -eq 17 ]; } && grep -qF 'the password is wrong, or the store is damaged' "$work/told" || return 1
+    ends 0 check "$work/new-kind.p12" --password-file "$work/old" --allow-no-mac && [ ! -s "$work/told" ] &&
+        fails 16 MacMismatch '' check "$work/new-kind.p12" --password-file "$work/new" --allow-no-mac || return 1
+    # 40-bit RC2
+    if of_openssl "$work/bare.p12" -nomac -legacy -certpbe PBE-SHA1-RC2-40; then
+        fails 11 Unsupported pbeWithSHAAnd40BitRC2-CBC check "$work/bare.p12" --password-file "$work/old" --allow-no-mac
+    fi
+}
+holds a_store_without_a_mac_opens_where_that_is_asked_for no_mac
+# As a trust store of Java may be, whose password is of no use.
+java_without_mac() {
+    command -v keytool >/dev/null || {
+        echo "skipped java_without_mac: there is no keytool"
+        return 0
+    }
+    rm -f "$work/trust.p12"
+    keytool -J-Dkeystore.pkcs12.certProtectionAlgorithm=NONE -J-Dkeystore.pkcs12.macAlgorithm=NONE -importcert -noprompt -alias ours \
+        -file "$work/rsa-cert.pem" -keystore "$work/trust.p12" -storetype PKCS12 -storepass:file "$work/old" >"$work/told" 2>&1 || return 1
+    opens_bare "$work/trust.p12" "$work/empty" && ends 0 list "$work/trust.p12" --password-file "$work/empty" --allow-no-mac &&
+        grep -qF 'rsa.example' "$work/said"
+}
+holds a_trust_store_of_java_without_a_password java_without_mac
 
 # --- no password at all ---
 

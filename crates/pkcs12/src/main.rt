@@ -4,12 +4,12 @@
 
 mod check;
 mod clock;
-mod creating;
-mod exporting;
+mod create;
+mod export;
 mod list;
 mod new_work;
 mod reading;
-mod rekeying;
+mod rekey;
 mod run;
 mod self_test;
 

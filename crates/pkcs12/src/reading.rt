@@ -9,13 +9,7 @@ use std::rt::Runtime;
 /// Reads the store and its password.
 pub fn given_to<R: Runtime + AllocGlobal>(rt: &R, asked: &Reading<'_>) -> Result<Given, Failure> {
     inputs_differ(rt, asked.store, asked.password, None)?;
-    read_given(
-        rt,
-        asked.store,
-        asked.password,
-        asked.limit,
-        asked.modern_only,
-    )
+    read_given(rt, asked.store, asked.password, asked.limit, asked.accepted)
 }
 
 /// Opens the store, and says on the standard error what of it is old.
@@ -26,7 +20,7 @@ pub fn opened_within<R: Runtime + AllocGlobal>(
     asked: &Reading<'_>,
 ) -> Result<AnyStore, Failure> {
     tell_long_work(rt, around, given.store.as_slice(), None);
-    let opened = opened(rt.alloc(), given, asked.limit, asked.modern_only)?;
+    let opened = opened(rt.alloc(), given, asked.limit, asked.accepted)?;
     tell_old_parts(rt, given, &opened)?;
     Ok(opened)
 }

@@ -1,9 +1,9 @@
 //! The command, from its arguments to its end.
 use crate::check::run_check;
-use crate::creating::run_create;
-use crate::exporting::run_export;
+use crate::create::run_create;
+use crate::export::run_export;
 use crate::list::run_list;
-use crate::rekeying::run_rekey;
+use crate::rekey::run_rekey;
 use crate::self_test::self_test;
 use command_base::{Message, arguments};
 use pkcs12_arguments::{ArgumentsError, Request, request_of};

@@ -95,9 +95,16 @@ pub const LIMIT: Argument = Argument {
 pub const MODERN_ONLY: Argument = Argument {
     name: "modern-only",
     form: Form::Flag,
-    group: None,
+    group: Some("stores"),
     help: "Refuse old stores: in BER, under RC2 or Triple DES with two keys, with a MAC by another hash than \
         SHA-1 and SHA-256, or made with no password at all",
+};
+
+pub const ALLOW_NO_MAC: Argument = Argument {
+    name: "allow-no-mac",
+    form: Form::Flag,
+    group: Some("stores"),
+    help: "Open a store without a MAC too, where nothing tells whether somebody changed it",
 };
 
 /// A subcommand: its name, what it is for, and its arguments.

@@ -1,8 +1,11 @@
 //! What the subcommand `export` is asked for.
 ghost use Rattle.std.specs.Prelude.{◌≤◌};
 
+use crate::accepted::Accepted;
 use crate::arguments_error::ArgumentsError;
-use crate::command_line::{LIMIT, MODERN_ONLY, PASSWORD_ENV, PASSWORD_FILE, PASSWORD_STDIN, STORE};
+use crate::command_line::{
+    ALLOW_NO_MAC, LIMIT, MODERN_ONLY, PASSWORD_ENV, PASSWORD_FILE, PASSWORD_STDIN, STORE,
+};
 use crate::numbers::{number_of, rounds_of, text_of};
 use crate::target::{Format, Layout, Part, Target};
 use clap::ArgMatches;
@@ -146,7 +149,7 @@ const MOST_FILES: Argument = Argument {
 };
 
 /// The arguments, in the order of the help.
-pub static ARGUMENTS: [Argument; 24] = [
+pub static ARGUMENTS: [Argument; 25] = [
     STORE,
     OUT,
     FORMAT,
@@ -168,6 +171,7 @@ pub static ARGUMENTS: [Argument; 24] = [
     EMPTY_PASSWORD,
     ROUNDS,
     MODERN_ONLY,
+    ALLOW_NO_MAC,
     LIMIT,
     SEAL_LIMIT,
     MOST_FILES,
@@ -200,8 +204,7 @@ pub struct Export<'a> {
     pub rounds: u32,
     /// The most steps of opening the store.
     pub limit: u64,
-    /// Whether old stores are refused.
-    pub modern_only: bool,
+    pub accepted: Accepted,
     pub bounds: Bounds,
     /// Whether what was exported is told, also where nobody looks.
     pub verbose: bool,
@@ -287,7 +290,7 @@ impl<'a> Export<'a> {
             allow_empty: matches.get_flag("allow-empty-password"),
             rounds,
             limit: number_of(alloc, matches, "limit")?,
-            modern_only: matches.get_flag("modern-only"),
+            accepted: Accepted::of(matches),
             bounds: bounds_of(alloc, matches)?,
             verbose: matches.get_flag("verbose"),
         })

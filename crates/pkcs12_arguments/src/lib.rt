@@ -1,6 +1,7 @@
 //! What the command `pkcs12` is asked for: its arguments, which clap reads, and its help.
 #![tactic(auto)]
 
+mod accepted;
 mod arguments_error;
 mod command_line;
 mod create;
@@ -12,6 +13,7 @@ mod rekey;
 mod request;
 mod target;
 
+pub use accepted::Accepted;
 pub use arguments_error::ArgumentsError;
 pub use create::Create;
 pub use export::{Bounds, Export};

@@ -1,8 +1,11 @@
 //! What the subcommands that write nothing, `check` and `list`, are asked for.
 ghost use Rattle.std.specs.Prelude.{◌≤◌};
 
+use crate::accepted::Accepted;
 use crate::arguments_error::ArgumentsError;
-use crate::command_line::{LIMIT, MODERN_ONLY, PASSWORD_ENV, PASSWORD_FILE, PASSWORD_STDIN, STORE};
+use crate::command_line::{
+    ALLOW_NO_MAC, LIMIT, MODERN_ONLY, PASSWORD_ENV, PASSWORD_FILE, PASSWORD_STDIN, STORE,
+};
 use crate::numbers::{days_of, number_of, text_of};
 use clap::ArgMatches;
 use command_base::{Argument, Form, Origin};
@@ -33,18 +36,19 @@ const EXPIRES_WITHIN: Argument = Argument {
 };
 
 /// The arguments of `check`, in the order of the help.
-pub static CHECK_ARGUMENTS: [Argument; 7] = [
+pub static CHECK_ARGUMENTS: [Argument; 8] = [
     STORE,
     PASSWORD_FILE,
     PASSWORD_ENV,
     PASSWORD_STDIN,
     JSON,
     MODERN_ONLY,
+    ALLOW_NO_MAC,
     LIMIT,
 ];
 
 /// The same of `list`.
-pub static LIST_ARGUMENTS: [Argument; 8] = [
+pub static LIST_ARGUMENTS: [Argument; 9] = [
     STORE,
     PASSWORD_FILE,
     PASSWORD_ENV,
@@ -52,6 +56,7 @@ pub static LIST_ARGUMENTS: [Argument; 8] = [
     JSON,
     EXPIRES_WITHIN,
     MODERN_ONLY,
+    ALLOW_NO_MAC,
     LIMIT,
 ];
 
@@ -65,8 +70,7 @@ pub struct Reading<'a> {
     pub in_json: bool,
     /// The most steps of opening the store.
     pub limit: u64,
-    /// Whether old stores are refused.
-    pub modern_only: bool,
+    pub accepted: Accepted,
 }
 
 impl<'a> Reading<'a> {
@@ -80,7 +84,7 @@ impl<'a> Reading<'a> {
             password: Origin::of_password(matches),
             in_json: matches.get_flag("json"),
             limit: number_of(alloc, matches, "limit")?,
-            modern_only: matches.get_flag("modern-only"),
+            accepted: Accepted::of(matches),
         })
     }
 }

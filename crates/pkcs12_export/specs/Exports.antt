@@ -78,7 +78,7 @@ pub record Exports (asked : Export) (new_password : Option (List ℕ)) (store pa
   pub contents : List (List SafeBag)
   pub all_keys : List (List ℕ)
   pub work : ℕ
-  pub opens : Opens asked.modern_only store password contents all_keys work
+  pub opens : Opens asked.accepted store password contents all_keys work
   pub within : work ≤ asked.limit
   pub in_order : certificates ≡ all_certificates contents
   pub keys : List (List ℕ)
@@ -104,7 +104,7 @@ pub record FailsOpened (asked : Export) (new_password : Option (List ℕ)) (stor
   pub contents : List (List SafeBag)
   pub all_keys : List (List ℕ)
   pub work : ℕ
-  pub opens : Opens asked.modern_only store password contents all_keys work
+  pub opens : Opens asked.accepted store password contents all_keys work
   pub within : work ≤ asked.limit
   pub keys : List (List ℕ)
   pub part : keys ≡ keys_in asked.target.part all_keys
@@ -116,5 +116,5 @@ pub record FailsOpened (asked : Export) (new_password : Option (List ℕ)) (stor
 -- Each failure of an export before anything is written; out of memory is one of FailsToOpen.
 abbrev pub FailsToExport : Export → Option (List ℕ) → List ℕ → List ℕ → Ending → Type 0
 FailsToExport asked new_password store password ending =
-    FailsToOpen asked.modern_only store password asked.limit ending
+    FailsToOpen asked.accepted store password asked.limit ending
     ⊎ FailsOpened asked new_password store password ending

@@ -1,5 +1,5 @@
 //! The files of the output folder.
-use crate::exporting::Exported;
+use crate::exported::Exported;
 use asn1_core::Octets;
 use command_base::Attributes;
 use pem_text::pem_of;

@@ -188,7 +188,7 @@ impl fmt::Display for AlgorithmName<'_> {
 }
 
 /// The name of a pseudorandom function.
-fn prf_name(prf: Pbkdf2Prf) -> &'static str {
+pub fn prf_name(prf: Pbkdf2Prf) -> &'static str {
     match prf {
         Pbkdf2Prf::HmacWithSha1 => "HMAC-SHA-1",
         Pbkdf2Prf::HmacWithSha224 => "HMAC-SHA-224",

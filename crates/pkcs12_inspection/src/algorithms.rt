@@ -4,7 +4,8 @@ use crate::inspection::contents_in;
 use crate::json_text::add_comma;
 use crate::old_cipher::OldCipher;
 use crate::old_parts::OldParts;
-use p12::{AlgorithmView, BagView, BagsView, ContentView, ContentsView, StoreView};
+use crate::pbmac1::Pbmac1;
+use p12::{AlgorithmView, BagView, BagsView, ContentView, ContentsView, MacView, StoreView};
 use pkcs5::pbes2::{EncryptionScheme, Kdf, Pbkdf2Prf};
 use std::alloc::{AllocError, Global};
 use std::fmt::Write;
@@ -21,6 +22,8 @@ pub struct Algorithms {
     /// Whether there are more of them.
     has_more: bool,
     mac: Option<String>,
+    /// Whether the store has no MAC.
+    is_bare: bool,
     /// Whether one of them is of before AES and SHA-256.
     has_old: bool,
     /// Whether the store is one that is opened as an old one alone.
@@ -49,6 +52,16 @@ fn is_old(algorithm: &AlgorithmView<'_>) -> bool {
     }
 }
 
+/// What a MAC is made with.
+fn mac_text(alloc: Global, mac: &MacView<'_>) -> Result<String, AllocError> {
+    if let Some(pbmac1) = Pbmac1::of(&mac.algorithm) {
+        return format!(in alloc; "{pbmac1}");
+    }
+    let digest = InUse(&mac.algorithm);
+    let rounds = InRounds(u64::from(mac.iterations));
+    format!(in alloc; "HMAC with {digest}, {rounds}")
+}
+
 impl Algorithms {
     /// Those of the MAC and of the contents of a store.
     pub fn of(alloc: Global, store: &[u8]) -> Result<Algorithms, AllocError> {
@@ -56,6 +69,7 @@ impl Algorithms {
             encryption: Vec::new(alloc),
             has_more: false,
             mac: None,
+            is_bare: false,
             has_old: false,
             is_old_store: false,
             old: OldParts::new(),
@@ -63,10 +77,9 @@ impl Algorithms {
         let Ok(view) = StoreView::parse(store) else {
             return Ok(found);
         };
+        found.is_bare = view.mac_data.is_none();
         if let Some(mac) = &view.mac_data {
-            let digest = InUse(&mac.algorithm);
-            let rounds = InRounds(u64::from(mac.iterations));
-            found.mac = Some(format!(in alloc; "HMAC with {digest}, {rounds}")?);
+            found.mac = Some(mac_text(alloc, mac)?);
             found.has_old = is_old(&mac.algorithm);
         }
         if let Some(contents) = contents_in(&view) {
@@ -131,9 +144,15 @@ impl Algorithms {
         self.old.note_store(ber, no_password);
     }
 
-    /// What of the store is old, a line for each kind of thing, for the standard error.
+    /// What of the store is old, and that it has no MAC, a line for each kind of thing, for the standard error.
     pub fn old_lines(&self, alloc: Global) -> Result<String, AllocError> {
-        self.old.lines(alloc)
+        let mut text = self.old.lines(alloc)?;
+        if self.is_bare {
+            text.push_str(
+                "pkcs12: the store has no MAC, so nothing tells whether somebody changed it\n",
+            )?;
+        }
+        Ok(text)
     }
 
     /// Adds a line for each of them, one for each old thing, and one that says how the store is written under newer ones.
@@ -144,9 +163,11 @@ impl Algorithms {
         if self.has_more {
             writeln!(text, "encrypted under: further algorithms")?;
         }
-        if let Some(mac) = &self.mac {
-            writeln!(text, "MAC: {mac}")?;
-        }
+        match &self.mac {
+            Some(mac) => writeln!(text, "MAC: {mac}"),
+            None if self.is_bare => writeln!(text, "MAC: none"),
+            None => Ok(()),
+        }?;
         self.old.add_text(text)?;
         if !self.has_old && !self.old.has_some() {
             return Ok(());

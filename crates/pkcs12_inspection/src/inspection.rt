@@ -7,6 +7,7 @@ use crate::algorithm_name::{AlgorithmName, Named};
 use crate::detail::Detail;
 use crate::old_cipher::OldCipher;
 use crate::out_of_memory::out_of_memory;
+use crate::pbmac1::{Pbmac1, mac_work};
 use asn1_core::Octets;
 use command_base::Password;
 use p12::{AlgorithmView, BagView, BagsView, ContentView, ContentsView, StoreView};
@@ -139,15 +140,15 @@ pub fn encrypted_contents(store: &[u8]) -> usize {
     count
 }
 
-/// The rounds of the MAC of a store; 0 where there is no store or no MAC.
-pub fn mac_rounds(store: &[u8]) -> u64 {
+/// The steps of testing the MAC of a store; 0 where there is no store or no MAC.
+pub fn steps_of_mac(store: &[u8]) -> u64 {
     match StoreView::parse(store) {
         Ok(
             StoreView {
                 mac_data: Some(mac),
                 ..
             },
-        ) => u64::from(mac.iterations),
+        ) => mac_work(&mac),
         _ => 0,
     }
 }
@@ -159,7 +160,7 @@ pub fn visible_work(store: &[u8]) -> u128 {
         return 0;
     };
     let mac = match &store.mac_data {
-        Some(mac) => u128::from(mac.iterations),
+        Some(mac) => u128::from(mac_work(mac)),
         None => 0,
     };
     match contents_in(&store) {
@@ -168,9 +169,36 @@ pub fn visible_work(store: &[u8]) -> u128 {
     }
 }
 
-/// Whether texts under an algorithm are opened, with `modern_only` in stores of today.
-fn is_opened(algorithm: &AlgorithmView<'_>, modern_only: bool) -> bool {
-    algorithm.is_openable() || !modern_only && OldCipher::of(algorithm).is_some()
+/// Which ciphers of old stores are opened.
+#[derive(Clone, Copy)]
+enum OldCiphers {
+    No,
+    All,
+    /// Those that are opened in a store without a MAC.
+    WithoutMac,
+}
+
+impl OldCiphers {
+    /// Those of a store, with `modern_only` of one of today.
+    fn of(store: &StoreView<'_>, modern_only: bool) -> OldCiphers {
+        if modern_only {
+            OldCiphers::No
+        } else if store.mac_data.is_some() {
+            OldCiphers::All
+        } else {
+            OldCiphers::WithoutMac
+        }
+    }
+}
+
+/// Whether texts under an algorithm are opened.
+fn is_opened(algorithm: &AlgorithmView<'_>, old: OldCiphers) -> bool {
+    match (OldCipher::of(algorithm), old) {
+        (None, _) => algorithm.is_openable(),
+        (Some(_), OldCiphers::No) => false,
+        (Some(_), OldCiphers::All) => true,
+        (Some(cipher), OldCiphers::WithoutMac) => cipher != OldCipher::Rc2Of40,
+    }
 }
 
 /// The first private key among the bags in these octets that is under an algorithm that is not
@@ -178,14 +206,14 @@ fn is_opened(algorithm: &AlgorithmView<'_>, modern_only: bool) -> bool {
 fn key_not_opened(
     alloc: Global,
     text: &[u8],
-    modern_only: bool,
+    old: OldCiphers,
 ) -> Result<Option<String>, AllocError> {
     let Ok(mut bags) = BagsView::parse(text) else {
         return Ok(None);
     };
     while let Some(bag) = bags.next() {
         if let BagView::Shrouded { algorithm, .. } = bag
-            && !is_opened(&algorithm, modern_only)
+            && !is_opened(&algorithm, old)
         {
             let name = AlgorithmName(&algorithm);
             return Ok(Some(format!(in alloc; "a private key is encrypted by {name}")?));
@@ -198,11 +226,11 @@ fn key_not_opened(
 fn content_not_opened(
     alloc: Global,
     content: &ContentView<'_>,
-    modern_only: bool,
+    old: OldCiphers,
 ) -> Result<Option<String>, AllocError> {
     match content {
         ContentView::Plain { .. } => Ok(None),
-        ContentView::Encrypted { algorithm, .. } if is_opened(algorithm, modern_only) => Ok(None),
+        ContentView::Encrypted { algorithm, .. } if is_opened(algorithm, old) => Ok(None),
         ContentView::Encrypted { algorithm, .. } => {
             let name = AlgorithmName(algorithm);
             Ok(Some(format!(in alloc; "a content is encrypted by {name}")?))
@@ -218,10 +246,10 @@ fn content_not_opened(
 fn contents_not_opened(
     alloc: Global,
     mut contents: ContentsView<'_>,
-    modern_only: bool,
+    old: OldCiphers,
 ) -> Result<Option<String>, AllocError> {
     while let Some(content) = contents.next() {
-        if let Some(text) = content_not_opened(alloc, &content, modern_only)? {
+        if let Some(text) = content_not_opened(alloc, &content, old)? {
             return Ok(Some(text));
         }
     }
@@ -233,11 +261,11 @@ fn keys_not_opened(
     alloc: Global,
     mut contents: ContentsView<'_>,
     password: &Password,
-    modern_only: bool,
+    old: OldCiphers,
 ) -> Result<Option<String>, AllocError> {
     while let Some(content) = contents.next() {
         if let Some(plain) = plain_of(alloc, &content, password)? {
-            if let Some(text) = key_not_opened(alloc, plain.as_slice(), modern_only)? {
+            if let Some(text) = key_not_opened(alloc, plain.as_slice(), old)? {
                 return Ok(Some(text));
             }
         }
@@ -273,13 +301,14 @@ pub fn unsupported(
     if let Some(text) = outer_not_opened(alloc, &view.auth_safe)? {
         return Ok(Some(text));
     }
+    let old = OldCiphers::of(&view, modern_only);
     if let Some(contents) = contents_in(&view) {
-        if let Some(text) = contents_not_opened(alloc, contents, modern_only)? {
+        if let Some(text) = contents_not_opened(alloc, contents, old)? {
             return Ok(Some(text));
         }
     }
     match contents_in(&view) {
-        Some(contents) => keys_not_opened(alloc, contents, password, modern_only),
+        Some(contents) => keys_not_opened(alloc, contents, password, old),
         None => Ok(None),
     }
 }
@@ -302,6 +331,13 @@ pub fn mac_unsupported(alloc: Global, store: &[u8]) -> Result<Option<Detail>, Al
     let Some(digest) = mac_digest(store) else {
         return Ok(None);
     };
+    if let Some(pbmac1) = Pbmac1::of(&digest)
+        && !pbmac1.has_key_length()
+    {
+        return Ok(Some(Detail::of(format!(in alloc;
+            "the MAC of the store is made with {pbmac1}, whose parameters do not say how long the key is"
+        )?)));
+    }
     let name = AlgorithmName(&digest);
     Ok(Some(Detail::of(format!(in alloc;
         "the MAC of the store is made with {name}, which is not supported"

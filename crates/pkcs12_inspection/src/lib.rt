@@ -17,12 +17,15 @@ mod old_cipher;
 mod old_parts;
 mod other_bag;
 mod out_of_memory;
+mod pbmac1;
 mod summary_text;
 
 pub use algorithms::Algorithms;
 pub use damage::damaged;
 pub use detail::Detail;
-pub use inspection::{encrypted_contents, mac_rounds, mac_unsupported, unsupported, visible_work};
+pub use inspection::{
+    encrypted_contents, mac_unsupported, steps_of_mac, unsupported, visible_work,
+};
 pub use json_text::{add_comma, add_others_json, json};
 pub use listing::{Label, Listing};
 pub use no_password::is_without_password;

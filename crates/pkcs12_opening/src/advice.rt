@@ -27,8 +27,8 @@ manual page says (EXAMPLES); OpenSSL keeps one private key of it, and no friendl
 
 const NO_MAC: &str = "\
 Anybody may have changed it. Have it exported again, with a MAC, where it came from.
-Only if you know from elsewhere that nobody changed it, write it anew as the manual page says
-(EXAMPLES): the new store hides that this one had no MAC.";
+Only if you know from elsewhere that nobody changed it: check, list and export open it with
+    --allow-no-mac";
 
 const OTHER_PASSWORD: &str = "\
 The certificates or keys have another password than the MAC, or are damaged. OpenSSL asks for \
@@ -43,7 +43,7 @@ const NEW_PASSWORD: &str = "\
 Run pkcs12 at a terminal, where it asks for it, or give it by one of these:
     --new-password-file FILE    --new-password-env NAME    --new-password-stdin";
 
-const WRONG_PASSWORD: &str = "\
+pub(crate) const WRONG_PASSWORD: &str = "\
 Try the password again. Of a file the first line counts, with its spaces; a byte order mark \
 would be a part of it.
 To test the password with OpenSSL:

@@ -4,11 +4,12 @@ ghost use Rattle.pkcs12_opening.specs.Opens.{FailsToOpen, Opens};
 
 use crate::ending::{Ending, Failure};
 use crate::input::is_read_once;
-use crate::old_store::rounds_of_mac;
-use crate::opening::{AnyStore, opened_any_store, opened_store, read_store};
+use crate::old_store::mac_steps;
+use crate::opening::{AnyStore, opened_any_store, opened_bare_store, opened_store, read_store};
 use crate::password::read_password;
 use crate::refusal::{Attempt, with_detail};
 use command_base::{Origin, Password};
+use pkcs12_arguments::Accepted;
 use std::alloc::Global;
 use std::env;
 use std::rt::{Env, Files};
@@ -64,39 +65,40 @@ pub fn is_not_given_again<R: Files + Env + AllocGlobal>(
     }
 }
 
-/// Opens a store within the limit, in steps: with `modern_only` as `opened_store` does, and else as `opened_any_store` does.
+/// Opens a store within the limit, in steps, if it is one of those that are accepted.
 fn opened_by(
     alloc: Global,
     store: &[u8],
     password: &Password,
     limit: u64,
-    modern_only: bool,
+    accepted: Accepted,
 ) -> Result<AnyStore, Failure>
-    ensures ok { IfOk result (λ o. (n : ℕ) × Opens modern_only store.now password.now
+    ensures ok { IfOk result (λ o. (n : ℕ) × Opens accepted store.now password.now
         o.safe.contents o.safe.keys n × (n ≤ limit)) }
     ensures err { IfErr result
-        (λ f. FailsToOpen modern_only store.now password.now limit f.ending) }
+        (λ f. FailsToOpen accepted store.now password.now limit f.ending) }
 {
-    if !modern_only {
-        return opened_any_store(alloc, store, password, limit);
-    }
-    match opened_store(alloc, store, password, limit) {
-        Ok(safe) => Ok(AnyStore {
-            safe,
-            is_old: false,
-        }),
-        Err(failure) => Err(failure),
+    match accepted {
+        Accepted::Modern => match opened_store(alloc, store, password, limit) {
+            Ok(safe) => Ok(AnyStore {
+                safe,
+                is_old: false,
+            }),
+            Err(failure) => Err(failure),
+        },
+        Accepted::Old => opened_any_store(alloc, store, password, limit),
+        Accepted::WithoutMac => opened_bare_store(alloc, store, password, limit),
     }
 }
 
 /// What refuses a store that has no password yet: what is seen with no work at all, else that the
 /// password is missing.
-fn refused_unasked(alloc: Global, store: &[u8], limit: u64, modern_only: bool) -> Failure {
+fn refused_unasked(alloc: Global, store: &[u8], limit: u64, accepted: Accepted) -> Failure {
     let empty = Password::empty(alloc);
     // Under this limit nothing is derived.
-    match opened_by(alloc, store, &empty, 0, modern_only) {
+    match opened_by(alloc, store, &empty, 0, accepted) {
         Err(failure) => match failure.ending {
-            Ending::Refused(TransferError::WorkLimit) if rounds_of_mac(alloc, store) <= limit => {
+            Ending::Refused(TransferError::WorkLimit) if mac_steps(alloc, store) <= limit => {
                 password_missing()
             }
             Ending::Refused(TransferError::MacMismatch) => password_missing(),
@@ -105,7 +107,7 @@ fn refused_unasked(alloc: Global, store: &[u8], limit: u64, modern_only: bool) -
                     store,
                     password: &empty,
                     limit,
-                    modern_only,
+                    accepted,
                 };
                 with_detail(alloc, failure, &tried)
             }
@@ -115,7 +117,7 @@ fn refused_unasked(alloc: Global, store: &[u8], limit: u64, modern_only: bool) -
 }
 
 /// Reads the store at the path, or for `-` on the standard input, and its password, where that has an origin. `limit` is the most
-/// steps of opening it, and with `modern_only` an old one is refused.
+/// steps of opening it.
 ///
 /// `ReadFault` where one of them cannot be read, `PasswordUnusable` where the password is not UTF-8 or has more than 1,024 octets.
 /// Without an origin it fails in any case: as `Refused` where the store is refused under any password, which takes no steps, and else
@@ -125,41 +127,41 @@ pub fn read_given<R: Files + Env + Input + AllocGlobal>(
     path: &str,
     origin: Option<Origin<'_>>,
     limit: u64,
-    modern_only: bool,
+    accepted: Accepted,
 ) -> Result<Given, Failure> {
     if origin.is_none() && is_read_once(rt, path) {
         return Err(password_missing());
     }
     let store = read_store(rt, path)?;
     let Some(origin) = origin else {
-        return Err(refused_unasked(rt.alloc(), store.as_slice(), limit, modern_only));
+        return Err(refused_unasked(rt.alloc(), store.as_slice(), limit, accepted));
     };
     let password = read_password(rt, "password", origin)?;
     Ok(Given { store, password })
 }
 
-/// Opens a store within the limit, in steps: with `modern_only` a store of today alone, and else an old one too. A refusal has what more
+/// Opens a store within the limit, in steps, if it is one of those that are accepted. A refusal has what more
 /// there is to say of it.
 pub fn opened(
     alloc: Global,
     given: &Given,
     limit: u64,
-    modern_only: bool,
+    accepted: Accepted,
 ) -> Result<AnyStore, Failure>
-    ensures ok { IfOk result (λ o. (n : ℕ) × Opens modern_only given.now.store.items
+    ensures ok { IfOk result (λ o. (n : ℕ) × Opens accepted given.now.store.items
         given.now.password o.safe.contents o.safe.keys n × (n ≤ limit)) }
     ensures err { IfErr result
-        (λ f. FailsToOpen modern_only given.now.store.items given.now.password limit f.ending) }
+        (λ f. FailsToOpen accepted given.now.store.items given.now.password limit f.ending) }
 {
     let store = given.store.as_slice();
-    match opened_by(alloc, store, &given.password, limit, modern_only) {
+    match opened_by(alloc, store, &given.password, limit, accepted) {
         Ok(opened) => Ok(opened),
         Err(failure) => {
             let tried = Attempt {
                 store,
                 password: &given.password,
                 limit,
-                modern_only,
+                accepted,
             };
             Err(with_detail(alloc, failure, &tried))
         }

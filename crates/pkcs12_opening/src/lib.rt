@@ -24,7 +24,7 @@ pub use input::{are_one, inputs_differ, output_differs, path_of_store};
 pub use listing::listing_of;
 pub use long_work::{Duration, is_long_sealing, sealing_time, tell_long_work, tell_sealing};
 pub use old_store::{algorithms_of, tell_old_parts};
-pub use opening::{AnyStore, RANDOM, opened_any_store, opened_store, refused};
+pub use opening::{AnyStore, RANDOM, opened_store, refused};
 pub use output::printed;
 pub use password::{NewPassword, read_password, without_nul};
 pub use password_argument::without_password_argument;

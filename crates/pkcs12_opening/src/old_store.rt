@@ -3,7 +3,7 @@ use crate::given::Given;
 use crate::opening::AnyStore;
 use asn1_core::Octets;
 use legacy_store::store_in_der;
-use pkcs12_inspection::{Algorithms, is_without_password, mac_rounds};
+use pkcs12_inspection::{Algorithms, is_without_password, steps_of_mac};
 use std::alloc::{AllocError, Global};
 
 /// The octets in which a store is looked at: its text in DER where it is in BER, and else its own.
@@ -14,10 +14,10 @@ pub(crate) fn looked_at<'a>(in_der: &'a Option<Octets>, store: &'a [u8]) -> &'a 
     }
 }
 
-/// The rounds of the MAC of a store, in BER too; 0 where there is no store, no MAC or no memory.
-pub(crate) fn rounds_of_mac(alloc: Global, store: &[u8]) -> u64 {
+/// The steps of testing the MAC of a store, in BER too; 0 where there is no store, no MAC or no memory.
+pub(crate) fn mac_steps(alloc: Global, store: &[u8]) -> u64 {
     match store_in_der(alloc, store) {
-        Ok(in_der) => mac_rounds(looked_at(&in_der, store)),
+        Ok(in_der) => steps_of_mac(looked_at(&in_der, store)),
         Err(_) => 0,
     }
 }

@@ -1,16 +1,17 @@
 //! Opening a store.
-ghost use Rattle.std.specs.Prelude.{◌≡◌, ◌⊎◌, ◌<◌, ◌≤◌, ℕ, true, false, IfOk, IfErr};
+ghost use Rattle.std.specs.Prelude.{◌≡◌, ◌⊎◌, ◌<◌, ◌≤◌, ℕ, IfOk, IfErr};
 ghost use Rattle.frame.specs.Status.{status_code};
 ghost use Rattle.legacy_store.specs.Laws.{stays_refused};
-ghost use Rattle.legacy_store.specs.Verdicts.{LegacyOpens};
+ghost use Rattle.legacy_store.specs.Verdicts.{LegacyOpens, OpensUnder};
 ghost use Rattle.pkcs12_opening.specs.Ending.{code_of, ending_of_refusal};
-ghost use Rattle.pkcs12_opening.specs.Opens.{FailsToOpen};
+ghost use Rattle.pkcs12_opening.specs.Opens.{FailsToOpen, accepted_by};
 ghost use Rattle.transfer.specs.Status.{status_of};
 ghost use Rattle.transfer.specs.Verdicts.{StoreOpens};
 
 use crate::ending::{Ending, Failure};
 use command_base::Password;
-use legacy_store::open_legacy_safe;
+use legacy_store::{MacRule, open_legacy_safe};
+use pkcs12_arguments::Accepted;
 use std::alloc::Global;
 use std::io::Read;
 use std::marker::Brand;
@@ -40,7 +41,10 @@ fn store_octets<R: Files + Input + AllocGlobal>(rt: &R, store: &str) -> io::Resu
 }
 
 /// The same; `ReadFault` where they cannot be read.
-pub fn read_store<R: Files + Input + AllocGlobal>(rt: &R, store: &str) -> Result<Vec<u8>, Failure>
+pub(crate) fn read_store<R: Files + Input + AllocGlobal>(
+    rt: &R,
+    store: &str,
+) -> Result<Vec<u8>, Failure>
     ensures { IfErr result (λ f. (f.ending ≡ Ending.ReadFault) ⊎ (f.ending ≡ Ending.Memory)) }
 {
     match store_octets(rt, store) {
@@ -76,7 +80,7 @@ fn open_modern<L: Ledger>(
     ensures ok { IfOk result (λ o. (n : ℕ)
         × StoreOpens store.now password.now o.contents o.keys n × (n ≤ limit)) }
     ensures err { IfErr result
-        (λ e. FailsToOpen true store.now password.now limit (ending_of_refusal e)) }
+        (λ e. FailsToOpen Accepted.Modern store.now password.now limit (ending_of_refusal e)) }
 {
     let mut steps = Steps::<L>::open(blank);
     open_safe(alloc, store, password.as_str(), limit, &mut steps)
@@ -111,12 +115,13 @@ pub struct AnyStore {
     pub is_old: bool,
 }
 
-/// Opens an old store, with a step counter of its own.
+/// Opens an old store, or under the rule one without a MAC, with a step counter of its own.
 #[tactic(auto, using(crate::proofs::Refusals::old_fails_to_open))]
 fn open_old<L: Ledger>(
     alloc: Global,
     store: &[u8],
     password: &Password,
+    rule: MacRule,
     limit: u64,
     blank: Blank,
 ) -> Result<AnyStore, TransferError>
@@ -124,12 +129,12 @@ fn open_old<L: Ledger>(
     requires parts { blank.parts ≡ L.parts }
     requires some { 0 < blank.parts }
     ensures ok { IfOk result (λ o. (n : ℕ)
-        × LegacyOpens store.now password.now o.safe.contents o.safe.keys n × (n ≤ limit)) }
+        × OpensUnder rule store.now password.now o.safe.contents o.safe.keys n × (n ≤ limit)) }
     ensures err { IfErr result
-        (λ e. FailsToOpen false store.now password.now limit (ending_of_refusal e)) }
+        (λ e. FailsToOpen (accepted_by rule) store.now password.now limit (ending_of_refusal e)) }
 {
     let mut steps = Steps::<L>::open(blank);
-    match open_legacy_safe(alloc, store, password.as_str(), limit, &mut steps) {
+    match open_legacy_safe(alloc, store, password.as_str(), rule, limit, &mut steps) {
         Ok(safe) => Ok(AnyStore { safe, is_old: true }),
         Err(refusal) => Err(refusal),
     }
@@ -150,7 +155,7 @@ fn open_any<L: Ledger>(
     ensures ok { IfOk result (λ o. (n : ℕ)
         × LegacyOpens store.now password.now o.safe.contents o.safe.keys n × (n ≤ limit)) }
     ensures err { IfErr result
-        (λ e. FailsToOpen false store.now password.now limit (ending_of_refusal e)) }
+        (λ e. FailsToOpen Accepted.Old store.now password.now limit (ending_of_refusal e)) }
 {
     let mut steps = Steps::<L>::open(blank);
     let text = password.as_str();
@@ -163,7 +168,14 @@ fn open_any<L: Ledger>(
             if stays_refused(text, refusal) {
                 return Err(refusal);
             }
-            open_old::<Brand>(alloc, store, password, limit, Blank::new(1))
+            open_old::<Brand>(
+                alloc,
+                store,
+                password,
+                MacRule::Required,
+                limit,
+                Blank::new(1),
+            )
         }
     }
 }
@@ -178,7 +190,7 @@ pub fn opened_store(
 ) -> Result<OpenedSafe, Failure>
     ensures ok { IfOk result (λ o. (n : ℕ)
         × StoreOpens store.now password.now o.contents o.keys n × (n ≤ limit)) }
-    ensures err { IfErr result (λ f. FailsToOpen true store.now password.now limit f.ending) }
+    ensures err { IfErr result (λ f. FailsToOpen Accepted.Modern store.now password.now limit f.ending) }
 {
     match open_modern::<Brand>(alloc, store, password, limit, Blank::new(1)) {
         Ok(opened) => Ok(opened),
@@ -188,7 +200,7 @@ pub fn opened_store(
 
 /// The same of any store, as `open_legacy_safe` opens it. What `open_safe` opens is opened by that call alone; else the work may be done
 /// twice, each time within the limit.
-pub fn opened_any_store(
+pub(crate) fn opened_any_store(
     alloc: Global,
     store: &[u8],
     password: &Password,
@@ -196,9 +208,29 @@ pub fn opened_any_store(
 ) -> Result<AnyStore, Failure>
     ensures ok { IfOk result (λ o. (n : ℕ)
         × LegacyOpens store.now password.now o.safe.contents o.safe.keys n × (n ≤ limit)) }
-    ensures err { IfErr result (λ f. FailsToOpen false store.now password.now limit f.ending) }
+    ensures err { IfErr result (λ f. FailsToOpen Accepted.Old store.now password.now limit f.ending) }
 {
     match open_any::<Brand>(alloc, store, password, limit, Blank::new(1)) {
+        Ok(opened) => Ok(opened),
+        Err(cause) => Err(refused(cause)),
+    }
+}
+
+/// The same, and of a store without a MAC, as `open_legacy_safe` opens it.
+pub(crate) fn opened_bare_store(
+    alloc: Global,
+    store: &[u8],
+    password: &Password,
+    limit: u64,
+) -> Result<AnyStore, Failure>
+    ensures ok { IfOk result (λ o. (n : ℕ)
+        × OpensUnder MacRule.Optional store.now password.now o.safe.contents o.safe.keys n
+        × (n ≤ limit)) }
+    ensures err { IfErr result
+        (λ f. FailsToOpen Accepted.WithoutMac store.now password.now limit f.ending) }
+{
+    let rule = MacRule::Optional;
+    match open_old::<Brand>(alloc, store, password, rule, limit, Blank::new(1)) {
         Ok(opened) => Ok(opened),
         Err(cause) => Err(refused(cause)),
     }

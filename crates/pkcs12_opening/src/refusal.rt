@@ -1,13 +1,16 @@
 //! What exactly was wrong with a store that is refused.
 ghost use Rattle.std.specs.Prelude.{◌≡◌};
 
+use crate::advice::WRONG_PASSWORD;
 use crate::ending::{Ending, Failure};
 use crate::long_work::Duration;
 use crate::old_store::looked_at;
 use command_base::{Message, Password};
 use legacy_store::store_in_der;
+use pkcs12_arguments::Accepted;
 use pkcs12_inspection::{
-    Detail, damaged, is_without_password, mac_unsupported, malformed, unsupported, visible_work,
+    Detail, damaged, is_without_password, mac_unsupported, malformed, steps_of_mac, unsupported,
+    visible_work,
 };
 use std::alloc::{AllocError, Global};
 use transfer::TransferError;
@@ -24,6 +27,9 @@ If there is one or none:
     openssl pkcs12 -export -in anew.pem -out NEW.p12 -certpbe AES-256-CBC -keypbe AES-256-CBC -macalg sha256
     rm anew.pem";
 
+const NO_MAC_TELLS: &str = "\
+the password is wrong, or the store is damaged: it has no MAC, which would tell one from the other";
+
 /// An attempt to open a store.
 #[derive(Clone, Copy)]
 pub struct Attempt<'a> {
@@ -31,8 +37,7 @@ pub struct Attempt<'a> {
     pub password: &'a Password,
     /// The most steps.
     pub limit: u64,
-    /// Whether old stores are refused.
-    pub modern_only: bool,
+    pub accepted: Accepted,
 }
 
 /// What a store was made with whose MAC does not agree under the empty password.
@@ -89,6 +94,12 @@ fn not_supported(
     }
 }
 
+/// Of a store without a MAC of which a part does not open.
+fn no_mac_tells(alloc: Global) -> Result<Option<Detail>, AllocError> {
+    let text = String::from_str(alloc, NO_MAC_TELLS)?;
+    Ok(Some(Detail::advised(alloc, text, WRONG_PASSWORD)?))
+}
+
 /// What more there is to say of a refusal; None where its meaning says all.
 fn detail(
     alloc: Global,
@@ -97,10 +108,13 @@ fn detail(
 ) -> Result<Option<Detail>, AllocError> {
     let store = tried.store;
     let password = tried.password;
+    let modern_only = tried.accepted == Accepted::Modern;
     match refusal {
-        TransferError::Malformed => malformed(alloc, store, tried.modern_only),
-        TransferError::ContentMalformed => damaged(alloc, store, password, tried.modern_only),
-        TransferError::Unsupported => not_supported(alloc, store, password, tried.modern_only),
+        TransferError::Malformed => malformed(alloc, store, modern_only),
+        TransferError::DecryptFailed | TransferError::ContentMalformed | TransferError::KeyMalformed
+            if steps_of_mac(store) == 0 => no_mac_tells(alloc),
+        TransferError::ContentMalformed => damaged(alloc, store, password, modern_only),
+        TransferError::Unsupported => not_supported(alloc, store, password, modern_only),
         TransferError::MacUnsupported => mac_unsupported(alloc, store),
         TransferError::MacMismatch => mac_mismatch(alloc, store, password),
         TransferError::WorkLimit => work_limit(alloc, store, tried.limit),
@@ -114,7 +128,7 @@ fn seen_detail(
     refusal: TransferError,
     tried: &Attempt<'_>,
 ) -> Result<Option<Detail>, AllocError> {
-    if tried.modern_only {
+    if tried.accepted == Accepted::Modern {
         return detail(alloc, refusal, tried);
     }
     let in_der = store_in_der(alloc, tried.store)?;
@@ -122,7 +136,7 @@ fn seen_detail(
         store: looked_at(&in_der, tried.store),
         password: tried.password,
         limit: tried.limit,
-        modern_only: false,
+        accepted: tried.accepted,
     };
     detail(alloc, refusal, &seen)
 }

@@ -102,13 +102,7 @@ fn exported<R: Runtime + AllocGlobal>(
     if needs_new_password(rt, asked) {
         return Err(new_password_missing());
     }
-    let given = read_given(
-        rt,
-        asked.store,
-        asked.password,
-        asked.limit,
-        asked.modern_only,
-    )?;
+    let given = read_given(rt, asked.store, asked.password, asked.limit, asked.accepted)?;
     let new_password = new_password(rt, asked, &given)?;
     let rounds = match &new_password {
         Some(_) => Some(asked.rounds),

@@ -1,14 +1,16 @@
 //! The subcommand `rekey`: changes the password of a store, and the algorithms where that is asked for.
-ghost use Rattle.std.specs.Prelude.{◌≡◌, ◌<◌, ℕ, IfOk, IfNone, IfSome, None};
-ghost use Rattle.rekey_core.specs.Rekeyed.{Rekeys, RekeysTo};
-ghost use Rattle.rekey_core.specs.declared.kinds.Kinds.TheVariants.{Renewed};
+ghost use Rattle.std.specs.Prelude.{◌≡◌, ◌⊎◌, ◌<◌, ℕ, IfOk, IfNone, IfSome, None};
+ghost use Rattle.pkcs12_opening.specs.Ending.{ending_of_refusal};
+ghost use Rattle.pkcs12_opening.specs.declared.ending.Ending.TheVariants.{Memory};
+ghost use Rattle.rekey_core.specs.Rekeyed.{Rekeys};
+ghost use Rattle.rekey_core.specs.Upgraded.{Upgrades};
 
-use crate::new_work::opens_again;
+use crate::new_work::too_much_work;
 use asn1_core::Octets;
 use command_base::Password;
 use octet_core::{Draw, FileDraw};
 use p12::{CertBag, SafeBag, SafeBagKind};
-use pkcs12_arguments::{Rekey, UpgradeRounds};
+use pkcs12_arguments::{Accepted, Rekey, UpgradeRounds};
 use pkcs12_inspection::{Listing, OtherBag, counts};
 use pkcs12_opening::{
     Attempt, Ending, Failure, Given, NewPassword, RANDOM, Surroundings, are_one, inputs_differ,
@@ -16,7 +18,7 @@ use pkcs12_opening::{
     path_of_store, read_given, read_password, refused, tell_long_work, with_detail, without_nul,
 };
 use pkcs12_output::StoreFile;
-use rekey_core::{Rounds, rekey, upgrade};
+use rekey_core::{Renewal, Rounds, rekey, upgrade};
 use std::alloc::{AllocError, Global};
 use std::fs::File;
 use std::marker::Brand;
@@ -50,7 +52,8 @@ fn changed_from<D: Draw, L: Ledger>(
         change.now.new_password.now change.now.limit (D.left draw.old) (D.left draw.new)
         before after text)) }
     ensures renewed { IfSome change.now.upgrade (λ rounds. IfOk result
-        (λ text. (before after : ℕ) × RekeysTo (Renewed rounds)
+        (λ text. (before after : ℕ)
+        × Upgrades (record { rounds = rounds; seal_limit = change.now.limit })
         change.now.given.now.store.items change.now.given.now.password
         change.now.new_password.now change.now.limit (D.left draw.old) (D.left draw.new)
         before after text)) }
@@ -65,7 +68,10 @@ fn changed_from<D: Draw, L: Ledger>(
             store,
             old,
             new,
-            rounds,
+            Renewal {
+                rounds,
+                seal_limit: change.limit,
+            },
             draw,
             change.limit,
             &mut steps,
@@ -74,29 +80,57 @@ fn changed_from<D: Draw, L: Ledger>(
     }
 }
 
+/// Why the store was not changed. It was opened before within the limit, so where an upgrade takes too much work, that is the
+/// work of opening the new store.
+fn failure_of(
+    alloc: Global,
+    change: &Change<'_>,
+    before: &Opened,
+    refusal: TransferError,
+) -> Failure
+    ensures { (result.ending ≡ ending_of_refusal refusal) ⊎ (result.ending ≡ Memory) }
+{
+    let given = change.given;
+    let store = given.store.as_slice();
+    match (refusal, change.upgrade) {
+        (TransferError::WorkLimit, Some(rounds)) => too_much_work(
+            alloc,
+            store,
+            before.keys.len(),
+            rounds.count(),
+            change.limit,
+        ),
+        _ => {
+            let tried = Attempt {
+                store,
+                password: &given.password,
+                limit: change.limit,
+                accepted: Accepted::Modern,
+            };
+            with_detail(alloc, refused(refusal), &tried)
+        }
+    }
+}
+
 /// The changed store, over the system's random octets.
-fn changed<R: Files + AllocGlobal>(rt: &R, change: &Change<'_>) -> Result<Octets, Failure>
+fn changed<R: Files + AllocGlobal>(
+    rt: &R,
+    change: &Change<'_>,
+    before: &Opened,
+) -> Result<Octets, Failure>
     ensures kept { IfNone change.now.upgrade (IfOk result (λ text. (before after : ℕ)
         × Rekeys change.now.given.now.store.items change.now.given.now.password
         change.now.new_password.now change.now.limit None None before after text)) }
     ensures renewed { IfSome change.now.upgrade (λ rounds. IfOk result
-        (λ text. (before after : ℕ) × RekeysTo (Renewed rounds)
+        (λ text. (before after : ℕ)
+        × Upgrades (record { rounds = rounds; seal_limit = change.now.limit })
         change.now.given.now.store.items change.now.given.now.password
         change.now.new_password.now change.now.limit None None before after text)) }
 {
     let mut draw = FileDraw::new(rt, RANDOM);
     match changed_from::<_, Brand>(rt.alloc(), change, &mut draw, Blank::new(1)) {
         Ok(text) => Ok(text),
-        Err(refusal) => {
-            let given = change.given;
-            let tried = Attempt {
-                store: given.store.as_slice(),
-                password: &given.password,
-                limit: change.limit,
-                modern_only: true,
-            };
-            Err(with_detail(rt.alloc(), refused(refusal), &tried))
-        }
+        Err(refusal) => Err(failure_of(rt.alloc(), change, before, refusal)),
     }
 }
 
@@ -178,7 +212,7 @@ fn write_changed<R: Files<File = File> + Eprint + AllocGlobal>(
     before: &Opened,
     replaces_store: bool,
 ) -> Result<(), Failure> {
-    let text = changed(rt, change)?;
+    let text = changed(rt, change, before)?;
     let written = file.written(rt, text.as_slice())?;
     match compare(rt.alloc(), written.octets.as_slice(), change, before) {
         Ok(()) if replaces_store && !file.holds(rt, change.given.store.as_slice()) => {
@@ -298,16 +332,7 @@ fn write_rekeyed<R: Runtime<File = File> + AllocGlobal>(
     let store = change.given.store.as_slice();
     let rounds = change.upgrade.map(|rounds| rounds.count());
     tell_long_work(rt, around, store, rounds);
-    let opened = opened(rt.alloc(), change.given, change.limit, true)?.safe;
-    if let Some(rounds) = rounds {
-        opens_again(
-            rt.alloc(),
-            store,
-            opened.number_of_keys(),
-            rounds,
-            change.limit,
-        )?;
-    }
+    let opened = opened(rt.alloc(), change.given, change.limit, Accepted::Modern)?.safe;
     let found = listing_of(rt.alloc(), &opened)?;
     warn_of_password(rt, change);
     warn_of_clear_keys(rt, change, &found);
@@ -334,7 +359,13 @@ fn read_and_rekey<R: Runtime<File = File> + AllocGlobal>(
     asked: &Rekey<'_>,
     file: &StoreFile<'_>,
 ) -> Result<Listing, Failure> {
-    let given = read_given(rt, asked.store, asked.password, asked.limit, true)?;
+    let given = read_given(
+        rt,
+        asked.store,
+        asked.password,
+        asked.limit,
+        Accepted::Modern,
+    )?;
     let new_password = new_password(rt, asked, &given)?;
     let change = Change {
         given: &given,

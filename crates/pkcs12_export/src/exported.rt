@@ -236,7 +236,7 @@ pub fn open_and_seal<R: Files + Eprint + AllocGlobal + Drop>(
     ensures err { IfErr result (λ f. FailsToExport asked.now new_password.now
         given.store.items given.password f.ending) }
 {
-    let opened = opened(rt.alloc(), &given, asked.limit, asked.modern_only)?;
+    let opened = opened(rt.alloc(), &given, asked.limit, asked.accepted)?;
     tell_old_parts(rt, &given, &opened)?;
     drop(given);
     let found = listing_of(rt.alloc(), &opened.safe)?;

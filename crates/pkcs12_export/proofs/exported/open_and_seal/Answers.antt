@@ -11,7 +11,7 @@ use Rattle.pkcs12_opening.specs.declared.ending.Ending.{Ending}
 use Rattle.pkcs12_opening.specs.declared.ending.Ending.TheVariants.{Memory}
 use Rattle.transfer.specs.Opening.{all_certificates}
 use Rattle.transfer.specs.Transferred.{SealsOpened}
-use Rattle.pkcs12_export.proofs.exporting.open_and_seal.Goals as goal
+use Rattle.pkcs12_export.proofs.exported.open_and_seal.Goals as goal
 
 -- Under equal numbers of other bags, certificates and keys.
 by_numbers : (P : ℕ → ℕ → ℕ → Type 0) (a b c x y z : ℕ) → a ≡ x → b ≡ y → c ≡ z → P a b c → P x y z
@@ -19,7 +19,7 @@ by_numbers P a b c x y z d e f h = subst (P x y) f (subst (λ b. P x b c) e (sub
 
 -- A store that opens, and the part of it that is asked for.
 module _ (asked : Export) (new_password : Option (List ℕ)) (store password : List ℕ) (contents : List (List SafeBag)) (all_keys keys : List (List ℕ)) (work : ℕ)
-    (opens : Opens asked.modern_only store password contents all_keys work) (within : work ≤ asked.limit) (part : keys ≡ keys_in asked.target.part all_keys) where
+    (opens : Opens asked.accepted store password contents all_keys work) (within : work ≤ asked.limit) (part : keys ≡ keys_in asked.target.part all_keys) where
   bounds_fail : (ending : Ending) → (ending ≡ Memory) ⊎ IsOutside asked (length (others_in contents)) (length (all_certificates contents)) (length keys) ending → FailsToExport asked new_password store password ending
   bounds_fail ending (inl memory) = inl (inl memory)
   bounds_fail ending (inr outside) = inr (record { contents = contents; all_keys = all_keys; work = work; opens = opens; within = within; keys = keys; part = part; fails = inl outside })
@@ -33,7 +33,7 @@ module _ (asked : Export) (new_password : Option (List ℕ)) (store password : L
     bounded_by certificates is = subst (λ (cs : List (List ℕ)). IsWithin asked (length (others_in contents)) (length cs) (length keys)) (sym is) bounded
 
 exports_so : (asked : Export) (new_password : Option (List ℕ)) (store password : List ℕ) (contents : List (List SafeBag)) (all_keys keys : List (List ℕ)) (work : ℕ)
-    → Opens asked.modern_only store password contents all_keys work → work ≤ asked.limit → keys ≡ keys_in asked.target.part all_keys
+    → Opens asked.accepted store password contents all_keys work → work ≤ asked.limit → keys ≡ keys_in asked.target.part all_keys
     → IsWithin asked (length (others_in contents)) (length (all_certificates contents)) (length keys) → ForSome new_password (λ q. length q ≡ 0 → IsTrue asked.allow_empty)
     → (certificates documents : List (List ℕ)) → IfSome new_password (λ q. SealsOpened asked.rounds q None None contents keys certificates documents)
     → IfNone new_password ((keys ≡ []) × (documents ≡ []) × (certificates ≡ all_certificates contents)) → Exports asked new_password store password certificates documents
