@@ -16,6 +16,7 @@ writes the store to STORE and its hexadecimal line to STORE.hex. The kinds:
     keys NUMBER           NUMBER private keys under Triple DES, counts 1
     keys-aes NUMBER       ten private keys under AES-256 (PBES2, HMAC-SHA256) with NUMBER rounds, count 1 of the MAC
     hundred-keys-aes NUMBER   a hundred of them
+    thousand-keys-aes NUMBER  a thousand of them
     contents-aes NUMBER   two contents under AES-256 (PBES2, HMAC-SHA256) with NUMBER rounds, a certificate in each
     certificates NUMBER   NUMBER certificates of 1,000 octets, not encrypted
     long-keys NUMBER      NUMBER private keys of 1,200 octets under Triple DES, counts 1
@@ -158,6 +159,8 @@ def store_of(kind, number):
         return aes_keys_store(10, number)
     if kind == "hundred-keys-aes":
         return aes_keys_store(100, number)
+    if kind == "thousand-keys-aes":
+        return aes_keys_store(1000, number)
     if kind == "contents-aes":
         return with_mac(make.sequence(*[aes_content([make.certificate_bag(example_certificate())], number)] * 2))
     if kind == "certificates":

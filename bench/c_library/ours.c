@@ -1,4 +1,5 @@
-/* ours STORE PASSWORD-FILE ROUNDS CALLS: the microseconds of a processor that a call of pkcs12_transfer_pem takes. */
+/* ours STORE PASSWORD-FILE ROUNDS CALLS: the microseconds of a processor that a call of pkcs12_transfer_pem takes, or with a further word
+ * one of pkcs12_upgrade. */
 #include <pkcs12.h>
 #include <stdio.h>
 #include <stdlib.h>
@@ -29,7 +30,7 @@ int main(int argc, char **argv)
     int calls = atoi(argv[4]);
     clock_gettime(CLOCK_PROCESS_CPUTIME_ID, &from);
     for (int i = 0; i < calls; i++)
-        number |= pkcs12_transfer_pem(store, len, password, password_len, (const uint8_t *)"hunter42", 8,
+        number |= (argc > 5 ? pkcs12_upgrade : pkcs12_transfer_pem)(store, len, password, password_len, (const uint8_t *)"hunter42", 8,
             (uint32_t)atoi(argv[3]), 1000000000, drawn, sizeof drawn, output, sizeof output, &needed);
     clock_gettime(CLOCK_PROCESS_CPUTIME_ID, &to);
     printf("%.0f\n", ((double)(to.tv_sec - from.tv_sec) * 1e6 + (double)(to.tv_nsec - from.tv_nsec) / 1e3) / calls);
