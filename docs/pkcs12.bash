@@ -37,7 +37,7 @@ _pkcs12() {
     elif [ "${COMP_WORDS[1]}" = export ]; then
         mapfile -t COMPREPLY < <(compgen -W "$common --out --format --keys-only --certificates-only --one-file --names --chain --force \
             --skip-others --verbose --new-password-file --new-password-env --new-password-stdin --same-password \
-            --allow-empty-password --rounds --seal-limit --most-files --modern-only" -- "$word")
+            --allow-empty-password --rounds --seal-limit --most-files --modern-only --allow-no-mac" -- "$word")
     elif [ "${COMP_WORDS[1]}" = rekey ]; then
         mapfile -t COMPREPLY < <(compgen -W "$common --out --in-place --force --upgrade --rounds --verbose --new-password-file \
             --new-password-env --new-password-stdin --same-password --allow-empty-password" -- "$word")
@@ -45,9 +45,9 @@ _pkcs12() {
         mapfile -t COMPREPLY < <(compgen -W "$common --key --certificate --chain --name --out --force --rounds --verbose --new-password-file \
             --new-password-env --new-password-stdin --allow-empty-password" -- "$word")
     elif [ "${COMP_WORDS[1]}" = list ]; then
-        mapfile -t COMPREPLY < <(compgen -W "$common --json --expires-within --modern-only" -- "$word")
+        mapfile -t COMPREPLY < <(compgen -W "$common --json --expires-within --modern-only --allow-no-mac" -- "$word")
     else
-        mapfile -t COMPREPLY < <(compgen -W "$common --json --modern-only" -- "$word")
+        mapfile -t COMPREPLY < <(compgen -W "$common --json --modern-only --allow-no-mac" -- "$word")
     fi
 }
 complete -o filenames -F _pkcs12 pkcs12 ./pkcs12
