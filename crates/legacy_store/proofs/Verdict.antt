@@ -33,7 +33,7 @@ use Rattle.legacy_store.proofs.Rows.{mac_none}
 
 -- ---- Texts
 
-legacy_store_sole : (b : List ℕ) (s t : PFX) → IsLegacyStore b s → IsLegacyStore b t → s ≡ t
+pub legacy_store_sole : (b : List ℕ) (s t : PFX) → IsLegacyStore b s → IsLegacyStore b t → s ≡ t
 unfolding IsLegacyStore
 legacy_store_sole b s t (inl p) (inl q) = store_sole b s t p q
 legacy_store_sole b s t (inl p) (inr (d, none, ber, q)) = absurd (none s p)
@@ -41,7 +41,7 @@ legacy_store_sole b s t (inr (d, none, ber, p)) (inl q) = absurd (none t q)
 legacy_store_sole b s t (inr (d, none, ber, p)) (inr (e, nothing, also, q)) =
     store_sole d s t p (subst (λ x. IsStore x t) (one_value b e d also ber) q)
 
-legacy_safe_sole : (v : List ℕ) (cs ds : List ContentInfo) → IsLegacySafe v cs → IsLegacySafe v ds → cs ≡ ds
+pub legacy_safe_sole : (v : List ℕ) (cs ds : List ContentInfo) → IsLegacySafe v cs → IsLegacySafe v ds → cs ≡ ds
 unfolding IsLegacySafe
 legacy_safe_sole v cs ds (inl p) (inl q) = contents_sole v cs ds p q
 legacy_safe_sole v cs ds (inl p) (inr (d, none, ber, q)) = absurd (none cs p)

@@ -1,0 +1,2 @@
+mod PartTexts
+mod Renewing
