@@ -294,11 +294,59 @@ asks() {
 }
 holds a_password_is_asked_for asks
 
-# rekey takes no old store.
+# --- written anew ---
+
+# rekey keeps the algorithms of a store, so without --upgrade it takes no old one.
 rekey_refuses() {
-    fails 11 Unsupported RC2 rekey "$work/openssl_legacy.p12" --out "$work/rekeyed.p12" --password-file "$work/old" \
-        --new-password-file "$work/new" && nothing_at "$work/rekeyed.p12"
+    fails 11 Unsupported 'rekey keeps the algorithms of a store' rekey "$work/openssl_legacy.p12" --out "$work/rekeyed.p12" \
+        --password-file "$work/old" --new-password-file "$work/new" && grep -qxF -- '    --upgrade' "$work/told" && nothing_at "$work/rekeyed.p12" &&
+        fails 12 MacMissing '' rekey "$work/bare.p12" --out "$work/rekeyed.p12" --upgrade --password-file "$work/old" \
+            --new-password-file "$work/new" && nothing_at "$work/rekeyed.p12"
 }
-holds rekey_refuses_old_stores rekey_refuses
+holds rekey_keeps_no_old_algorithms rekey_refuses
+
+# The store $1 under the password in the file $2 becomes one of today, which OpenSSL opens too, with the same key, certificate and name.
+upgrades() {
+    rm -f "$work/upgraded.p12"
+    ends 0 rekey "$1" --out "$work/upgraded.p12" --upgrade --rounds 1000 --password-file "$2" --new-password-file "$work/new" || return 1
+    rm -rf "$work/out"
+    ends 0 check "$work/upgraded.p12" --password-file "$work/new" --modern-only && [ ! -s "$work/told" ] && ! grep -q '^old:' "$work/said" &&
+        grep -qF 'friendly name "a name"' "$work/said" && grep -qxF 'MAC: HMAC with SHA-256, 1000 rounds' "$work/said" &&
+        ends 0 export "$work/upgraded.p12" --out "$work/out" --modern-only --password-file "$work/new" --same-password --rounds 1000 &&
+        has_what_was_put_in "$work/out" || return 1
+    openssl pkcs12 -in "$work/upgraded.p12" -passin "file:$work/new" -nodes -nocerts 2>"$work/told" | openssl pkey -outform DER >"$work/two" &&
+        openssl pkey -in "$work/rsa.pem" -outform DER | cmp - "$work/two"
+}
+each_is_upgraded() {
+    upgraded=0
+    for each in openssl_legacy openssl_rc2_128 openssl_key_rc2 openssl_two_keys openssl_sha224 openssl_sha384 openssl_sha512 certtool_rc2 \
+        certtool_sha512 pk12util pk12util_rc2 keytool_legacy bouncycastle_ber bouncycastle_rc2 bouncycastle_ber_rc2; do
+        [ -e "$work/$each.p12" ] || continue
+        upgrades "$work/$each.p12" "$work/old" || {
+            echo "not upgraded: $each" >&2
+            return 1
+        }
+        upgraded=$((upgraded + 1))
+    done
+    [ "$upgraded" -gt 0 ] || echo "skipped each_is_upgraded: there is no old store"
+    [ ! -e "$work/null.p12" ] || upgrades "$work/null.p12" "$work/empty"
+}
+holds each_old_store_becomes_one_of_today each_is_upgraded
+# What is refused leaves nothing; a limit under which the new store would not open is told by its numbers.
+upgrade_refused() {
+    echo other >"$work/other"
+    fails 16 MacMismatch '' rekey "$work/openssl_legacy.p12" --out "$work/none.p12" --upgrade --password-file "$work/other" --new-password-file "$work/new" &&
+        nothing_at "$work/none.p12" || return 1
+    for each in openssl_legacy pk12util; do
+        [ -e "$work/$each.p12" ] || continue
+        ends 15 rekey "$work/$each.p12" --out "$work/none.p12" --upgrade --rounds 100000000 --password-file "$work/old" \
+            --new-password-file "$work/new" && nothing_at "$work/none.p12" &&
+            grep -qF 'the new store would take 300000000 steps to open, 100000000 for each of its 2 encrypted parts' "$work/told" || return 1
+    done
+    cp "$work/openssl_legacy.p12" "$work/in-place.p12"
+    ends 0 rekey "$work/in-place.p12" --in-place --upgrade --same-password --rounds 1000 --password-file "$work/old" &&
+        ends 0 check "$work/in-place.p12" --password-file "$work/old" --modern-only
+}
+holds an_upgrade_of_an_old_store_leaves_nothing_or_all upgrade_refused
 
 exit "$failed"

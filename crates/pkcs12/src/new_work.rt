@@ -3,6 +3,7 @@ ghost use Rattle.std.specs.Prelude.{◌≡◌, ◌⊎◌};
 ghost use Rattle.pkcs12_opening.specs.declared.ending.Ending.TheVariants.{Memory, Refused};
 ghost use Rattle.transfer.specs.declared.store.error.TransferError.TheVariants.{WorkLimit};
 
+use legacy_store::store_in_der;
 use pkcs12_inspection::encrypted_contents;
 use pkcs12_opening::{Ending, Failure};
 use std::alloc::Global;
@@ -13,7 +14,12 @@ use transfer::TransferError;
 pub fn too_much_work(alloc: Global, store: &[u8], keys: usize, rounds: u32, limit: u64) -> Failure
     ensures { (result.ending ≡ Refused WorkLimit) ⊎ (result.ending ≡ Memory) }
 {
-    let parts = encrypted_contents(store).saturating_add(keys);
+    let contents = match store_in_der(alloc, store) {
+        Ok(Some(der)) => encrypted_contents(der.as_slice()),
+        Ok(None) => encrypted_contents(store),
+        Err(error) => return Failure::from(error),
+    };
+    let parts = contents.saturating_add(keys);
     let all = (parts as u128)
         .saturating_add(1)
         .saturating_mul(u128::from(rounds));

@@ -1,9 +1,10 @@
 //! The subcommand `rekey`: changes the password of a store, and the algorithms where that is asked for.
 ghost use Rattle.std.specs.Prelude.{◌≡◌, ◌⊎◌, ◌<◌, ℕ, IfOk, IfNone, IfSome, None};
 ghost use Rattle.pkcs12_opening.specs.Ending.{ending_of_refusal};
-ghost use Rattle.pkcs12_opening.specs.declared.ending.Ending.TheVariants.{Memory};
+ghost use Rattle.pkcs12_opening.specs.declared.ending.Ending.TheVariants.{Memory, Refused};
+ghost use Rattle.transfer.specs.declared.store.error.TransferError.TheVariants.{Unsupported};
 ghost use Rattle.rekey_core.specs.Rekeyed.{Rekeys};
-ghost use Rattle.rekey_core.specs.Upgraded.{Upgrades};
+ghost use Rattle.store_renewal.specs.Renewals.{RenewsOld};
 
 use crate::new_work::too_much_work;
 use asn1_core::Octets;
@@ -15,16 +16,18 @@ use pkcs12_inspection::{Listing, OtherBag, counts};
 use pkcs12_opening::{
     Attempt, Ending, Failure, Given, NewPassword, RANDOM, Surroundings, are_one, inputs_differ,
     is_not_given_again, listing_of, new_password_missing, opened, opened_store, output_differs,
-    path_of_store, read_given, read_password, refused, tell_long_work, with_detail, without_nul,
+    path_of_store, read_given, read_password, refused, tell_long_work, tell_old_parts, with_detail,
+    without_nul,
 };
 use pkcs12_output::StoreFile;
-use rekey_core::{Renewal, Rounds, rekey, upgrade};
+use rekey_core::{Renewal, Rounds, rekey};
 use std::alloc::{AllocError, Global};
 use std::fs::File;
 use std::marker::Brand;
 use std::rt::{Env, Files, Runtime};
 use std::sync::ledger::{Blank, Ledger};
 use steps::Steps;
+use store_renewal::upgrade_any;
 use transfer::{Opened, TransferError};
 
 /// A change of the password of a store.
@@ -53,7 +56,7 @@ fn changed_from<D: Draw, L: Ledger>(
         before after text)) }
     ensures renewed { IfSome change.now.upgrade (λ rounds. IfOk result
         (λ text. (before after : ℕ)
-        × Upgrades (record { rounds = rounds; seal_limit = change.now.limit })
+        × RenewsOld (record { rounds = rounds; seal_limit = change.now.limit })
         change.now.given.now.store.items change.now.given.now.password
         change.now.new_password.now change.now.limit (D.left draw.old) (D.left draw.new)
         before after text)) }
@@ -63,7 +66,7 @@ fn changed_from<D: Draw, L: Ledger>(
     let old = change.given.password.as_str();
     let new = change.new_password.as_str();
     match change.upgrade {
-        Some(rounds) => upgrade(
+        Some(rounds) => upgrade_any(
             alloc,
             store,
             old,
@@ -105,7 +108,7 @@ fn failure_of(
                 store,
                 password: &given.password,
                 limit: change.limit,
-                accepted: Accepted::Modern,
+                accepted: Accepted::Old,
             };
             with_detail(alloc, refused(refusal), &tried)
         }
@@ -123,7 +126,7 @@ fn changed<R: Files + AllocGlobal>(
         change.now.new_password.now change.now.limit None None before after text)) }
     ensures renewed { IfSome change.now.upgrade (λ rounds. IfOk result
         (λ text. (before after : ℕ)
-        × Upgrades (record { rounds = rounds; seal_limit = change.now.limit })
+        × RenewsOld (record { rounds = rounds; seal_limit = change.now.limit })
         change.now.given.now.store.items change.now.given.now.password
         change.now.new_password.now change.now.limit None None before after text)) }
 {
@@ -321,6 +324,17 @@ fn warn_of_clear_keys<R: Eprint>(rt: &R, change: &Change<'_>, found: &Listing) {
     }
 }
 
+/// The failure of an old store whose algorithms would stay.
+fn is_kept_old() -> Failure
+    ensures { result.ending ≡ Refused Unsupported }
+{
+    Failure::new(
+        Ending::Refused(TransferError::Unsupported),
+        "rekey keeps the algorithms of a store, and this one has some that are opened alone",
+    )
+    .advised("To write it under the algorithms of today:\n    --upgrade")
+}
+
 /// Opens the store, writes it under the new password into the file, and returns what it has.
 fn write_rekeyed<R: Runtime<File = File> + AllocGlobal>(
     rt: &R,
@@ -332,7 +346,12 @@ fn write_rekeyed<R: Runtime<File = File> + AllocGlobal>(
     let store = change.given.store.as_slice();
     let rounds = change.upgrade.map(|rounds| rounds.count());
     tell_long_work(rt, around, store, rounds);
-    let opened = opened(rt.alloc(), change.given, change.limit, Accepted::Modern)?.safe;
+    let opened = opened(rt.alloc(), change.given, change.limit, Accepted::Old)?;
+    if opened.is_old && rounds.is_none() {
+        return Err(is_kept_old());
+    }
+    tell_old_parts(rt, change.given, &opened)?;
+    let opened = opened.safe;
     let found = listing_of(rt.alloc(), &opened)?;
     warn_of_password(rt, change);
     warn_of_clear_keys(rt, change, &found);
@@ -359,13 +378,7 @@ fn read_and_rekey<R: Runtime<File = File> + AllocGlobal>(
     asked: &Rekey<'_>,
     file: &StoreFile<'_>,
 ) -> Result<Listing, Failure> {
-    let given = read_given(
-        rt,
-        asked.store,
-        asked.password,
-        asked.limit,
-        Accepted::Modern,
-    )?;
+    let given = read_given(rt, asked.store, asked.password, asked.limit, Accepted::Old)?;
     let new_password = new_password(rt, asked, &given)?;
     let change = Change {
         given: &given,

@@ -26,8 +26,6 @@ pub struct Algorithms {
     is_bare: bool,
     /// Whether one of them is of before AES and SHA-256.
     has_old: bool,
-    /// Whether the store is one that is opened as an old one alone.
-    is_old_store: bool,
     old: OldParts,
 }
 
@@ -71,7 +69,6 @@ impl Algorithms {
             mac: None,
             is_bare: false,
             has_old: false,
-            is_old_store: false,
             old: OldParts::new(),
         };
         let Ok(view) = StoreView::parse(store) else {
@@ -137,10 +134,8 @@ impl Algorithms {
         Ok(())
     }
 
-    /// Notes of the opened store whether it is opened as an old one alone, whether it is in BER, and whether it was made with no password
-    /// at all.
-    pub fn note_store(&mut self, is_old: bool, ber: bool, no_password: bool) {
-        self.is_old_store = is_old;
+    /// Notes of the opened store whether it is in BER, and whether it was made with no password at all.
+    pub fn note_store(&mut self, ber: bool, no_password: bool) {
         self.old.note_store(ber, no_password);
     }
 
@@ -172,8 +167,8 @@ impl Algorithms {
         if !self.has_old && !self.old.has_some() {
             return Ok(());
         }
-        if self.is_old_store {
-            // `rekey` takes no store that is opened as an old one alone.
+        if self.is_bare {
+            // `rekey` takes no store without a MAC.
             return writeln!(
                 text,
                 "old: create makes a store under AES-256 and SHA-256 of what export writes"

@@ -43,7 +43,7 @@ pub fn algorithms_of(
         found.add_bags(alloc, opened.safe.bags(index))?;
     }
     let no_password = has_no_password(alloc, given, opened)?;
-    found.note_store(opened.is_old, in_der.is_some(), no_password);
+    found.note_store(in_der.is_some(), no_password);
     Ok(found)
 }
 
