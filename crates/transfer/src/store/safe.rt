@@ -153,6 +153,13 @@ impl OpenedSafe {
         self.keys.len()
     }
 
+    /// The text of each encrypted private key (PrivateKeyInfo, RFC 5208), decrypted, in store order.
+    pub fn keys(&self) -> &[Octets]
+        ensures { result.now ≡ self.now.keys }
+    {
+        self.keys.as_slice()
+    }
+
     /// An equal value in memory of its own. The only refusal is `Memory`.
     pub fn try_clone(&self, alloc: Global) -> Result<OpenedSafe, TransferError>
         ensures ok { IfOk result (λ o. o ≡ self.now) }
