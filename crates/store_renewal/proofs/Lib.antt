@@ -1,2 +1,3 @@
 mod PartTexts
 mod Renewing
+mod Settling

@@ -87,10 +87,10 @@ old_opened b p limit steps steps_after version cs gss ks (n, o, within, counted)
       are_parts = legacy_safe_sole v o.parts cs (subst (λ (t : List ℕ). IsLegacySafe t o.parts) text o.opening.contents) lists;
     }
 
-module _ (r : Renewal) (b p : List ℕ) (limit steps steps_after version : ℕ) (cs : List ContentInfo) (gss : List (List SafeBag)) (ks : List (List ℕ)) (w : IsOldOpened b p limit steps steps_after version cs gss ks) where
-  pub held_as : HeldOpen (by_forms w.opens.forms) cs gss ks
-  held_as = subst (λ (x : List ContentInfo). HeldOpen (by_forms w.opens.forms) x gss ks) w.are_parts (held_open w.opens.forms w.opens.text w.opens.parts gss ks w.opens.opening)
+pub held_as : (b p : List ℕ) (limit steps steps_after version : ℕ) (cs : List ContentInfo) (gss : List (List SafeBag)) (ks : List (List ℕ)) (w : IsOldOpened b p limit steps steps_after version cs gss ks) → HeldOpen (by_forms w.opens.forms) cs gss ks
+held_as b p limit steps steps_after version cs gss ks w = subst (λ (x : List ContentInfo). HeldOpen (by_forms w.opens.forms) x gss ks) w.are_parts (held_open w.opens.forms w.opens.text w.opens.parts gss ks w.opens.opening)
 
+module _ (r : Renewal) (b p : List ℕ) (limit steps steps_after version : ℕ) (cs : List ContentInfo) (gss : List (List SafeBag)) (ks : List (List ℕ)) (w : IsOldOpened b p limit steps steps_after version cs gss ks) where
   pub renewed : (q : List ℕ) (left after : Option (List ℕ)) (c : List ℕ) → SealsDrawn (Renewed r.rounds) version (renewed_mac r.rounds) cs gss ks q left after c → seal_rounds r.rounds cs gss ≤ r.seal_limit
       → RenewsOld r b p q limit left after steps steps_after c
   renewed q left after c s le = record {

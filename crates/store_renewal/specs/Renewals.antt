@@ -1,20 +1,24 @@
 -- What the upgrade of an old store comes to: it is opened as `legacy_store` opens it, and sealed as
 -- `rekey_core` seals what it upgrades.
-use Rattle.std.specs.Prelude.{◌≡◌, ◌<◌, ◌≤◌, ◌+◌, ℕ, List, Option, None}
+use Rattle.std.specs.Prelude.{◌≡◌, ◌⊎◌, ◌<◌, ◌≤◌, ◌+◌, ℕ, List, length, Option, Some, None, Result, Err, IfSome, IsOk}
 use Rattle.asn1_core.specs.Sets.{Each}
 use Rattle.octet_core.specs.Draw.{Lacks}
 use Rattle.p12.specs.declared.safe_bag.SafeBag.{SafeBag}
 use Rattle.transfer.specs.Opening.{FirstCause, all_certificates, refused}
+use Rattle.transfer.specs.Limits.{store_limit}
+use Rattle.transfer.specs.Transferred.{IsRefusal}
 use Rattle.transfer.specs.Verdicts.{StoreOpens}
 use Rattle.transfer.specs.declared.store.error.TransferError.{TransferError}
+use Rattle.transfer.specs.declared.store.error.TransferError.TheVariants.{Rng, TooLong, WorkLimit}
 use Rattle.legacy_store.specs.Algorithm.{legacy_unlock}
 use Rattle.legacy_store.specs.Forms.{Forms}
-use Rattle.legacy_store.specs.Opening.{HasLegacyVerdict}
+use Rattle.legacy_store.specs.Opening.{FirstLegacyCause, HasLegacyVerdict}
 use Rattle.legacy_store.specs.Verdicts.{LegacyOpens}
 use Rattle.rekey_core.specs.Anew.{change_draws}
 use Rattle.rekey_core.specs.Changes.{BagKept}
 use Rattle.rekey_core.specs.Kinds.{renewed_mac}
 use Rattle.rekey_core.specs.Opened.{DrawsTooLong, SealsDrawn}
+use Rattle.rekey_core.specs.Size.{changed_size}
 use Rattle.rekey_core.specs.Unlocking.{Unlocking}
 use Rattle.rekey_core.specs.Upgraded.{seal_rounds}
 use Rattle.rekey_core.specs.declared.kinds.Kinds.TheVariants.{Renewed}
@@ -76,6 +80,33 @@ pub record OldGrowsTooLong (r : Renewal) (b p : List ℕ) (limit : ℕ)
   pub long : DrawsTooLong (Renewed r.rounds) allowed.opens.store.version (renewed_mac r.rounds)
       allowed.opens.parts allowed.bags allowed.keys left left_after
   pub counted : steps_after ≡ steps + allowed.work
+
+-- how many octets the text of the new store has
+abbrev pub old_size : Renewal → (b p : List ℕ) (limit : ℕ) → IsOldAllowed b p limit → ℕ
+old_size r b p limit a = changed_size (Renewed r.rounds) a.opens.store.version
+    (renewed_mac r.rounds) (by_forms a.opens.forms) a.opens.parts a.bags
+
+-- A store that is sealed is renewed where its text is short enough, and is too long where it is not,
+-- unless the draw fails; and where the draw tells its octets, it fails exactly where it has too few.
+pub record IsOldSealed (r : Renewal) (b p : List ℕ) (limit : ℕ) (left : Option (List ℕ))
+    (a : IsOldAllowed b p limit) (result : Result (List ℕ) TransferError) : Type 0 where
+  pub fits : old_size r b p limit a ≤ store_limit → IsOk result ⊎ IsRefusal result Rng
+  pub grows : store_limit < old_size r b p limit a
+      → IsRefusal result TooLong ⊎ (result ≡ Err Rng)
+  pub lacks : IfSome left (λ d. length d < old_draws r b p limit a → IsRefusal result Rng)
+  pub suffices : IfSome left (λ d. old_draws r b p limit a ≤ length d → result ≡ Err Rng → ⊥)
+
+-- Each result comes where its cause holds, out of memory apart.
+pub record IsOldSettled (r : Renewal) (b p : List ℕ) (limit : ℕ) (left : Option (List ℕ))
+    (result : Result (List ℕ) TransferError) : Type 0 where
+  -- a store that a cause refuses is refused for that cause
+  pub refuses : (e : TransferError) → FirstLegacyCause b p limit (Some e) → IsRefusal result e
+  -- one that no cause refuses is refused where sealing would take more rounds than it may
+  pub over : (a : IsOldAllowed b p limit) → r.seal_limit < old_sealing r b p limit a
+      → IsRefusal result WorkLimit
+  -- and is else sealed
+  pub within : (a : IsOldAllowed b p limit) → old_sealing r b p limit a ≤ r.seal_limit
+      → IsOldSealed r b p limit left a result
 
 -- The new store opens under the new password to the same keys and certificates and to bags that are
 -- kept, by as many steps as sealing took rounds; so no cause refuses it under a limit of as many.

@@ -3,12 +3,13 @@ ghost use Rattle.std.specs.Prelude.{◌≡◌, ◌≤◌, ◌<◌, ◌^◌, ◌+
 ghost use Rattle.std.specs.Result.{IsErrOf};
 ghost use Rattle.rekey_core.specs.Rekeyed.{IsUndrawn};
 ghost use Rattle.rekey_core.specs.Upgraded.{UpgradeRefusedFor};
-ghost use Rattle.store_renewal.specs.Renewals.{IsOldRefused, OldGrowsTooLong, OldRunsShort, OldSealsTooLong, RenewsOld};
+ghost use Rattle.store_renewal.specs.Renewals.{IsOldRefused, IsOldSettled, OldGrowsTooLong, OldRunsShort, OldSealsTooLong, RenewsOld};
 
 use crate::parts::parts_of;
 use asn1_core::Octets;
 use legacy_store::{MacRule, open_legacy};
 use mac_modes::Draw;
+use rekey_core::laws::made_stores_are_sized;
 use rekey_core::{Renewal, renewed_store};
 use std::alloc::Global;
 use std::sync::ledger::Ledger;
@@ -50,6 +51,7 @@ pub fn upgrade_any<D: Draw, L: Ledger>(
         (D.faults draw.old) (D.faults draw.new) steps.old steps.new)
         (OldGrowsTooLong renewal store.now old.now limit (D.left draw.old)
         (D.left draw.new) steps.old steps.new)) }
+    ensures exact { IsOldSettled renewal store.now old.now limit (D.left draw.old) result }
     ensures undrawn { IfErr result (λ e. IsUndrawn e → draw.new ≡ draw.old) }
     ensures count { D.faults draw.old ≤ D.faults draw.new }
     ensures no_fault { OnOk result (D.faults draw.new ≡ D.faults draw.old) }
@@ -66,6 +68,8 @@ pub fn upgrade_any<D: Draw, L: Ledger>(
         Err(e) => return Err(e),
     };
     let contents = parts.contents.as_slice();
+    // How long the text is.
+    made_stores_are_sized();
     match renewed_store(alloc, renewal, parts.version, contents, &opened, new, draw) {
         Ok(text) => Ok(text),
         Err(e) => Err(e),
