@@ -6,6 +6,8 @@
 writes the store to STORE and its hexadecimal line to STORE.hex. The kinds:
 
     plain NUMBER          a store of NUMBER octets: one certificate with a long extension, not encrypted
+    ber NUMBER            the same store in BER, as NSS and BouncyCastle write: indefinite lengths, and its octets and those of its content in parts of
+                          1,000 octets; in DER it has NUMBER octets
     smallest 1            a store of 131 octets: one certificate bag of two octets, not encrypted
     bags NUMBER           NUMBER certificate bags of two octets in one content that is not encrypted
     shortest NUMBER       NUMBER bags of nine octets, the shortest that there are, of another kind; 1,864,000 are as many as a store can have
@@ -35,7 +37,7 @@ HOME = os.path.join(os.path.dirname(os.path.abspath(__file__)), "..")
 sys.path.insert(0, os.path.join(HOME, "tests"))
 
 import make_store as make
-from read_store import only
+from read_store import DATA, mac_of, only
 
 HMAC_SHA256, AES_256_CBC = "1.2.840.113549.2.9", "2.16.840.1.101.3.4.1.42"
 
@@ -68,6 +70,14 @@ def of_length(wanted, make_octets):
     return octets
 
 
+def certificate_of_store(wanted):
+    """The certificate with which `plain_store` has so many octets."""
+    filling = 2 * wanted - len(plain_store(long_certificate(wanted)))
+    certificate = long_certificate(filling)
+    assert len(plain_store(certificate)) == wanted
+    return certificate
+
+
 def with_mac(contents, count=1):
     return make.store_with_mac(contents, PASSWORD, MAC_SALT, count)
 
@@ -78,6 +88,24 @@ def plain_bags(bags):
 
 def plain_store(certificate):
     return plain_bags([make.certificate_bag(certificate)])
+
+
+def indefinite(tag, *parts):
+    """An element of indefinite length (X.690 section 8.1.3.6)."""
+    return bytes([tag, 0x80]) + b"".join(parts) + bytes(2)
+
+
+def in_parts(octets):
+    return indefinite(0x24, *[make.octet_string(octets[at : at + 1000]) for at in range(0, len(octets), 1000)])
+
+
+def data_in_ber(octets):
+    return indefinite(0x30, make.identifier(DATA), indefinite(0xA0, in_parts(octets)))
+
+
+def ber_store(certificate):
+    safe = indefinite(0x30, data_in_ber(make.sequence(make.certificate_bag(certificate))))
+    return indefinite(0x30, make.number(3), data_in_ber(safe), make.mac_data(mac_of(PASSWORD, MAC_SALT, 1, safe), MAC_SALT, 1))
 
 
 def key_of(octets):
@@ -138,7 +166,9 @@ def aes_keys_store(number, rounds):
 
 def store_of(kind, number):
     if kind == "plain":
-        return of_length(number, lambda filling: plain_store(long_certificate(filling)))
+        return plain_store(certificate_of_store(number))
+    if kind == "ber":
+        return ber_store(certificate_of_store(number))
     if kind == "smallest":
         return plain_store(bytes.fromhex("3000"))
     if kind == "bags":
