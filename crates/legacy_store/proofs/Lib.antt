@@ -11,6 +11,7 @@ mod Locks
 mod Rows
 pub mod Unparted
 pub mod Verdict
+mod Stays
 pub mod Closed
 pub mod Conservative
 pub mod Refused

@@ -1,13 +1,14 @@
 //! Reading the texts of an old store: as DER, and as BER (X.690) only where they are no DER text.
-ghost use Rattle.std.specs.Prelude.{◌≡◌, ◌-◌, ◌^◌, ℕ, List, All, IfOk, IfErr, IfSome, IfNone, Ok};
+ghost use Rattle.std.specs.Prelude.{◌≡◌, ◌↔◌, ◌-◌, ◌^◌, ℕ, List, All, IfOk, IfErr, IfSome, IfNone, IsNone, Ok, true, false};
 ghost use Rattle.p12.specs.ContentInfo.{IsContents, NoContents, SealFits};
-ghost use Rattle.p12.specs.Canonical.{store_canon};
+ghost use Rattle.p12.specs.Canonical.{WritableMac, WritableStore, store_canon};
+ghost use Rattle.der_core.specs.Optional.{writable_option};
 ghost use Rattle.p12.specs.Pfx.{IsStore, NoStore, StoreFits};
 ghost use Rattle.transfer.specs.TransferError.{RefusedBy};
 ghost use Rattle.ber_core.specs.Ber.{Ber};
 ghost use Rattle.asn1_core.specs.Der.{IsShort};
 ghost use Rattle.legacy_store.specs.JoinedReading.{joined_safe};
-ghost use Rattle.legacy_store.specs.InDer.{IsSafeInDer, IsStoreInDer, IsWholeInDer};
+ghost use Rattle.legacy_store.specs.InDer.{IsInDer, IsSafeInDer, IsStoreInDer, IsWholeInDer, ListsNothing, StaysAsItIs};
 ghost use Rattle.legacy_store.specs.Texts.{BerSafe, IsLegacySafe, IsLegacyStore, NoLegacySafe, NoLegacyStore};
 
 use crate::joined::joined_safe;
@@ -70,18 +71,16 @@ fn ber_store(alloc: Global, text: &[u8]) -> Result<Option<PFX>, AllocError>
     }
 }
 
-/// The store of a text that is no DER text. `Malformed` exactly where it is the text of none.
-fn read_ber_store(alloc: Global, text: &[u8]) -> Result<PFX, TransferError>
-    requires { NoStore text.now }
-    ensures ok { IfOk result (λ s. IsLegacyStore text.now s) }
-    ensures fits { IfOk result (StoreFits (2 ^ 32 - 1)) }
-    ensures err { IfErr result
-        (RefusedBy (λ e. (e ≡ TransferError.Malformed) × NoLegacyStore text.now) ⊥) }
+/// The store of a text. None where it is the text of none. The only error is out of memory.
+fn found_store(alloc: Global, text: &[u8]) -> Result<Option<PFX>, AllocError>
+    ensures some { IfOk result (λ m. IfSome m (λ s. IsLegacyStore text.now s
+        × StoreFits (2 ^ 32 - 1) s)) }
+    ensures none { IfOk result (λ m. IfNone m (NoLegacyStore text.now)) }
 {
-    let found = ber_store(alloc, text)?;
+    let found = der_store(alloc, text)?;
     match found {
-        Some(store) => Ok(store),
-        None => Err(TransferError::Malformed),
+        Some(store) => Ok(Some(store)),
+        None => ber_store(alloc, text),
     }
 }
 
@@ -92,10 +91,10 @@ pub(crate) fn read_store(alloc: Global, text: &[u8]) -> Result<PFX, TransferErro
     ensures err { IfErr result
         (RefusedBy (λ e. (e ≡ TransferError.Malformed) × NoLegacyStore text.now) ⊥) }
 {
-    let found = der_store(alloc, text)?;
+    let found = found_store(alloc, text)?;
     match found {
         Some(store) => Ok(store),
-        None => read_ber_store(alloc, text),
+        None => Err(TransferError::Malformed),
     }
 }
 
@@ -168,7 +167,8 @@ pub(crate) fn read_safe(alloc: Global, text: &[u8]) -> Result<Items<ContentInfo>
 /// the text of none. The only error is out of memory.
 fn ber_safe_in_der(alloc: Global, text: &[u8]) -> Result<Option<Octets>, AllocError>
     requires { NoContents text.now }
-    ensures { IfOk result (λ m. IfSome m (IsSafeInDer text.now)) }
+    ensures some { IfOk result (λ m. IfSome m (IsSafeInDer text.now)) }
+    ensures none { IfOk result (λ m. IfNone m (NoLegacySafe text.now)) }
 {
     let found = ber_safe(alloc, text)?;
     let Some(der) = found else {
@@ -183,7 +183,8 @@ fn ber_safe_in_der(alloc: Global, text: &[u8]) -> Result<Option<Octets>, AllocEr
 
 /// The same of any text.
 fn safe_in_der(alloc: Global, text: &[u8]) -> Result<Option<Octets>, AllocError>
-    ensures { IfOk result (λ m. IfSome m (IsSafeInDer text.now)) }
+    ensures some { IfOk result (λ m. IfSome m (IsSafeInDer text.now)) }
+    ensures none { IfOk result (λ m. IfNone m (NoLegacySafe text.now)) }
 {
     let listed = der_contents(alloc, text)?;
     let Some(_) = listed else {
@@ -193,20 +194,23 @@ fn safe_in_der(alloc: Global, text: &[u8]) -> Result<Option<Octets>, AllocError>
     Ok(Some(copy))
 }
 
-/// The text of a store. None where there is none.
-fn text_of(alloc: Global, store: &PFX) -> Result<Option<Octets>, AllocError>
-    ensures { IfOk result (λ m. IfSome m (λ der. der ≡ store_canon store.now)) }
+/// The text of a store that can be written. The only error is out of memory, and there is no memory for more than 2^32 - 1 octets.
+fn text_of(alloc: Global, store: &PFX) -> Result<Octets, AllocError>
+    requires { WritableStore store.now }
+    ensures { IfOk result (λ der. der ≡ store_canon store.now) }
 {
     match store.to_der(alloc) {
-        Ok(der) => Ok(Some(der)),
-        Err(Error::Memory) => Err(AllocError),
-        Err(Error::Malformed | Error::Invalid | Error::TooLong | Error::Rng) => Ok(None),
+        Ok(der) => Ok(der),
+        Err(Error::Memory | Error::TooLong) => Err(AllocError),
+        Err(Error::Malformed | Error::Invalid | Error::Rng) => unreachable!(),
     }
 }
 
-/// The text of a store with its list of contents in DER. None where it lists none.
+/// The text of a store with its list of contents in DER. None where it lists none. The only error is out of memory.
 fn whole_in_der(alloc: Global, store: PFX) -> Result<Option<Octets>, AllocError>
-    ensures { IfOk result (λ m. IfSome m (IsWholeInDer store)) }
+    requires { writable_option WritableMac store.mac_data }
+    ensures some { IfOk result (λ m. IfSome m (IsWholeInDer store)) }
+    ensures none { IfOk result (λ m. IfNone m (ListsNothing store)) }
 {
     let ContentInfo::Data(text) = &store.auth_safe else {
         return Ok(None);
@@ -220,32 +224,40 @@ fn whole_in_der(alloc: Global, store: PFX) -> Result<Option<Octets>, AllocError>
         auth_safe: ContentInfo::Data(safe),
         mac_data: store.mac_data,
     };
-    text_of(alloc, &shown)
+    let der = text_of(alloc, &shown)?;
+    Ok(Some(der))
 }
 
-/// Whether this is the DER text of a store that lists its contents in DER. This takes no memory.
-fn is_in_der(store: &[u8]) -> bool {
+/// Whether this is the DER text of a store that lists its contents in DER, or that has no list of them. This takes no memory.
+fn stays_as_it_is(store: &[u8]) -> bool
+    ensures yes { result ≡ true → StaysAsItIs store.now }
+    ensures no { result ≡ false → ¬ IsInDer store.now }
+{
     match StoreView::parse(store) {
         Ok(view) => match view.auth_safe {
             ContentView::Plain { content, .. } => ContentsView::parse(content).is_ok(),
-            ContentView::Encrypted { .. } | ContentView::Other { .. } => true,
+            ContentView::Encrypted { .. } => true,
+            ContentView::Other { .. } => true,
         },
         Err(_) => false,
     }
 }
 
 /// The text in DER of a store that is in BER, or whose list of contents is: that of the same store, with this list in DER and the encrypted
-/// octets of each content in one. It is for looking at, with p12's views, and not for opening: the MAC is over the list as it was. None
-/// where the store is in DER already, or is no store. The only error is out of memory.
+/// octets of each content in one. It is for looking at, with p12's views, and not for opening: the MAC is over the list as it was.
+///
+/// None exactly where the store and its list of contents are in DER already, and where the octets are no store that lists contents. The only
+/// error is out of memory, which comes too where the text would have more than 2^32 - 1 octets.
 pub fn store_in_der(alloc: Global, store: &[u8]) -> Result<Option<Octets>, AllocError>
-    ensures { IfOk result (λ m. IfSome m (IsStoreInDer store.now)) }
+    ensures some { IfOk result (λ m. IfSome m (IsStoreInDer store.now)) }
+    ensures none { IfOk result (λ m. IsNone m ↔ StaysAsItIs store.now) }
 {
-    if is_in_der(store) {
+    if stays_as_it_is(store) {
         return Ok(None);
     }
-    match read_store(alloc, store) {
-        Ok(found) => whole_in_der(alloc, found),
-        Err(TransferError::Memory) => Err(AllocError),
-        Err(_) => Ok(None),
+    let found = found_store(alloc, store)?;
+    match found {
+        Some(read) => whole_in_der(alloc, read),
+        None => Ok(None),
     }
 }

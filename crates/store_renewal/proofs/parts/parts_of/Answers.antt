@@ -10,7 +10,7 @@ use Rattle.store_renewal.proofs.parts.parts_of.Goals as goal
 pub returns-in-Some-clause-parts : goal.returns-in-Some-clause-parts
 returns-in-Some-clause-parts c =
     let b = c.args.store.now in
-    let whole : IsStoreInDer b c.in-Some.der = subst (λ (m : Option (List ℕ)). IfSome m (IsStoreInDer b)) c.in-Some.is c.in_ok-found.ensures in
+    let whole : IsStoreInDer b c.in-Some.der = subst (λ (m : Option (List ℕ)). IfSome m (IsStoreInDer b)) c.in-Some.is c.in_ok-found.ensures.some in
     IfOk-weaker c.parts_in.result (λ (r : Parts). HasDerParts c.as_slice.result.now r.version r.contents) (λ (r : Parts). HasParts b r.version r.contents)
     (λ r h. parts_in_der b c.as_slice.result.now r.version r.contents (rw (c.as_slice.ensures) whole) h) c.parts_in.ensures.parts
 
