@@ -1,5 +1,5 @@
 -- What was opened before is opened as before.
-use Rattle.std.proofs.Common.{ℕ, ◌≡◌, ◌∙◌, sym, ◌+◌, inl, inr, List, [], ◌∷◌, refl, ap₂, arith, subst, Bool, true, false}
+use Rattle.std.proofs.Common.{ℕ, ◌≡◌, ◌∙◌, sym, ◌+◌, inl, inr, List, [], ◌∷◌, refl, ap, ap₂, arith, subst, Bool, true, false}
 use Rattle.std.specs.Prelude.{Some, None, ◌&&◌, nat_lt}
 use Rattle.std.specs.Str.{bytes_eq}
 use Rattle.sha1.specs.Sha1.{sha1}
@@ -20,7 +20,12 @@ use Rattle.p12.specs.declared.content_info.ContentInfo.{ContentInfo}
 use Rattle.p12.specs.declared.content_info.ContentInfo.TheVariants as content
 use Rattle.p12.specs.declared.encrypted_private_key_info.EncryptedPrivateKeyInfo.{EncryptedPrivateKeyInfo}
 use Rattle.p12.specs.declared.safe_bag.SafeBag.{SafeBag}
-use Rattle.p12.specs.AlgorithmIdentifier.{cost, unlock}
+use Rattle.pkcs5.specs.Kinds.{rounds_of}
+use Rattle.pkcs5.specs.declared.pbes2.kdf.Kdf.{Kdf}
+use Rattle.pkcs5.specs.declared.pbes2.kdf.Kdf.TheVariants.{Pbkdf2, Scrypt}
+use Rattle.pkcs5.specs.declared.pbes2.parameters.Parameters.{Parameters}
+use Rattle.p12.specs.AlgorithmIdentifier.{cost, unlock, unlock_pbes2}
+use Rattle.p12.proofs.Pbes2.{pbes2_no_rounds}
 use Rattle.p12.specs.Collected.{HoldsBags}
 use Rattle.p12.specs.declared.mac_data.MacData.{MacData}
 use Rattle.p12.specs.declared.pfx.PFX.{PFX}
@@ -28,7 +33,7 @@ use Rattle.transfer.specs.Opening.{ContentsTable, HasVerdict, KeyOpens, MacTable
 use Rattle.transfer.specs.Verdicts.{StoreOpens}
 use Rattle.transfer.specs.declared.store.error.TransferError.{TransferError}
 use Rattle.transfer.proofs.Valid.{open_comes}
-use Rattle.legacy_store.specs.Algorithm.{legacy_cost, legacy_unlock, p12_unlock, scheme_cost, scheme_of, scheme_unlock}
+use Rattle.legacy_store.specs.Algorithm.{legacy_cost, legacy_unlock, p12_unlock, pbes2_scheme, scheme_cost, scheme_of, scheme_unlock}
 use Rattle.legacy_store.specs.Forms.{Forms, forms_of}
 use Rattle.legacy_store.specs.Laws.{OpensStoresAsBefore, OpensTextsAsBefore}
 use Rattle.legacy_store.specs.Verdicts.{LegacyOpens}
@@ -40,13 +45,27 @@ none_some m e = absurd cc
 
 -- ---- Texts
 
+-- p12 opens nothing by scrypt
+by_scrypt : {P : Type 0} (par : Parameters) (k : _) (p c m : List ℕ) → par.kdf ≡ Scrypt k → unlock_pbes2 par p c ≡ Some m → P
+by_scrypt par k p c m is h = none_some m (sym (pbes2_no_rounds par p c (ap rounds_of is)) ∙ h)
+
+pbes2_as_before : (par : Parameters) (k : Kdf) (p c m : List ℕ) → par.kdf ≡ k → unlock_pbes2 par p c ≡ Some m → scheme_unlock (forms_of p) (pbes2_scheme par k) c ≡ Some m
+unfolding unlock scheme_unlock p12_unlock
+pbes2_as_before par (Pbkdf2 k) p c m is h = h
+pbes2_as_before par (Scrypt k) p c m is h = by_scrypt par k p c m is h
+
+pbes2_cost_as_before : (par : Parameters) (k : Kdf) (p c m : List ℕ) → par.kdf ≡ k → unlock_pbes2 par p c ≡ Some m → scheme_cost (pbes2_scheme par k) ≡ cost (Pbes2 par)
+unfolding scheme_cost
+pbes2_cost_as_before par (Pbkdf2 k) p c m is h = refl
+pbes2_cost_as_before par (Scrypt k) p c m is h = by_scrypt par k p c m is h
+
 pub texts_as_before : OpensTextsAsBefore
 unfolding unlock legacy_unlock scheme_of scheme_unlock p12_unlock
 texts_as_before Sha1 p c m h = none_some m h
 texts_as_before Sha256 p c m h = none_some m h
 texts_as_before (PbewithSHAAnd40BitRC2CBC params) p c m h = none_some m h
 texts_as_before (PbeWithSHAAnd3KeyTripleDESCBC params) p c m h = h
-texts_as_before (Pbes2 par) p c m h = h
+texts_as_before (Pbes2 par) p c m h = pbes2_as_before par par.kdf p c m refl h
 texts_as_before (OtherAlg o) p c m h = none_some m h
 
 -- by the same share of the work
@@ -56,7 +75,7 @@ cost_as_before Sha1 p c m h = refl
 cost_as_before Sha256 p c m h = refl
 cost_as_before (PbewithSHAAnd40BitRC2CBC params) p c m h = none_some m h
 cost_as_before (PbeWithSHAAnd3KeyTripleDESCBC params) p c m h = refl
-cost_as_before (Pbes2 par) p c m h = refl
+cost_as_before (Pbes2 par) p c m h = pbes2_cost_as_before par par.kdf p c m refl h
 cost_as_before (OtherAlg o) p c m h = none_some m h
 
 -- ---- Contents and keys

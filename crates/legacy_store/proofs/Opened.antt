@@ -8,7 +8,10 @@ use Rattle.sha1.specs.Sha1.{sha1}
 use Rattle.mac_modes.specs.Cbc.{uncbc}
 use Rattle.mac_modes.specs.Padding.{padded}
 use Rattle.p12.proofs.Paddings.{unpadded_none, unpadded_some}
-use Rattle.pkcs5.specs.Opening.{unpadded}
+use Rattle.pkcs5.specs.Opening.{opened, unpadded}
+use Rattle.pkcs5.specs.declared.pbes2.kdf.Kdf.{Kdf}
+use Rattle.pkcs5.specs.declared.pbes2.kdf.Kdf.TheVariants.{Pbkdf2, Scrypt}
+use Rattle.pkcs5.specs.declared.pbes2.parameters.Parameters.{Parameters}
 use Rattle.pkcs12_kdf.specs.Derivation.{derive12, turns}
 use Rattle.p12.specs.declared.algorithm_identifier.AlgorithmIdentifier.{AlgorithmIdentifier}
 use Rattle.p12.specs.declared.algorithm_identifier.AlgorithmIdentifier.TheVariants.{Sha1, Sha256, PbewithSHAAnd40BitRC2CBC, PbeWithSHAAnd3KeyTripleDESCBC, Pbes2, OtherAlg}
@@ -16,8 +19,9 @@ use Rattle.p12.specs.AlgorithmIdentifier.{is_blocks, salt_of, taken_pbe, triple_
 use Rattle.p12.proofs.DefinitionLaws.{taken_most, unlock_opened}
 use Rattle.legacy_store.specs.declared.scheme.OldCipher.{OldCipher}
 use Rattle.legacy_store.specs.declared.scheme.OldCipher.TheVariants.{Rc2Of40, Rc2Of128, TwoKeyTripleDes}
-use Rattle.legacy_store.specs.Algorithm.{IsSchemeOpened, SchemeOf, legacy_unlock, of_old, of_p12, old_or_p12, p12_taken, p12_unlock, scheme_cost, scheme_count, scheme_of, scheme_openable, scheme_salt, scheme_taken, scheme_unlock}
+use Rattle.legacy_store.specs.Algorithm.{IsSchemeOpened, SchemeOf, legacy_unlock, of_old, of_p12, of_scrypt, old_or_own, own_scheme, p12_taken, pbes2_scheme, p12_unlock, scheme_cost, scheme_count, scheme_of, scheme_openable, scheme_salt, scheme_taken, scheme_unlock}
 use Rattle.legacy_store.specs.Forms.{Forms}
+use Rattle.legacy_store.specs.Scrypt.{scrypt_opens}
 use Rattle.legacy_store.specs.Scheme.{SchemeParts, key_octets, old_fits, old_inverse, old_scheme, old_taken, old_text, old_unlock, opens_with, salt_limit}
 
 -- ---- Old schemes
@@ -140,20 +144,40 @@ own_taken_most (OtherAlg o) c = omega arith
 
 -- ---- Schemes
 
+scrypt_opened : (f : Forms) (par : Parameters) (c m : List ℕ) → (if scrypt_opens par then opened par f.utf8 c else None) ≡ Some m → IsSchemeOpened f.has_mac (of_scrypt par) c
+unfolding scheme_openable scheme_count scheme_taken scheme_cost
+scrypt_opened f par c m h = record { openable = not_none (scrypt_opens par) (opened par f.utf8 c) m h; some_rounds = omega arith; all = refl }
+
 pub scheme_opened : (f : Forms) (s : SchemeOf) (c m : List ℕ) → scheme_unlock f s c ≡ Some m → IsSchemeOpened f.has_mac s c
 unfolding scheme_unlock
 scheme_opened f (of_old s) c m h = old_opened f.has_mac s f.units c m h
+scheme_opened f (of_scrypt par) c m h = scrypt_opened f par c m h
 scheme_opened f (of_p12 a) c m h = own_opened f a c m h
 
 pub scheme_taken_most : (s : SchemeOf) (c : List ℕ) → scheme_taken s c ≤ scheme_cost s
 unfolding old_taken scheme_taken scheme_cost
 scheme_taken_most (of_old s) c = at_most (old_fits s c) (2 * s.iterations)
+scheme_taken_most (of_scrypt par) c = omega arith
 scheme_taken_most (of_p12 a) c = own_taken_most a c
 
-salt_kept : (a : AlgorithmIdentifier) (o : Option SchemeParts) → length (salt_of a) < 2 ^ 59 → length (scheme_salt (old_or_p12 a o)) < 2 ^ 59
+pbes2_salt : (par : Parameters) (k : Kdf) → length (scheme_salt (pbes2_scheme par k)) < 2 ^ 59
+unfolding scheme_salt
+pbes2_salt par (Pbkdf2 p) = omega arith
+pbes2_salt par (Scrypt p) = omega arith
+
+own_salt : (a : AlgorithmIdentifier) → length (salt_of a) < 2 ^ 59 → length (scheme_salt (own_scheme a)) < 2 ^ 59
+unfolding scheme_salt
+own_salt Sha1 h = h
+own_salt Sha256 h = h
+own_salt (PbewithSHAAnd40BitRC2CBC p) h = h
+own_salt (PbeWithSHAAnd3KeyTripleDESCBC p) h = h
+own_salt (Pbes2 par) h = pbes2_salt par par.kdf
+own_salt (OtherAlg o) h = h
+
+salt_kept : (a : AlgorithmIdentifier) (o : Option SchemeParts) → length (salt_of a) < 2 ^ 59 → length (scheme_salt (old_or_own a o)) < 2 ^ 59
 unfolding scheme_salt
 salt_kept a (Some s) h = omega arith
-salt_kept a None h = h
+salt_kept a None h = own_salt a h
 
 pub short_salt : (a : AlgorithmIdentifier) → length (salt_of a) < 2 ^ 59 → length (scheme_salt (scheme_of a)) < 2 ^ 59
 unfolding scheme_of

@@ -6,6 +6,12 @@ use Rattle.std.proofs.lemmas.Bool.{lt-ltb}
 use Rattle.sha1.specs.Sha1.{sha1}
 use Rattle.sha2.specs.Sha256.{sha256}
 use Rattle.pkcs12_kdf.specs.Mac.{mac_under}
+use Rattle.asn1_core.specs.OctetLaws.{both}
+use Rattle.pkcs5.specs.Kinds.{is_pbkdf2, key_size}
+use Rattle.pkcs5.specs.Opening.{states_length}
+use Rattle.pkcs5.specs.declared.pbes2.kdf.Kdf.{Kdf}
+use Rattle.pkcs5.specs.declared.pbes2.kdf.Kdf.TheVariants.{Pbkdf2, Scrypt}
+use Rattle.pkcs5.specs.declared.pbes2.parameters.Parameters.{Parameters}
 use Rattle.p12.specs.AlgorithmIdentifier.{cost, count, openable, taken, unlock}
 use Rattle.p12.specs.declared.algorithm_identifier.AlgorithmIdentifier.{AlgorithmIdentifier}
 use Rattle.p12.specs.declared.algorithm_identifier.AlgorithmIdentifier.TheVariants.{Sha1, Sha256, PbewithSHAAnd40BitRC2CBC, PbeWithSHAAnd3KeyTripleDESCBC, Pbes2, OtherAlg}
@@ -22,7 +28,7 @@ use Rattle.transfer.specs.declared.store.error.TransferError.{TransferError}
 use Rattle.transfer.specs.declared.store.error.TransferError.TheVariants.{Malformed, Unsupported, MacUnsupported, MacMismatch, ContentMalformed, KeyMalformed}
 use Rattle.transfer.proofs.Faults.{true_false}
 use Rattle.transfer.proofs.Valid.{not_refused}
-use Rattle.legacy_store.specs.Algorithm.{legacy_cost, legacy_count, legacy_openable, legacy_taken, legacy_unlock, p12_taken, p12_unlock, scheme_cost, scheme_count, scheme_of, scheme_openable, scheme_taken, scheme_unlock}
+use Rattle.legacy_store.specs.Algorithm.{SchemeOf, legacy_cost, legacy_count, legacy_openable, legacy_taken, legacy_unlock, p12_taken, p12_unlock, pbes2_scheme, scheme_cost, scheme_count, scheme_of, scheme_openable, scheme_taken, scheme_unlock}
 use Rattle.legacy_store.specs.Forms.{Forms, forms_of}
 use Rattle.legacy_store.specs.Laws.{RefusesStoresAsBefore, stays_refused}
 use Rattle.legacy_store.specs.declared.mac_rule.MacRule.TheVariants.{Required}
@@ -43,7 +49,32 @@ other_cause p e g s k is = absurd (not_one p e g s k (refused_same e g is))
 
 -- ---- Locked texts
 
--- What p12 opens a text to, and its work, are the same here.
+-- What p12 opens a text to, and its work, are the same under a scheme.
+record SameUnder (p : List ℕ) (a : AlgorithmIdentifier) (c : List ℕ) (s : SchemeOf) : Type 0 where
+  opens : scheme_openable true s ≡ true
+  rounds : scheme_count s ≡ count a
+  share : scheme_cost s ≡ cost a
+  steps : scheme_taken s c ≡ taken a c
+  text : scheme_unlock (forms_of p) s c ≡ unlock a p c
+
+-- p12 opens nothing by scrypt.
+same_pbes2 : (p : List ℕ) (par : Parameters) (k : Kdf) (c : List ℕ) → par.kdf ≡ k → openable (Pbes2 par) ≡ true → SameUnder p (Pbes2 par) c (pbes2_scheme par k)
+unfolding unlock taken scheme_unlock scheme_taken scheme_openable scheme_count scheme_cost p12_unlock p12_taken
+same_pbes2 p par (Pbkdf2 k) c is h = record { opens = h; rounds = refl; share = refl; steps = refl; text = refl }
+same_pbes2 p par (Scrypt k) c is h =
+    let by_rounds = (both (is_pbkdf2 par.kdf) (states_length par.kdf (key_size par.encryption)) h).0 in
+    absurd (true_false (is_pbkdf2 par.kdf) by_rounds (ap is_pbkdf2 is))
+
+under_own : (p : List ℕ) (a : AlgorithmIdentifier) (c : List ℕ) → openable a ≡ true → SameUnder p a c (scheme_of a)
+unfolding unlock taken scheme_of scheme_unlock scheme_taken scheme_openable scheme_count scheme_cost p12_unlock p12_taken
+under_own p Sha1 c h = absurd cc
+under_own p Sha256 c h = absurd cc
+under_own p (PbewithSHAAnd40BitRC2CBC params) c h = absurd cc
+under_own p (PbeWithSHAAnd3KeyTripleDESCBC params) c h = record { opens = refl; rounds = refl; share = refl; steps = refl; text = refl }
+under_own p (Pbes2 par) c h = same_pbes2 p par par.kdf c refl h
+under_own p (OtherAlg o) c h = absurd cc
+
+-- And so in this crate.
 record SameLock (p : List ℕ) (a : AlgorithmIdentifier) (c : List ℕ) : Type 0 where
   opens : legacy_openable true a ≡ true
   rounds : legacy_count a ≡ count a
@@ -52,13 +83,8 @@ record SameLock (p : List ℕ) (a : AlgorithmIdentifier) (c : List ℕ) : Type 0
   text : legacy_unlock (forms_of p) a c ≡ unlock a p c
 
 same_lock : (p : List ℕ) (a : AlgorithmIdentifier) (c : List ℕ) → openable a ≡ true → SameLock p a c
-unfolding unlock taken legacy_unlock legacy_taken scheme_of scheme_unlock scheme_taken scheme_openable scheme_count scheme_cost p12_unlock p12_taken
-same_lock p Sha1 c h = absurd cc
-same_lock p Sha256 c h = absurd cc
-same_lock p (PbewithSHAAnd40BitRC2CBC params) c h = absurd cc
-same_lock p (PbeWithSHAAnd3KeyTripleDESCBC params) c h = record { opens = refl; rounds = refl; share = refl; steps = refl; text = refl }
-same_lock p (Pbes2 par) c h = record { opens = h; rounds = refl; share = refl; steps = refl; text = refl }
-same_lock p (OtherAlg o) c h = absurd cc
+unfolding legacy_unlock legacy_taken
+same_lock p a c h = let s = under_own p a c h in record { opens = s.opens; rounds = s.rounds; share = s.share; steps = s.steps; text = s.text }
 
 module _ (p : List ℕ) (limit sum : ℕ) (a : AlgorithmIdentifier) (c : List ℕ) (e : TransferError) (n : ℕ) (known : e ≢ Unsupported) where
   lock_as_before : (rest next : List ℕ → TransferError → ℕ → Type 0) → (legacy_cost a ≡ cost a → (m : List ℕ) → rest m e n → next m e n) → LockFault p limit sum a c rest e n

@@ -1,5 +1,5 @@
 -- What is in DER already, and what lists no contents.
-use Rattle.std.proofs.Common.{◌≡◌, ◌∙◌, ℕ, List, Bool, inl, inr, refl, sym, false, ap, subst}
+use Rattle.std.proofs.Common.{◌≡◌, ◌∙◌, ℕ, List, inl, inr, refl, sym, false, ap, subst}
 use Rattle.std.specs.Prelude.{Option, Some, None, Result, Ok, Err, IsNone, IfOk, IfErr, IfSome, IfNone, ◌↔◌}
 use Rattle.std.specs.Result.{is_ok}
 use Rattle.der_core.specs.Optional.{writable_option}
@@ -15,7 +15,6 @@ use Rattle.p12.proofs.Again.{store_writes}
 use Rattle.p12.proofs.DefinitionLaws.{store_sole}
 use Rattle.legacy_store.specs.InDer.{IsInDer, IsWholeInDer, ListsNothing, NoListedStore, StaysAsItIs}
 use Rattle.legacy_store.specs.Texts.{IsLegacySafe, IsLegacyStore, NoLegacySafe, NoLegacyStore}
-use Rattle.legacy_store.proofs.Normal.{der_is_read}
 use Rattle.legacy_store.proofs.Verdict.{legacy_store_sole}
 
 -- The MAC of a store that was read can be written.

@@ -1,5 +1,6 @@
 pub mod Forms
 pub mod Scheme
+pub mod Scrypt
 pub mod Algorithm
 pub mod Pbmac1
 pub mod Mac

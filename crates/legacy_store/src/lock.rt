@@ -10,6 +10,7 @@ ghost use Rattle.legacy_store.specs.Opening.{LegacyLockFault, SchemeLockFault};
 use crate::budget::Budget;
 use crate::old_text::opened_old;
 use crate::scheme::Scheme;
+use crate::scrypt_text::opened_scrypt;
 use crate::secret::Secret;
 use asn1_core::Octets;
 use p12::AlgorithmIdentifier;
@@ -82,6 +83,9 @@ fn decrypt<L: Ledger>(
 {
     match scheme {
         Scheme::Old(old) => opened_old(alloc, old, ciphertext, secret.units, steps),
+        Scheme::Scrypt(parameters) => {
+            opened_scrypt(alloc, parameters, ciphertext, secret.text.as_bytes(), steps)
+        }
         Scheme::Own(algorithm) => decrypt_own(alloc, algorithm, ciphertext, secret, steps),
     }
 }

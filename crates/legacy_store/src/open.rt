@@ -243,14 +243,15 @@ fn open_by_cause<L: Ledger>(
 
 /// Opens an old store under the password, and keeps it as one text. It opens what `transfer::open_safe` opens, and stores beyond these:
 /// the text of the store and that of its list of contents in BER, with encrypted octets in parts; texts under RC2 with 40 or 128 bits and
-/// under Triple DES with two keys; MACs under SHA-224, SHA-384 and SHA-512, and PBMAC1; and, where the password is empty, stores whose
-/// writer took the empty password as no octets at all. Where the rule does not require a MAC, it opens stores without one too, under the
-/// password alone: nothing says then that who wrote such a store knew the password, so what is under 40-bit RC2 in it is `Unsupported`.
+/// under Triple DES with two keys; texts under PBES2 with scrypt (RFC 7914) that takes at most 67,108,864 octets of memory, 128 * r * N and
+/// 256 * r * p beside them; MACs under SHA-224, SHA-384 and SHA-512, and PBMAC1; and, where the password is empty, stores whose writer took
+/// the empty password as no octets at all. Where the rule does not require a MAC, it opens stores without one too, under the password alone:
+/// nothing says then that who wrote such a store knew the password, so what is under 40-bit RC2 in it is `Unsupported`.
 ///
-/// `limit` is the most steps. A step is one digest of an iteration of RFC 7292 appendix B, or one output of the pseudorandom
-/// function of PBKDF2; the MAC of a store with an empty password may take its steps twice. The refusals are those of
-/// `transfer::open_safe`, in their order; each comes exactly where it is the first cause, but running out of memory may come in its
-/// place.
+/// `limit` is the most steps. A step is one digest of an iteration of RFC 7292 appendix B, one output of the pseudorandom function of
+/// PBKDF2, or one Salsa20/8 core of scrypt, which computes 4 * N * r * p of them; the MAC of a store with an empty password may take its
+/// steps twice. The refusals are those of `transfer::open_safe`, in their order; each comes exactly where it is the first cause, but running
+/// out of memory may come in its place.
 ///
 /// Caller: the password has fewer than 2^56 octets.
 pub fn open_legacy_safe<L: Ledger>(

@@ -5,12 +5,14 @@ ghost use Rattle.asn1_core.specs.Oid.{oid_octets};
 ghost use Rattle.asn1_core.specs.Reading.{whole};
 ghost use Rattle.asn1_core.specs.Texts.{seen_option};
 ghost use Rattle.p12.specs.Reading.{params_at};
-ghost use Rattle.legacy_store.specs.Algorithm.{scheme_cost, scheme_count, scheme_of, scheme_openable, seen_scheme};
+ghost use Rattle.legacy_store.specs.Algorithm.{own_scheme, scheme_cost, scheme_count, scheme_of, scheme_openable, seen_scheme};
 ghost use Rattle.legacy_store.specs.Scheme.{cipher_named, found_params, key_octets, old_scheme, opens_with, other_scheme, params_in, seen_old, seen_params, with_cipher};
 
 use crate::identifiers::{PBE_WITH_SHA1_AND_2KEY_TRIPLE_DES_CBC, PBE_WITH_SHA1_AND_128BIT_RC2_CBC};
+use crate::scrypt_text;
 use asn1_core::{ObjectIdentifier, Octets, Reader, SliceReader, Tag, read_inner, read_uint};
 use p12::{AlgorithmIdentifier, OtherAlgorithmIdentifier};
+use pkcs5::pbes2::{Kdf, Parameters};
 
 /// More octets than a salt in a store has.
 pub(crate) const SALT_LIMIT: usize = 16_777_216;
@@ -61,6 +63,8 @@ pub(crate) struct OldScheme<'a> {
 pub(crate) enum Scheme<'a> {
     /// One that p12 does not open.
     Old(OldScheme<'a>),
+    /// PBES2 with scrypt.
+    Scrypt(&'a Parameters),
     /// An algorithm as p12 opens it, or does not.
     Own(&'a AlgorithmIdentifier),
 }
@@ -171,6 +175,23 @@ fn old_scheme(algorithm: &AlgorithmIdentifier) -> Option<OldScheme<'_>>
     }
 }
 
+/// The scheme of an algorithm that is no old one.
+fn own_scheme(algorithm: &AlgorithmIdentifier) -> Scheme<'_>
+    ensures { seen_scheme result ≡ own_scheme algorithm.now }
+{
+    match algorithm {
+        AlgorithmIdentifier::Pbes2(parameters) => match &parameters.kdf {
+            Kdf::Pbkdf2(_) => Scheme::Own(algorithm),
+            Kdf::Scrypt(_) => Scheme::Scrypt(parameters),
+        },
+        AlgorithmIdentifier::Sha1
+        | AlgorithmIdentifier::Sha256
+        | AlgorithmIdentifier::PbewithSHAAnd40BitRC2CBC(_)
+        | AlgorithmIdentifier::PbeWithSHAAnd3KeyTripleDESCBC(_)
+        | AlgorithmIdentifier::OtherAlg(_) => Scheme::Own(algorithm),
+    }
+}
+
 impl<'a> Scheme<'a> {
     /// The scheme of an algorithm.
     #[tactic(auto, unfolding(crate::specs::Algorithm::scheme_of))]
@@ -179,7 +200,7 @@ impl<'a> Scheme<'a> {
     {
         match old_scheme(algorithm) {
             Some(scheme) => Scheme::Old(scheme),
-            None => Scheme::Own(algorithm),
+            None => own_scheme(algorithm),
         }
     }
 
@@ -191,17 +212,19 @@ impl<'a> Scheme<'a> {
         match self {
             Scheme::Old(scheme) => scheme.cipher.opens_with(has_mac)
                 && scheme.salt.len() < SALT_LIMIT,
+            Scheme::Scrypt(parameters) => scrypt_text::is_openable(parameters),
             Scheme::Own(algorithm) => algorithm.is_openable(),
         }
     }
 
-    /// How many rounds derive the key.
+    /// How many rounds derive the key. That of scrypt is the one round of PBKDF2 in it (RFC 7914 section 6).
     #[tactic(auto, unfolding(crate::specs::Algorithm::scheme_count))]
     pub(crate) fn count(&self) -> u64
         ensures { result ≡ scheme_count (seen_scheme self.now) }
     {
         match self {
             Scheme::Old(scheme) => scheme.iterations,
+            Scheme::Scrypt(_) => 1,
             Scheme::Own(algorithm) => algorithm.count(),
         }
     }
@@ -213,6 +236,7 @@ impl<'a> Scheme<'a> {
     {
         match self {
             Scheme::Old(scheme) => 2 * u128::from(scheme.iterations),
+            Scheme::Scrypt(parameters) => scrypt_text::cost(parameters),
             Scheme::Own(algorithm) => algorithm.cost(),
         }
     }

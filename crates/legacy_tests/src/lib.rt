@@ -20,4 +20,8 @@ mod pbmac1_stores;
 #[cfg(test)]
 mod rc2_blocks;
 #[cfg(test)]
+mod scrypt_opened;
+#[cfg(test)]
+mod scrypt_stores;
+#[cfg(test)]
 mod stores_opened;

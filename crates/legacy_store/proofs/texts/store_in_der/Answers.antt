@@ -1,8 +1,7 @@
 use Rattle.std.proofs.Common.{◌-◌, ◌^◌, subst, refl}
-use Rattle.std.specs.Prelude.{Option, IfOk, IfSome, IfNone, IsNone, ◌↔◌}
+use Rattle.std.specs.Prelude.{Option, IfSome}
 use Rattle.p12.specs.declared.pfx.PFX.{PFX}
 use Rattle.p12.specs.Pfx.{StoreFits}
-use Rattle.legacy_store.specs.InDer.{IsWholeInDer, ListsNothing, StaysAsItIs}
 use Rattle.legacy_store.specs.Texts.{IsLegacyStore}
 use Rattle.legacy_store.proofs.Stays.{each_or_none, mac_writable}
 use Rattle.legacy_store.proofs.texts.store_in_der.Goals as goal
