@@ -6,7 +6,7 @@ mod Schemes
 mod Hashes
 mod Parts
 mod ContentTexts
-mod ScryptCosts
+pub mod ScryptCosts
 mod Opened
 mod Locks
 mod Rows

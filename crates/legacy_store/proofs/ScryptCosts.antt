@@ -1,7 +1,7 @@
 -- The costs that scrypt takes within the bound on memory, and what opens by it.
 use Rattle.std.proofs.Common.{◌≡◌, ◌∙◌, inl, inr, ℕ, zero, suc, ◌+◌, ◌*◌, ◌^◌, ◌<◌, ◌≤◌, Bool, true, false, List, None, refl, sym, ap, arith, nat_lt, subst}
 use Rattle.std.specs.Prelude.{◌==◌, ◌&&◌, ◌||◌, nat_le}
-use Rattle.std.proofs.lemmas.Bool.{and_from, and_left, and_parts, cases_Bool, cases_lt, eq-eqb, eqb-true, leb-true, lt-ltb, ltb-true, or_cases}
+use Rattle.std.proofs.lemmas.Bool.{and_from, and_left, and_parts, cases_Bool, cases_lt, eq-eqb, eqb-true, leb-true, le-leb, lt-ltb, ltb-true, or_cases}
 use Rattle.std.proofs.Math.Nat.{mul_assoc, mul-le-mul_right}
 use Rattle.std.proofs.Math.Pow.{pow_mono}
 use Rattle.scrypt_core.specs.Params.{Lawful}
@@ -13,6 +13,7 @@ use Rattle.pkcs5.specs.declared.error.Error.TheVariants as errors
 use Rattle.pkcs5.specs.declared.pbes2.kdf.Kdf.TheVariants.{Scrypt}
 use Rattle.pkcs5.specs.declared.pbes2.parameters.Parameters.{Parameters}
 use Rattle.pkcs5.specs.declared.pbes2.scrypt_params.ScryptParams.{ScryptParams}
+use Rattle.legacy_store.specs.Laws.{ScryptFitsExactly}
 use Rattle.legacy_store.specs.Scrypt.{is_power, scrypt_fits, scrypt_memory, scrypt_memory_limit, takes_turns}
 
 or_left : (x y : Bool) → x ≡ true → (x || y) ≡ true
@@ -118,6 +119,18 @@ not_taken s none = elim (cases_Bool (scrypt_fits s)) [
   | inl h ↦ absurd (none (costs_taken s h))
   | inr h ↦ sym h
 ]
+
+fits_memory : (s : ScryptParams) → scrypt_fits s ≡ true → scrypt_memory s ≤ scrypt_memory_limit
+unfolding scrypt_fits
+fits_memory s h =
+    let rest = nat_lt 0 s.block_size && (nat_lt 0 s.parallelization && takes_turns s.cost_parameter s.block_size) in
+    leb-true (scrypt_memory s) scrypt_memory_limit (and_parts (nat_le (scrypt_memory s) scrypt_memory_limit) rest h).0
+
+pub fits_exactly : ScryptFitsExactly
+fits_exactly s = (
+  λ h. (costs_taken s h, fits_memory s h),
+  λ h. fits_within s h.0.0 h.0.1 h.0.2 (le-leb (scrypt_memory s) scrypt_memory_limit h.1),
+)
 
 -- ---- Opening
 

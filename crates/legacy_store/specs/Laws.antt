@@ -1,5 +1,8 @@
 -- What was opened before is opened as before; and a store opens in one way.
 use Rattle.std.specs.Prelude.{◌≡◌, ℕ, ◌≤◌, ◌↔◌, nat_lt, Bool, true, false, List, length, Some}
+use Rattle.pkcs5.specs.Opening.{TakesCosts}
+use Rattle.pkcs5.specs.declared.pbes2.kdf.Kdf.TheVariants.{Scrypt}
+use Rattle.pkcs5.specs.declared.pbes2.scrypt_params.ScryptParams.{ScryptParams}
 use Rattle.p12.specs.AlgorithmIdentifier.{unlock}
 use Rattle.p12.specs.declared.algorithm_identifier.AlgorithmIdentifier.{AlgorithmIdentifier}
 use Rattle.p12.specs.ContentInfo.{IsContents}
@@ -16,6 +19,7 @@ use Rattle.legacy_store.specs.Forms.{forms_of}
 use Rattle.legacy_store.specs.Joined.{JoinedSafe}
 use Rattle.legacy_store.specs.declared.mac_rule.MacRule.{MacRule}
 use Rattle.legacy_store.specs.Opening.{HasLegacyVerdict, HasVerdictUnder}
+use Rattle.legacy_store.specs.Scrypt.{scrypt_fits, scrypt_memory, scrypt_memory_limit}
 use Rattle.legacy_store.specs.Texts.{IsLegacyStore}
 use Rattle.legacy_store.specs.Verdicts.{OpensUnder}
 
@@ -66,3 +70,8 @@ SameWithMac = (one other : MacRule) (b p : List ℕ) (limit : ℕ) (s : PFX) (m 
 -- A list of contents in DER is its own text: nothing is joined in it.
 abbrev pub DerListsStay : Type 0
 DerListsStay = (v : List ℕ) (cs : List ContentInfo) → IsContents v cs → JoinedSafe v v
+
+-- The costs that fit are those that scrypt takes within the bound on memory.
+abbrev pub ScryptFitsExactly : Type 0
+ScryptFitsExactly = (s : ScryptParams) → (scrypt_fits s ≡ true)
+    ↔ (TakesCosts (Scrypt s) × (scrypt_memory s ≤ scrypt_memory_limit))

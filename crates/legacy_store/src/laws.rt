@@ -1,5 +1,5 @@
 //! Laws of the way of opening: each is the contract of a function that does nothing.
-ghost use Rattle.legacy_store.specs.Laws.{DerListsStay, LegacyOpenedExactly, OneLegacyVerdict, OpensStoresAsBefore, OpensTextsAsBefore, RefusesStoresAsBefore, SameWithMac};
+ghost use Rattle.legacy_store.specs.Laws.{DerListsStay, LegacyOpenedExactly, OneLegacyVerdict, OpensStoresAsBefore, OpensTextsAsBefore, RefusesStoresAsBefore, SameWithMac, ScryptFitsExactly};
 
 /// A text that p12 opens opens to the same octets.
 #[tactic(auto, using(crate::proofs::Conservative::texts_as_before))]
@@ -41,4 +41,10 @@ pub fn same_with_mac()
 #[tactic(auto, using(crate::proofs::Unparted::lists_stay))]
 pub fn der_lists_stay()
     ensures { DerListsStay }
+{}
+
+/// The costs of scrypt that a text is opened under are those that scrypt takes within the bound on memory.
+#[tactic(auto, using(crate::proofs::ScryptCosts::fits_exactly))]
+pub fn scrypt_fits_exactly()
+    ensures { ScryptFitsExactly }
 {}
