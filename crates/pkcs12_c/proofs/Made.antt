@@ -1,5 +1,5 @@
 -- What making a store of entries comes to, over random octets that are given.
-use Rattle.std.proofs.Common.{ℕ, ◌≡◌, ◌≤◌, ◌<◌, ◌^◌, ◌∙◌, List, ap, subst, sym}
+use Rattle.std.proofs.Common.{ℕ, ◌≡◌, ◌≤◌, ◌<◌, ◌^◌, ◌∙◌, List, ap, subst}
 use Rattle.std.specs.Prelude.{Option, Some, Result, Ok, Err, IfOk, IfErr}
 use Rattle.create_core.specs.Created.{DrawsAndCreates, RefusesToCreate}
 use Rattle.create_core.specs.Laws.{CreatedOpens}

@@ -1,4 +1,4 @@
-use Rattle.std.proofs.Common.{◌≡◌, List, ℕ, arith, refl, subst}
+use Rattle.std.proofs.Common.{List, ℕ, arith, subst}
 use Rattle.std.specs.Prelude.{Ok}
 use Rattle.std.specs.Option.{option_copied}
 use Rattle.pkcs12_c.specs.Answers.{AreRounds, Fills}

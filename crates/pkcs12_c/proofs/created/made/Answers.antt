@@ -1,4 +1,4 @@
-use Rattle.std.proofs.Common.{◌≡◌, ◌<◌, ◌^◌, List, ℕ, arith, rules}
+use Rattle.std.proofs.Common.{◌≡◌, ◌<◌, ◌^◌, arith, rules}
 use Rattle.std.specs.Prelude.{Some}
 use Rattle.create_core.specs.Created.{DrawsAndCreates, RefusesToCreate}
 use Rattle.pkcs12_c.specs.Created.{IsMade, RefusesToMake, asked_by}
