@@ -89,6 +89,17 @@ made_by_bouncycastle_ber() { of_bouncycastle "$1" PKCS12-3DES-3DES BER; }
 made_by_bouncycastle_rc2() { of_bouncycastle "$1" PKCS12 DER; }
 made_by_bouncycastle_ber_rc2() { of_bouncycastle "$1" PKCS12 BER; }
 
+# By GnuPG, which gives the pair no friendly name that was put in.
+made_by_gpgsm() {
+    of_openssl "$work/to-import.p12" -certpbe PBE-SHA1-3DES -keypbe PBE-SHA1-3DES -macalg sha1 || return 1
+    rm -rf "$work/gpg" && mkdir -m 700 "$work/gpg" && of_gpgsm --disable-crl-checks --import "$work/to-import.p12" >"$work/told" 2>&1 &&
+        of_gpgsm --export-secret-key-p12 rsa.example >"$1" 2>"$work/told"
+    made=$?
+    gpgconf --homedir "$work/gpg" --kill all 2>"$work/told" || :
+    return "$made"
+}
+of_gpgsm() { gpgsm --homedir "$work/gpg" --batch --pinentry-mode loopback --passphrase-fd 0 "$@" <"$work/old"; }
+
 # --- what comes out ---
 
 # The folder $1 has the key of RSA, under the new password, and its certificate.
@@ -169,6 +180,7 @@ holds keytool_legacy opens_store_of keytool_legacy 11 Unsupported "$short_rc2"
 holds bouncycastle_ber opens_store_of bouncycastle_ber 10 Malformed "$in_ber"
 holds bouncycastle_rc2 opens_store_of bouncycastle_rc2 11 Unsupported "$short_rc2"
 holds bouncycastle_ber_rc2 opens_store_of bouncycastle_ber_rc2 10 Malformed "$short_rc2"
+holds gpgsm opens_store_of gpgsm 11 Unsupported "$short_rc2"
 
 # --- PBMAC1, which is newer than the stores of today ---
 
@@ -246,6 +258,14 @@ java_without_mac() {
         grep -qF 'rsa.example' "$work/said"
 }
 holds a_trust_store_of_java_without_a_password java_without_mac
+# Where there is no MAC and nothing is encrypted, no password is asked for, since none decides anything.
+no_password_decides() {
+    openssl pkcs12 -export -nokeys -in "$work/rsa-cert.pem" -nomac -certpbe NONE -passout pass: -out "$work/open.p12" 2>"$work/told" &&
+        ends 0 check "$work/open.p12" --allow-no-mac && grep -qxF 'MAC: none' "$work/said" &&
+        ends 0 list "$work/open.p12" --allow-no-mac && grep -qF 'rsa.example' "$work/said" &&
+        fails 12 MacMissing '' check "$work/open.p12" && fails 8 PasswordMissing '' check "$work/bare.p12" --allow-no-mac
+}
+holds a_store_that_no_password_protects_asks_for_none no_password_decides
 
 # --- no password at all ---
 

@@ -1,7 +1,7 @@
 -- PBMAC1 (RFC 8018 section 7.1 and appendix A.5) as the MAC of a store (RFC 9579): HMAC under a key
 -- that PBKDF2 derives from the password in UTF-8. The salt and the count of MacData have no part in
 -- it.
-use Rattle.std.specs.Prelude.{ℕ, ◌*◌, ◌==◌, if◌then◌else◌, List, [], ◌∷◌, Option, Some, None, Result, Ok, Err}
+use Rattle.std.specs.Prelude.{ℕ, ◌*◌, nat_lt, if◌then◌else◌, List, [], ◌∷◌, Option, Some, None, Result, Ok, Err}
 use Rattle.asn1_core.specs.Reading.{Fault, Front, ended, on, whole, within}
 use Rattle.pbkdf2.specs.Pbkdf2.{block_count}
 use Rattle.pkcs5.specs.Opening.{derived, prf_of, prf_output}
@@ -25,10 +25,15 @@ pbmac1_params k h = record { kdf = k; hmac = h }
 unfoldable pub pbmac1_params_at : Front Pbmac1Params
 pbmac1_params_at = within 0x30 (on kdf_at (λ k. on prf_at (λ h. ended (pbmac1_params k h))))
 
--- with a length of the key that is stated, and not 0
+-- The least octets of a key, which are those of the shortest digest, SHA-1's: a shorter key could be
+-- guessed, so that a MAC would agree that was made without the password.
+abbrev pub least_key_octets : ℕ
+least_key_octets = 20
+
+-- with a length of the key that is stated, and not less than the least
 abbrev pub with_length : Pbkdf2Params → Pbkdf2Prf → Option ℕ → Option Pbmac1
 with_length p h None = None
-with_length p h (Some n) = if n == 0 then None
+with_length p h (Some n) = if nat_lt n least_key_octets then None
     else Some (record { derivation = p; key_length = n; hmac = h })
 
 -- by PBKDF2 alone

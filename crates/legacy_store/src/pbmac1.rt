@@ -18,6 +18,9 @@ use std::alloc::{AllocError, Global};
 use std::sync::ledger::Ledger;
 use steps::Steps;
 
+/// The least octets of a key: as many as the shortest digest has, SHA-1's.
+const LEAST_KEY_OCTETS: u16 = 20;
+
 /// The parameters of PBMAC1 (RFC 8018 appendix A.5).
 ///
 /// ```text
@@ -65,17 +68,17 @@ fn whole_params(mut element: SliceReader<'_>) -> Result<Pbmac1Params, asn1_core:
     Ok(params)
 }
 
-/// HMAC under a key of PBKDF2, if a length of the key is stated that is not 0 (RFC 9579 wants one).
+/// HMAC under a key of PBKDF2, if a length of the key is stated, as RFC 9579 asks for, and is not less than the least.
 fn with_length(derivation: &Pbkdf2Params, hmac: Pbkdf2Prf) -> Option<Pbmac1>
     ensures { result ≡ with_length derivation.now hmac derivation.now.key_length }
 {
     match derivation.key_length {
-        Some(0) | None => None,
-        Some(key_length) => Some(Pbmac1 {
+        Some(key_length) if key_length >= LEAST_KEY_OCTETS => Some(Pbmac1 {
             derivation: *derivation,
             key_length,
             hmac,
         }),
+        Some(_) | None => None,
     }
 }
 

@@ -207,7 +207,7 @@ fn with_subcommands<'a>(alloc: Global, command: Command<'a>) -> Result<Command<'
 pub fn command<'a>(alloc: Global) -> Result<Command<'a>, AllocError> {
     let command = Command::new(alloc, "passdb")
         .bin_name("passdb")?
-        .version("0.2.0")
+        .version("1.0.0")
         .about("Keep a file of names and password hashes")
         .after_help(AFTER)
         .subcommand_required(true)

@@ -8,9 +8,8 @@ ghost use Rattle.store_renewal.specs.Renewals.{RenewsOld};
 
 use crate::new_work::too_much_work;
 use asn1_core::Octets;
-use command_base::Password;
 use octet_core::{Draw, FileDraw};
-use p12::{CertBag, SafeBag, SafeBagKind};
+use p12::{BagView, BagsView};
 use pkcs12_arguments::{Accepted, Rekey, UpgradeRounds};
 use pkcs12_inspection::{Listing, OtherBag, counts};
 use pkcs12_opening::{
@@ -28,7 +27,7 @@ use std::rt::{Env, Files, Runtime};
 use std::sync::ledger::{Blank, Ledger};
 use steps::Steps;
 use store_renewal::upgrade_any;
-use transfer::{Opened, TransferError};
+use transfer::{OpenedSafe, TransferError};
 
 /// A change of the password of a store.
 #[derive(Clone, Copy)]
@@ -88,7 +87,7 @@ fn changed_from<D: Draw, L: Ledger>(
 fn failure_of(
     alloc: Global,
     change: &Change<'_>,
-    before: &Opened,
+    before: &OpenedSafe,
     refusal: TransferError,
 ) -> Failure
     ensures { (result.ending ≡ ending_of_refusal refusal) ⊎ (result.ending ≡ Memory) }
@@ -99,7 +98,7 @@ fn failure_of(
         (TransferError::WorkLimit, Some(rounds)) => too_much_work(
             alloc,
             store,
-            before.keys.len(),
+            before.number_of_keys(),
             rounds.count(),
             change.limit,
         ),
@@ -119,7 +118,7 @@ fn failure_of(
 fn changed<R: Files + AllocGlobal>(
     rt: &R,
     change: &Change<'_>,
-    before: &Opened,
+    before: &OpenedSafe,
 ) -> Result<Octets, Failure>
     ensures kept { IfNone change.now.upgrade (IfOk result (λ text. (before after : ℕ)
         × Rekeys change.now.given.now.store.items change.now.given.now.password
@@ -137,47 +136,46 @@ fn changed<R: Files + AllocGlobal>(
     }
 }
 
-/// Whether two bags are of one kind, and the same certificate where they are certificates.
-fn are_alike(one: &SafeBag, other: &SafeBag) -> bool {
-    match (&one.bag, &other.bag) {
-        (SafeBagKind::CertBag(CertBag::X509(one)), SafeBagKind::CertBag(CertBag::X509(other))) =>
+/// Whether two bags are of one kind, and have the same octets where they are no encrypted keys.
+fn are_alike(one: &BagView<'_>, other: &BagView<'_>) -> bool {
+    match (one, other) {
+        (BagView::X509(one), BagView::X509(other)) | (BagView::Sdsi(one), BagView::Sdsi(other)) =>
             one == other,
-        (one, other) => one.oid() == other.oid(),
+        (
+            BagView::Other { bag_id, bag_value },
+            BagView::Other {
+                bag_id: other_id,
+                bag_value: other_value,
+            },
+        ) => bag_id == other_id && bag_value == other_value,
+        (BagView::Shrouded { .. }, BagView::Shrouded { .. }) => true,
+        _ => false,
     }
+}
+
+/// Whether two lists have alike bags, and as many.
+fn are_all_alike(mut bags: BagsView<'_>, mut others: BagsView<'_>) -> bool {
+    while let Some(bag) = bags.next() {
+        match others.next() {
+            Some(other) if are_alike(&bag, &other) => {}
+            Some(_) | None => return false,
+        }
+    }
+    others.next().is_none()
 }
 
 /// Whether two opened stores have alike bags and the same private keys.
-fn have_the_same(one: &Opened, other: &Opened) -> bool {
-    if one.keys.as_slice() != other.keys.as_slice() || one.contents.len() != other.contents.len() {
+fn have_the_same(one: &OpenedSafe, other: &OpenedSafe) -> bool {
+    let contents = one.number_of_contents();
+    if one.keys() != other.keys() || contents != other.number_of_contents() {
         return false;
     }
-    for (bags, others) in one
-        .contents
-        .as_slice()
-        .iter()
-        .zip(other.contents.as_slice())
-    {
-        if bags.len() != others.len() {
+    for index in 0..contents {
+        if !are_all_alike(one.bags(index), other.bags(index)) {
             return false;
-        }
-        for (bag, other) in bags.as_slice().iter().zip(others.as_slice()) {
-            if !are_alike(bag, other) {
-                return false;
-            }
         }
     }
     true
-}
-
-/// Opens a store, and returns its bags and its private keys.
-fn opened_bags(
-    alloc: Global,
-    store: &[u8],
-    password: &Password,
-    limit: u64,
-) -> Result<Opened, Failure> {
-    let opened = opened_store(alloc, store, password, limit)?;
-    Ok(opened.into_opened(alloc)?)
 }
 
 /// Opens what was read back of the changed store under the new password, and compares it with the store that was changed.
@@ -185,10 +183,10 @@ fn compare(
     alloc: Global,
     found: &[u8],
     change: &Change<'_>,
-    before: &Opened,
+    before: &OpenedSafe,
 ) -> Result<(), Failure> {
     let password = change.new_password.as_password();
-    match opened_bags(alloc, found, password, change.limit) {
+    match opened_store(alloc, found, password, change.limit) {
         Ok(after) if have_the_same(before, &after) => Ok(()),
         Err(failure) if matches!(failure.ending, Ending::Memory) => Err(failure),
         _ => Err(Failure::new(
@@ -212,7 +210,7 @@ fn write_changed<R: Files<File = File> + Eprint + AllocGlobal>(
     rt: &R,
     file: &StoreFile<'_>,
     change: &Change<'_>,
-    before: &Opened,
+    before: &OpenedSafe,
     replaces_store: bool,
 ) -> Result<(), Failure> {
     let text = changed(rt, change, before)?;
@@ -330,9 +328,9 @@ fn is_kept_old() -> Failure
 {
     Failure::new(
         Ending::Refused(TransferError::Unsupported),
-        "rekey keeps the algorithms of a store, and this one has some that are opened alone",
+        "rekey keeps a store's algorithms, and this store has old ones, which are read but never written",
     )
-    .advised("To write it under the algorithms of today:\n    --upgrade")
+    .advised("To write the store under the algorithms of today:\n    --upgrade")
 }
 
 /// Opens the store, writes it under the new password into the file, and returns what it has.
@@ -351,11 +349,10 @@ fn write_rekeyed<R: Runtime<File = File> + AllocGlobal>(
         return Err(is_kept_old());
     }
     tell_old_parts(rt, change.given, &opened)?;
-    let opened = opened.safe;
-    let found = listing_of(rt.alloc(), &opened)?;
+    let before = opened.safe;
+    let found = listing_of(rt.alloc(), &before)?;
     warn_of_password(rt, change);
     warn_of_clear_keys(rt, change, &found);
-    let before = opened.into_opened(rt.alloc())?;
     let replaces_store = are_one(rt, path_of_store(asked.store), asked.out);
     write_changed(rt, file, change, &before, replaces_store)?;
     Ok(found)

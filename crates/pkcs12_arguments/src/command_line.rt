@@ -173,7 +173,7 @@ fn with_subcommands<'a>(alloc: Global, command: Command<'a>) -> Result<Command<'
 pub fn command<'a>(alloc: Global) -> Result<Command<'a>, AllocError> {
     let command = Command::new(alloc, "pkcs12")
         .bin_name("pkcs12")?
-        .version("0.2.0")
+        .version("1.0.0")
         .about(
             "Open a PKCS#12 store, and take out its certificates and private keys, or make one of them",
         )

@@ -326,17 +326,26 @@ fn mac_digest(store: &[u8]) -> Option<AlgorithmView<'_>> {
     }
 }
 
+/// What of PBMAC1 is not supported: the length of the key, since all that it is made with is.
+fn pbmac1_unsupported(alloc: Global, pbmac1: &Pbmac1) -> Result<Option<Detail>, AllocError> {
+    let text = match pbmac1.key_length() {
+        Some(octets) => format!(in alloc;
+            "the MAC of the store is made with {pbmac1} and a key of {octets} octets, of which at least 20 are needed"
+        )?,
+        None => format!(in alloc;
+            "the MAC of the store is made with {pbmac1}, whose parameters do not say how long the key is"
+        )?,
+    };
+    Ok(Some(Detail::of(text)))
+}
+
 /// What the MAC is made with that is not supported. The only error is out of memory.
 pub fn mac_unsupported(alloc: Global, store: &[u8]) -> Result<Option<Detail>, AllocError> {
     let Some(digest) = mac_digest(store) else {
         return Ok(None);
     };
-    if let Some(pbmac1) = Pbmac1::of(&digest)
-        && !pbmac1.has_key_length()
-    {
-        return Ok(Some(Detail::of(format!(in alloc;
-            "the MAC of the store is made with {pbmac1}, whose parameters do not say how long the key is"
-        )?)));
+    if let Some(pbmac1) = Pbmac1::of(&digest) {
+        return pbmac1_unsupported(alloc, &pbmac1);
     }
     let name = AlgorithmName(&digest);
     Ok(Some(Detail::of(format!(in alloc;

@@ -44,12 +44,9 @@ impl Pbmac1 {
         }
     }
 
-    /// Whether the length of the key is stated, as RFC 9579 asks for.
-    pub fn has_key_length(&self) -> bool {
-        match self.derivation.key_length {
-            Some(length) => length > 0,
-            None => false,
-        }
+    /// How many octets the key has, where that is stated, as RFC 9579 asks for.
+    pub fn key_length(&self) -> Option<u16> {
+        self.derivation.key_length
     }
 
     /// The steps of testing the MAC: one for each output of PBKDF2's function.

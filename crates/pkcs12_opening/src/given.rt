@@ -91,28 +91,37 @@ fn opened_by(
     }
 }
 
-/// What refuses a store that has no password yet: what is seen with no work at all, else that the
+/// What refuses a store that has no password yet and did not open with no work at all: the cause that is seen so, else that the
 /// password is missing.
-fn refused_unasked(alloc: Global, store: &[u8], limit: u64, accepted: Accepted) -> Failure {
-    let empty = Password::empty(alloc);
+fn refused_unasked(alloc: Global, failure: Failure, tried: &Attempt<'_>) -> Failure {
+    match failure.ending {
+        Ending::Refused(TransferError::WorkLimit)
+            if mac_steps(alloc, tried.store) <= tried.limit => password_missing(),
+        Ending::Refused(TransferError::MacMismatch) => password_missing(),
+        _ => with_detail(alloc, failure, tried),
+    }
+}
+
+/// The store under the empty password, where it opens under any since it has no MAC and nothing in it is encrypted.
+fn given_unasked(
+    alloc: Global,
+    store: Vec<u8>,
+    limit: u64,
+    accepted: Accepted,
+) -> Result<Given, Failure> {
+    let password = Password::empty(alloc);
     // Under this limit nothing is derived.
-    match opened_by(alloc, store, &empty, 0, accepted) {
-        Err(failure) => match failure.ending {
-            Ending::Refused(TransferError::WorkLimit) if mac_steps(alloc, store) <= limit => {
-                password_missing()
-            }
-            Ending::Refused(TransferError::MacMismatch) => password_missing(),
-            _ => {
-                let tried = Attempt {
-                    store,
-                    password: &empty,
-                    limit,
-                    accepted,
-                };
-                with_detail(alloc, failure, &tried)
-            }
-        },
-        Ok(_) => password_missing(),
+    match opened_by(alloc, store.as_slice(), &password, 0, accepted) {
+        Ok(_) => Ok(Given { store, password }),
+        Err(failure) => {
+            let tried = Attempt {
+                store: store.as_slice(),
+                password: &password,
+                limit,
+                accepted,
+            };
+            Err(refused_unasked(alloc, failure, &tried))
+        }
     }
 }
 
@@ -120,8 +129,8 @@ fn refused_unasked(alloc: Global, store: &[u8], limit: u64, accepted: Accepted) 
 /// steps of opening it.
 ///
 /// `ReadFault` where one of them cannot be read, `PasswordUnusable` where the password is not UTF-8 or has more than 1,024 octets.
-/// Without an origin it fails in any case: as `Refused` where the store is refused under any password, which takes no steps, and else
-/// as `PasswordMissing`.
+/// Without an origin the password is empty where the store opens under any, having no MAC and nothing encrypted. Else it fails: as
+/// `Refused` where the store is refused under any password, which takes no steps, and as `PasswordMissing` where it is not.
 pub fn read_given<R: Files + Env + Input + AllocGlobal>(
     rt: &R,
     path: &str,
@@ -134,7 +143,7 @@ pub fn read_given<R: Files + Env + Input + AllocGlobal>(
     }
     let store = read_store(rt, path)?;
     let Some(origin) = origin else {
-        return Err(refused_unasked(rt.alloc(), store.as_slice(), limit, accepted));
+        return given_unasked(rt.alloc(), store, limit, accepted);
     };
     let password = read_password(rt, "password", origin)?;
     Ok(Given { store, password })
