@@ -28,7 +28,7 @@ mod work;
 
 pub use certificate::CertificateView;
 pub use listed::Listed;
-pub use listing::{inventory, inventory_within};
+pub use listing::{inventory, inventory_within, opened_inventory};
 pub use parent::Parent;
 pub use subject_index::SubjectIndex;
 pub use top_call::inventory_run;

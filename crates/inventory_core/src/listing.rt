@@ -6,6 +6,7 @@ ghost use Rattle.transfer.specs.Opening.{HasVerdict, RefusedAfter, refused};
 ghost use Rattle.transfer.specs.Transferred.{IsDecided};
 ghost use Rattle.inventory_core.specs.Answers.{Inventories};
 ghost use Rattle.inventory_core.specs.Sheet.{IsListed};
+ghost use Rattle.inventory_core.specs.Table.{IsTable};
 
 use crate::listed::Listed;
 use crate::table::{table_of, table_within};
@@ -13,7 +14,7 @@ use octet_core::{Items, Text};
 use std::alloc::{AllocError, Global};
 use std::sync::ledger::Ledger;
 use steps::Steps;
-use transfer::{TransferError, open_safe};
+use transfer::{OpenedSafe, TransferError, open_safe};
 
 /// The lines of the inventory of a store.
 pub(crate) fn lines_of<L: Ledger>(
@@ -122,4 +123,17 @@ pub fn inventory_within<L: Ledger>(
         Ok(sheet) => Ok(sheet.finish()),
         Err(_) => Err(TransferError::Memory),
     }
+}
+
+/// The table of a store that another call has opened, as `inventory_within` returns it of a store. The only error is out of memory.
+pub fn opened_inventory(
+    alloc: Global,
+    opened: &OpenedSafe,
+    room: usize,
+) -> Result<Listed, AllocError>
+    ensures made { IfOk result (λ listed. (text : List ℕ) × IsTable opened.now.contents text
+        × IsListed room text listed) }
+{
+    let sheet = table_within(alloc, opened, room)?;
+    Ok(sheet.finish())
 }
