@@ -324,7 +324,7 @@ other_algorithms() {
     damaged_store pbes2_scrypt >"$work/scrypt.p12"
     damaged_store pbes2_key_length_24 >"$work/key-length.p12"
     fails 11 Unsupported "a content is encrypted by PBES2 with scrypt (1.3.6.1.4.1.11591.4.11) and AES-256-CBC" \
-        check "$work/scrypt.p12" --password-file "$work/p" &&
+        check "$work/scrypt.p12" --password-file "$work/p" --modern-only &&
         fails 11 Unsupported "a private key is encrypted by PBES2 with a key of 24 octets for AES-256-CBC (2.16.840.1.101.3.4.1.42), which takes 32" \
             check "$work/key-length.p12" --password-file "$work/p" || return 1
     if ! openssl pkcs12 -export -legacy -inkey "$work/key.pem" -in "$work/cert.pem" -passout pass:p -out "$work/rc2.p12" 2>/dev/null; then

@@ -89,6 +89,15 @@ made_by_bouncycastle_ber() { of_bouncycastle "$1" PKCS12-3DES-3DES BER; }
 made_by_bouncycastle_rc2() { of_bouncycastle "$1" PKCS12 DER; }
 made_by_bouncycastle_ber_rc2() { of_bouncycastle "$1" PKCS12 BER; }
 
+# By BouncyCastle under scrypt, whose costs N, r and p are the further words.
+of_scrypt() {
+    made=$1
+    shift
+    of_openssl "$work/to-import.p12" && java_class MakeScryptStore &&
+        java -cp "$work/java:$bouncycastle_jar:$bouncycastle_pkix" MakeScryptStore "$work/to-import.p12" "$work/old" "$@" "$made" 2>"$work/told"
+}
+made_by_bouncycastle_scrypt() { of_scrypt "$1" 16384 8 1; }
+
 # By GnuPG, which gives the pair no friendly name that was put in.
 made_by_gpgsm() {
     of_openssl "$work/to-import.p12" -certpbe PBE-SHA1-3DES -keypbe PBE-SHA1-3DES -macalg sha1 || return 1
@@ -181,6 +190,27 @@ holds bouncycastle_ber opens_store_of bouncycastle_ber 10 Malformed "$in_ber"
 holds bouncycastle_rc2 opens_store_of bouncycastle_rc2 11 Unsupported "$short_rc2"
 holds bouncycastle_ber_rc2 opens_store_of bouncycastle_ber_rc2 10 Malformed "$short_rc2"
 holds gpgsm opens_store_of gpgsm 11 Unsupported "$short_rc2"
+holds bouncycastle_scrypt opens_store_of bouncycastle_scrypt 11 Unsupported ''
+
+# --- scrypt ---
+
+# Each text under scrypt takes 4 * N * r * p steps, and what takes too much memory is refused by name.
+scrypt_has_bounds() {
+    if [ ! -f "$work/bouncycastle_scrypt.p12" ]; then
+        echo "skipped scrypt_has_bounds: there is no bouncycastle that makes such a store"
+        return 0
+    fi
+    ends 0 check "$work/bouncycastle_scrypt.p12" --password-file "$work/old" &&
+        grep -qxF 'encrypted under: PBES2 with scrypt (N = 16384, r = 8, p = 1) and AES-256-CBC' "$work/said" &&
+        ends 0 check "$work/bouncycastle_scrypt.p12" --password-file "$work/old" --limit $((2048 + 2 * 4 * 16384 * 8)) &&
+        fails 15 WorkLimit '' check "$work/bouncycastle_scrypt.p12" --password-file "$work/old" --limit $((2047 + 2 * 4 * 16384 * 8)) &&
+        of_scrypt "$work/costly.p12" 65536 8 1 &&
+        fails 11 Unsupported 'whose costs N = 65536, r = 8, p = 1 are not supported: scrypt may take 67108864 octets of memory here' \
+            check "$work/costly.p12" --password-file "$work/old" &&
+        fails 11 Unsupported 'rekey keeps a store' rekey "$work/bouncycastle_scrypt.p12" --out "$work/rekeyed.p12" --password-file "$work/old" \
+            --new-password-file "$work/new" && nothing_at "$work/rekeyed.p12"
+}
+holds scrypt_is_bounded scrypt_has_bounds
 
 # --- PBMAC1, which is newer than the stores of today ---
 
@@ -212,7 +242,14 @@ pbmac1() {
         of_the_standard "$each" "$work/pbmac1.p12" && fails 16 MacMismatch '' check "$work/pbmac1.p12" --password-file "$work/digits" || return 1
     done
     of_the_standard NO_LENGTH "$work/pbmac1.p12" &&
-        fails 13 MacUnsupported 'do not say how long the key is' check "$work/pbmac1.p12" --password-file "$work/digits"
+        fails 13 MacUnsupported 'do not say how long the key is' check "$work/pbmac1.p12" --password-file "$work/digits" || return 1
+    # A length of the key of 19 octets in place of 32: it is refused before the MAC is tested.
+    of_the_standard SHA256 "$work/pbmac1.p12" && "${PYTHON:-python3}" -c '
+import sys
+octets = open(sys.argv[1], "rb").read()
+at = octets.rindex(bytes.fromhex("0202080002012030"))
+open(sys.argv[1], "wb").write(octets[: at + 6] + bytes([19]) + octets[at + 7 :])' "$work/pbmac1.p12" &&
+        fails 13 MacUnsupported 'a key of 19 octets, of which at least 20 are needed' check "$work/pbmac1.p12" --password-file "$work/digits"
 }
 holds stores_with_pbmac1 pbmac1
 
@@ -318,7 +355,7 @@ holds a_password_is_asked_for asks
 
 # rekey keeps the algorithms of a store, so without --upgrade it takes no old one.
 rekey_refuses() {
-    fails 11 Unsupported 'rekey keeps the algorithms of a store' rekey "$work/openssl_legacy.p12" --out "$work/rekeyed.p12" \
+    fails 11 Unsupported 'rekey keeps a store' rekey "$work/openssl_legacy.p12" --out "$work/rekeyed.p12" \
         --password-file "$work/old" --new-password-file "$work/new" && grep -qxF -- '    --upgrade' "$work/told" && nothing_at "$work/rekeyed.p12" &&
         fails 12 MacMissing '' rekey "$work/bare.p12" --out "$work/rekeyed.p12" --upgrade --password-file "$work/old" \
             --new-password-file "$work/new" && nothing_at "$work/rekeyed.p12"
@@ -340,7 +377,8 @@ upgrades() {
 each_is_upgraded() {
     upgraded=0
     for each in openssl_legacy openssl_rc2_128 openssl_key_rc2 openssl_two_keys openssl_sha224 openssl_sha384 openssl_sha512 certtool_rc2 \
-        certtool_sha512 pk12util pk12util_rc2 keytool_legacy bouncycastle_ber bouncycastle_rc2 bouncycastle_ber_rc2; do
+        certtool_sha512 pk12util pk12util_rc2 keytool_legacy bouncycastle_ber bouncycastle_rc2 bouncycastle_ber_rc2 \
+        bouncycastle_scrypt; do
         [ -e "$work/$each.p12" ] || continue
         upgrades "$work/$each.p12" "$work/old" || {
             echo "not upgraded: $each" >&2

@@ -4,6 +4,8 @@
 # OpenSSL, Java's own library and its keytool, BouncyCastle, GnuTLS, NSS, and Python's cryptography.
 other_programs='openssl java keytool bouncycastle certtool pk12util cryptography'
 bouncycastle_jar=${BOUNCYCASTLE_JAR-/usr/share/java/bcprov.jar}
+# Its classes that build stores piece by piece, where they are there.
+bouncycastle_pkix=${BOUNCYCASTLE_PKIX-/usr/share/java/bcpkix.jar:/usr/share/java/bcutil.jar}
 
 # --- what was put in ---
 
@@ -56,7 +58,7 @@ read_by_openssl() {
 
 # Compiles the program $1 of tests/shared, once.
 java_class() {
-    [ -f "$work/java/$1.class" ] || javac -cp "$bouncycastle_jar" -d "$work/java" "$home/tests/shared/$1.java" 2>"$work/told"
+    [ -f "$work/java/$1.class" ] || javac -cp "$bouncycastle_jar:$bouncycastle_pkix" -d "$work/java" "$home/tests/shared/$1.java" 2>"$work/told"
 }
 read_by_java() {
     java_class ReadStore && java -cp "$work/java" ReadStore "$1" "$2" >"$work/taken" 2>"$work/told" && lines_of "$2" <"$work/taken"

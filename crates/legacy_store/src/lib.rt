@@ -21,10 +21,11 @@ mod old_text;
 mod open;
 mod pbmac1;
 mod scheme;
-mod scrypt_text;
+pub mod scrypt_text;
 mod secret;
 mod texts;
 
+pub use limits::SCRYPT_MEMORY_LIMIT;
 pub use mac_rule::MacRule;
 pub use open::{open_legacy, open_legacy_safe};
 pub use texts::store_in_der;

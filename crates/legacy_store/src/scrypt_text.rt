@@ -44,9 +44,9 @@ fn states_key(parameters: &Parameters) -> bool
 }
 
 /// Whether texts are opened under these parameters: the function is scrypt, a length of the key that is stated is the cipher's, and scrypt
-/// takes the costs within the bound on memory.
+/// takes the costs within `SCRYPT_MEMORY_LIMIT` octets of memory (RFC 7914 sections 5 and 6).
 #[tactic(auto, unfolding(crate::specs::Scrypt::scrypt_derives))]
-pub(crate) fn is_openable(parameters: &Parameters) -> bool
+pub fn is_openable(parameters: &Parameters) -> bool
     ensures { result ≡ scrypt_opens parameters.now }
 {
     match &parameters.kdf {
@@ -67,7 +67,7 @@ fn cores(params: &ScryptParams) -> u128
 
 /// The steps of opening a text: one for each Salsa20/8 core that scrypt computes, and none under PBKDF2.
 #[tactic(auto, unfolding(crate::specs::Scrypt::scrypt_steps))]
-pub(crate) fn cost(parameters: &Parameters) -> u128
+pub fn cost(parameters: &Parameters) -> u128
     ensures { result ≡ scrypt_steps parameters.now.kdf }
 {
     match &parameters.kdf {

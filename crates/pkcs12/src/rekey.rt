@@ -328,7 +328,7 @@ fn is_kept_old() -> Failure
 {
     Failure::new(
         Ending::Refused(TransferError::Unsupported),
-        "rekey keeps a store's algorithms, and this store has old ones, which are read but never written",
+        "rekey keeps a store's algorithms, and this store has some that are read but never written",
     )
     .advised("To write the store under the algorithms of today:\n    --upgrade")
 }

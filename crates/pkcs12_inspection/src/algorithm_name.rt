@@ -3,8 +3,10 @@ use crate::old_cipher::{OldCipher, rounds_of};
 use asn1_core::{
     Error, ObjectIdentifier, SliceReader, Tag, read_identifier, read_inner, read_uint,
 };
+use legacy_store::SCRYPT_MEMORY_LIMIT;
+use legacy_store::scrypt_text::is_openable;
 use p12::AlgorithmView;
-use pkcs5::pbes2::{Kdf, PBES2_OID, PBKDF2_OID, Parameters, Pbkdf2Prf};
+use pkcs5::pbes2::{Kdf, PBES2_OID, PBKDF2_OID, Parameters, Pbkdf2Prf, ScryptParams};
 use std::fmt;
 
 /// Identifiers that stores of other programs have, and their names: schemes of encryption and MACs
@@ -92,7 +94,7 @@ fn algorithm_in<'a>(r: &mut SliceReader<'a>) -> Result<(ObjectIdentifier, SliceR
 
 /// The pseudorandom function in the parameters of PBKDF2 (RFC 8018 appendix A.2), where one is
 /// named.
-fn prf_of(mut derivation: SliceReader<'_>) -> Result<Option<ObjectIdentifier>, Error> {
+fn named_prf(mut derivation: SliceReader<'_>) -> Result<Option<ObjectIdentifier>, Error> {
     let mut body = read_inner(&mut derivation, Tag::SEQUENCE)?;
     read_inner(&mut body, Tag::OCTET_STRING)?;
     read_uint(&mut body, u64::MAX)?;
@@ -112,7 +114,7 @@ fn pbes2_of(params: &[u8]) -> Result<Pbes2Names, Error> {
     let mut body = read_inner(&mut r, Tag::SEQUENCE)?;
     let (derivation, function) = algorithm_in(&mut body)?;
     let (cipher, _) = algorithm_in(&mut body)?;
-    let prf = match prf_of(function) {
+    let prf = match named_prf(function) {
         Ok(prf) if derivation == PBKDF2_OID => prf,
         Ok(_) | Err(_) => None,
     };
@@ -143,22 +145,53 @@ impl fmt::Display for Pbes2Named<'_> {
     }
 }
 
-/// PBES2 under which nothing is opened: with scrypt, or with a length of the key that is not the
-/// cipher's.
+/// PBES2 under which nothing is opened: with a length of the key that is not the cipher's, or with scrypt that takes too much memory; and
+/// PBES2 with scrypt, which is opened in old stores alone.
 #[derive(Drop)]
 struct Pbes2NotOpened<'a>(&'a Parameters);
 
 impl fmt::Display for Pbes2NotOpened<'_> {
     fn fmt<W: fmt::Write>(&self, f: &mut fmt::Formatter<W>) -> fmt::Result {
-        let cipher = Named(self.0.encryption.oid());
-        let size = self.0.encryption.key_size();
-        match self.0.kdf.key_length() {
-            Some(stated) if self.0.kdf.is_pbkdf2() => write!(
-                f,
-                "PBES2 with a key of {stated} octets for {cipher}, which takes {size}"
-            ),
-            _ => write!(f, "PBES2 with {} and {cipher}", Named(self.0.kdf.oid())),
+        let parameters = self.0;
+        let cipher = Named(parameters.encryption.oid());
+        let size = parameters.encryption.key_size();
+        match parameters.kdf.key_length() {
+            Some(stated) if usize::from(stated) != size => {
+                return write!(
+                    f,
+                    "PBES2 with a key of {stated} octets for {cipher}, which takes {size}"
+                );
+            }
+            Some(_) | None => {}
         }
+        write!(f, "PBES2 with {} and {cipher}", Named(parameters.kdf.oid()))?;
+        match &parameters.kdf {
+            Kdf::Scrypt(costs) if !is_openable(parameters) => write!(
+                f,
+                ", whose costs {} are not supported: scrypt may take {SCRYPT_MEMORY_LIMIT} octets of memory here",
+                ScryptCosts(costs)
+            ),
+            Kdf::Scrypt(_) | Kdf::Pbkdf2(_) => Ok(()),
+        }
+    }
+}
+
+/// The costs of scrypt (RFC 7914 section 2).
+#[derive(Drop)]
+struct ScryptCosts<'a>(&'a ScryptParams);
+
+impl fmt::Display for ScryptCosts<'_> {
+    fn fmt<W: fmt::Write>(&self, f: &mut fmt::Formatter<W>) -> fmt::Result {
+        let ScryptParams {
+            cost_parameter,
+            block_size,
+            parallelization,
+            ..
+        } = self.0;
+        write!(
+            f,
+            "N = {cost_parameter}, r = {block_size}, p = {parallelization}"
+        )
     }
 }
 
@@ -261,6 +294,15 @@ impl fmt::Display for InUse<'_> {
                 let rounds = InRounds(u64::from(params.iteration_count));
                 let cipher = name_of(encryption.oid()).unwrap_or("another cipher");
                 write!(f, "PBES2 with PBKDF2 ({prf}, {rounds}) and {cipher}")
+            }
+            AlgorithmView::Pbes2(
+                Parameters {
+                    kdf: Kdf::Scrypt(costs),
+                    encryption,
+                },
+            ) => {
+                let cipher = name_of(encryption.oid()).unwrap_or("another cipher");
+                write!(f, "PBES2 with scrypt ({}) and {cipher}", ScryptCosts(costs))
             }
             other => match OldCipher::of(other) {
                 Some(cipher) => old_in_use(cipher, other, f),

@@ -10,6 +10,7 @@ use crate::out_of_memory::out_of_memory;
 use crate::pbmac1::{Pbmac1, mac_work};
 use asn1_core::Octets;
 use command_base::Password;
+use legacy_store::scrypt_text;
 use p12::{AlgorithmView, BagView, BagsView, ContentView, ContentsView, StoreView};
 use std::alloc::{AllocError, Global};
 use std::marker::Brand;
@@ -103,10 +104,22 @@ pub fn plain_of(
     }
 }
 
+/// The steps of opening a text under an algorithm, where it is opened.
+fn work_under(algorithm: &AlgorithmView<'_>) -> u128 {
+    match algorithm {
+        AlgorithmView::Pbes2(parameters) => {
+            algorithm
+                .cost()
+                .saturating_add(scrypt_text::cost(parameters))
+        }
+        _ => algorithm.cost(),
+    }
+}
+
 /// The steps of opening a content, where it is opened.
 fn content_work(content: &ContentView<'_>) -> u128 {
     match content {
-        ContentView::Encrypted { algorithm, .. } => algorithm.cost(),
+        ContentView::Encrypted { algorithm, .. } => work_under(algorithm),
         ContentView::Plain { .. } | ContentView::Other { .. } => 0,
     }
 }
@@ -191,10 +204,19 @@ impl OldCiphers {
     }
 }
 
+/// Whether texts under an algorithm are opened in old stores, by scrypt.
+fn is_opened_by_scrypt(algorithm: &AlgorithmView<'_>) -> bool {
+    match algorithm {
+        AlgorithmView::Pbes2(parameters) => scrypt_text::is_openable(parameters),
+        _ => false,
+    }
+}
+
 /// Whether texts under an algorithm are opened.
 fn is_opened(algorithm: &AlgorithmView<'_>, old: OldCiphers) -> bool {
     match (OldCipher::of(algorithm), old) {
-        (None, _) => algorithm.is_openable(),
+        (None, OldCiphers::No) => algorithm.is_openable(),
+        (None, _) => algorithm.is_openable() || is_opened_by_scrypt(algorithm),
         (Some(_), OldCiphers::No) => false,
         (Some(_), OldCiphers::All) => true,
         (Some(cipher), OldCiphers::WithoutMac) => cipher != OldCipher::Rc2Of40,

@@ -95,8 +95,8 @@ fn opened_by(
 /// password is missing.
 fn refused_unasked(alloc: Global, failure: Failure, tried: &Attempt<'_>) -> Failure {
     match failure.ending {
-        Ending::Refused(TransferError::WorkLimit)
-            if mac_steps(alloc, tried.store) <= tried.limit => password_missing(),
+        Ending::Refused(TransferError::WorkLimit) if mac_steps(alloc, tried.store) <= tried.limit =>
+            password_missing(),
         Ending::Refused(TransferError::MacMismatch) => password_missing(),
         _ => with_detail(alloc, failure, tried),
     }
