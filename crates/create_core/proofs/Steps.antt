@@ -1,5 +1,5 @@
 -- The steps of making a store.
-use Rattle.std.proofs.Common.{◌≡◌, ℕ, ◌+◌, ◌*◌, ◌<◌, ◌≤◌, ◌^◌, List, [], ◌∷◌, ◌++◌, length, take, Option, refl, sym, ap, subst, ◌∙◌, arith}
+use Rattle.std.proofs.Common.{◌≡◌, ℕ, ◌+◌, ◌<◌, ◌≤◌, ◌^◌, List, [], ◌∷◌, ◌++◌, length, take, Option, sym, ap, subst, ◌∙◌, arith}
 use Rattle.std.specs.Prelude.{All, Ok, Err, IfErr, IfOk, Result}
 use Rattle.std.specs.Io.KnownBytes.{Consumes}
 use Rattle.std.proofs.lemmas.List.{length-append}
@@ -8,7 +8,6 @@ use Rattle.asn1_core.specs.Writing.{IsOverlong}
 use Rattle.p12.specs.Canonical.{WritableAlgorithm, WritableContent, bags_canon, contents_canon, store_canon}
 use Rattle.p12.specs.MacData.{mac_of}
 use Rattle.p12.specs.Writing.{EncodesText}
-use Rattle.p12.specs.declared.algorithm_identifier.AlgorithmIdentifier.{AlgorithmIdentifier}
 use Rattle.p12.specs.declared.algorithm_identifier.AlgorithmIdentifier.TheVariants.{Sha256}
 use Rattle.p12.specs.declared.content_info.ContentInfo.{ContentInfo}
 use Rattle.p12.specs.declared.mac_data.MacData.{MacData}
@@ -20,9 +19,9 @@ use Rattle.transfer.specs.Limits.{store_limit}
 use Rattle.create_core.specs.Bags.{HasKeyText, IsCertificateNamedInText, IsNamedInText, KeysSealed, certificate_bags}
 use Rattle.create_core.specs.CreateError.{LongOnly}
 use Rattle.create_core.specs.Created.{DrawsAndCreates, RefusesToCreate, created_draws, sealed_content, store_of}
-use Rattle.create_core.specs.Making.{AreContents, HoldsCertificates, HoldsKeys, IsSealedText, IsWritingRefusal}
+use Rattle.create_core.specs.Making.{AreContents, IsSealedText, IsWritingRefusal}
 use Rattle.sealing_core.specs.Drawn.{AreOf16, octets_of}
-use Rattle.create_core.specs.Parts.{FailsToDraw, IsSealedAt, Seals}
+use Rattle.create_core.specs.Parts.{FailsToDraw}
 use Rattle.create_core.specs.Size.{blank_keys, created_size}
 use Rattle.sealing_core.specs.declared.drawn.IvAndSalt.{IvAndSalt}
 use Rattle.create_core.specs.declared.entry.CertificateEntry.{CertificateEntry}
@@ -30,7 +29,7 @@ use Rattle.create_core.specs.declared.entry.KeyEntry.{KeyEntry}
 use Rattle.create_core.specs.declared.error.CreateError.{CreateError}
 use Rattle.create_core.specs.declared.error.CreateError.TheVariants.{Malformed, Rng, TooLong, Memory}
 use Rattle.create_core.proofs.BagLoops.{are_parameters}
-use Rattle.sealing_core.proofs.Draws.{consumes_more, lacks_all, lacks_more, length-octets_of, parted, took_least}
+use Rattle.sealing_core.proofs.Draws.{consumes_more, lacks_all, length-octets_of, parted, took_least}
 use Rattle.create_core.proofs.Sizes.{certificates_in, contents_in, keys_in, keys_same, store_size}
 
 -- ---- refusals to write

@@ -1,5 +1,5 @@
 -- Stores that are made here open here.
-use Rattle.std.proofs.Common.{◌≡◌, ℕ, ◌-◌, ◌^◌, List, [], ◌∷◌, ◌++◌, map, length, Some, None, refl, sym, ap, subst, ◌∙◌, inl, inr, arith, append-nil, true}
+use Rattle.std.proofs.Common.{◌≡◌, ℕ, ◌-◌, List, [], ◌∷◌, ◌++◌, map, length, Some, None, refl, sym, ap, subst, ◌∙◌, inl, inr, arith, append-nil, true}
 use Rattle.std.specs.Str.{IsUtf8}
 use Rattle.asn1_core.specs.Der.{IsShort, el, seq, set, octets}
 use Rattle.asn1_core.specs.Oid.{oid_of}
@@ -17,7 +17,7 @@ use Rattle.p12.specs.ContentInfo.{ContentFits, IsContents}
 use Rattle.p12.specs.Attribute.{AttributeCase, AttributeText, AttributesText}
 use Rattle.p12.specs.MacData.{mac_of, mac_value}
 use Rattle.pkcs12_kdf.specs.Password.{bmp_password}
-use Rattle.p12.specs.Pfx.{IsStore, PfxText, StoreFits}
+use Rattle.p12.specs.Pfx.{IsStore, PfxText}
 use Rattle.p12.specs.SafeBag.{BagText, IsBags}
 use Rattle.p12.specs.Same.{SameBag}
 use Rattle.p12.proofs.Again.{known, latest_again, bags_again}

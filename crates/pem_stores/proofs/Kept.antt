@@ -1,12 +1,12 @@
 -- Each certificate of a text is in the store that is made of it, and each one in the store is of the text.
-use Rattle.std.proofs.Common.{◌≡◌, ◌∙◌, ◌<◌, ℕ, zero, suc, Bool, true, false, cond, List, [], ◌∷◌, ◌++◌, length, map, take, drop, refl, sym, ap, subst, arith, inl, inr, append_assoc, bytes_eq, nat_lt, remove, slice_get}
+use Rattle.std.proofs.Common.{◌≡◌, ◌∙◌, ◌<◌, ℕ, zero, suc, Bool, true, false, cond, List, [], ◌∷◌, ◌++◌, length, map, take, refl, sym, ap, subst, arith, inl, inr, append_assoc, bytes_eq, nat_lt, remove, slice_get}
 use Rattle.std.specs.Prelude.{◌+◌, ◌-◌, ◌||◌, ◌==◌, Option, Some, None}
-use Rattle.std.specs.List.{concat, list_any, range_with_len}
+use Rattle.std.specs.List.{list_any, range_with_len}
 use Rattle.std.proofs.lemmas.Bool.{eqb-true, ltb-true}
 use Rattle.std.proofs.lemmas.List.{length-append, map-append}
 use Rattle.std.proofs.lemmas.List.Folds.{list_any-append}
 use Rattle.std.proofs.lemmas.Slice.Eq.{bytes_eq-Decides}
-use Rattle.create_core.specs.Laws.{OpensToNothingElse, certificates_of, keys_of}
+use Rattle.create_core.specs.Laws.{OpensToNothingElse, keys_of}
 use Rattle.create_core.specs.declared.entry.CertificateEntry.{CertificateEntry}
 use Rattle.create_core.specs.declared.entry.KeyEntry.{KeyEntry}
 use Rattle.inventory_core.specs.Chains.{has}

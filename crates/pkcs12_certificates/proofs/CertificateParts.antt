@@ -1,13 +1,13 @@
 -- Of each certificate that the table takes the parts are read.
-use Rattle.std.proofs.Common.{◌≡◌, ℕ, List, [], ◌∷◌, ◌++◌, Option, Some, None, Result, Ok, Err, IsTrue, refl, sym, ap, ◌∙◌, subst}
+use Rattle.std.proofs.Common.{◌≡◌, ℕ, List, [], ◌++◌, Option, Some, None, Result, Ok, Err, IsTrue, refl, sym, ap, ◌∙◌, subst}
 use Rattle.std.specs.Prelude.{◌==◌, slice_index}
 use Rattle.std.proofs.lemmas.Bool.{eqb-true}
 use Rattle.std.proofs.lemmas.List.{append-nil}
 use Rattle.asn1_core.specs.Der.{el}
 use Rattle.asn1_core.specs.Reading.{Fault}
-use Rattle.asn1_core.specs.Texts.{Inside, On, Perhaps, Taken}
+use Rattle.asn1_core.specs.Texts.{Inside, On, Perhaps}
 use Rattle.inventory_core.specs.Certificate.{AfterKey, Certificate, IsCertificate, KeyText, SignedText, Tagged, certificate}
-use Rattle.x509_names.specs.Parts.{CertificateFront, CertificateParts, HasParts, OrNone, SignedFront, TwoElements, certificate_parts}
+use Rattle.x509_names.specs.Parts.{CertificateParts, HasParts, OrNone, SignedFront, TwoElements, certificate_parts}
 use Rattle.x509_names.specs.PartsReading.{two_elements}
 use Rattle.x509_names.proofs.CertificateFronts.{two_read}
 

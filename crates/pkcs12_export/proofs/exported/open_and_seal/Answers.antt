@@ -1,4 +1,4 @@
-use Rattle.std.proofs.Common.{ℕ, ◌≡◌, ◌≤◌, ◌⊎◌, inl, inr, List, [], length, ap, refl, subst, sym, ◌∙◌}
+use Rattle.std.proofs.Common.{ℕ, ◌≡◌, ◌≤◌, ◌⊎◌, inl, inr, List, [], length, refl, subst, sym}
 use Rattle.std.specs.Prelude.{IfNone, IfSome, IsTrue, None, Option, Some}
 use Rattle.std.specs.Option.{ForSome}
 use Rattle.std.proofs.lemmas.Result.{err_from_is_err_and}
