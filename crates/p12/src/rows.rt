@@ -21,12 +21,12 @@ use crate::mac_data::MacData;
 use crate::pfx::PFX;
 use crate::pkcs12_pbe_params::Pkcs12PbeParams;
 use crate::safe_bag::{SafeBag, SafeBagKind};
-use crate::writing::{Bmp, Both, Encoded, Held, Ia5, Number, Row, SetOf, Within, sequence};
+use crate::writing::{Bmp, Both, Encoded, GrammarRow, Held, Ia5, Number, SetOf, Within, sequence};
 use asn1_core::{ObjectIdentifier, Octets, Tag};
 use pkcs5::pbes2::PBES2_OID;
 use std::alloc::Global;
 
-impl Row for Pkcs12PbeParams {
+impl GrammarRow for Pkcs12PbeParams {
     ghost canon = { params_canon };
 
     ghost writable = { λ p. Unit {0} };
@@ -40,7 +40,7 @@ impl Row for Pkcs12PbeParams {
     }
 }
 
-impl Row for AlgorithmIdentifier {
+impl GrammarRow for AlgorithmIdentifier {
     ghost canon = { algorithm_canon };
 
     ghost writable = { WritableAlgorithm };
@@ -69,7 +69,7 @@ impl Row for AlgorithmIdentifier {
     }
 }
 
-impl Row for DigestInfo {
+impl GrammarRow for DigestInfo {
     ghost canon = { digest_canon };
 
     ghost writable = { WritableDigest };
@@ -83,7 +83,7 @@ impl Row for DigestInfo {
     }
 }
 
-impl Row for MacData {
+impl GrammarRow for MacData {
     ghost canon = { mac_canon };
 
     ghost writable = { WritableMac };
@@ -98,7 +98,7 @@ impl Row for MacData {
     }
 }
 
-impl Row for EncryptedContentInfo {
+impl GrammarRow for EncryptedContentInfo {
     ghost canon = { encrypted_content_canon };
 
     ghost writable = { WritableEncryptedContent };
@@ -113,7 +113,7 @@ impl Row for EncryptedContentInfo {
     }
 }
 
-impl Row for EncryptedData {
+impl GrammarRow for EncryptedData {
     ghost canon = { encrypted_data_canon };
 
     ghost writable = { WritableEncryptedData };
@@ -124,7 +124,7 @@ impl Row for EncryptedData {
 }
 
 /// An identifier, and a row in an element of the context class with the number 0.
-fn explicit<A: Row>(
+fn explicit<A: GrammarRow>(
     alloc: Global,
     kind: &ObjectIdentifier,
     row: &A,
@@ -139,7 +139,7 @@ fn explicit<A: Row>(
     sequence(alloc, kind, &inner)
 }
 
-impl Row for ContentInfo {
+impl GrammarRow for ContentInfo {
     ghost canon = { content_canon };
 
     ghost writable = { WritableContent };
@@ -161,7 +161,7 @@ impl Row for ContentInfo {
     }
 }
 
-impl Row for EncryptedPrivateKeyInfo {
+impl GrammarRow for EncryptedPrivateKeyInfo {
     ghost canon = { encrypted_key_canon };
 
     ghost writable = { WritableKey };
@@ -175,7 +175,7 @@ impl Row for EncryptedPrivateKeyInfo {
     }
 }
 
-impl Row for CertBag {
+impl GrammarRow for CertBag {
     ghost canon = { cert_bag_canon };
 
     ghost writable = { WritableCertBag };
@@ -194,7 +194,7 @@ impl Row for CertBag {
     }
 }
 
-impl Row for PKCS12Attribute {
+impl GrammarRow for PKCS12Attribute {
     ghost canon = { attribute_canon };
 
     ghost writable = { WritableAttribute };
@@ -226,7 +226,7 @@ impl Row for PKCS12Attribute {
     }
 }
 
-impl Row for SafeBagKind {
+impl GrammarRow for SafeBagKind {
     ghost canon = { kind_canon };
 
     ghost writable = { WritableKind };
@@ -244,7 +244,7 @@ impl Row for SafeBagKind {
 #[derive(Drop)]
 struct Attributes<'p>(&'p [PKCS12Attribute]);
 
-impl<'p> Row for Attributes<'p> {
+impl<'p> GrammarRow for Attributes<'p> {
     ghost canon = { λ a. attributes_canon a.0.now };
 
     ghost writable = { λ a. All WritableAttribute a.0.now };
@@ -257,7 +257,7 @@ impl<'p> Row for Attributes<'p> {
     }
 }
 
-impl Row for SafeBag {
+impl GrammarRow for SafeBag {
     ghost canon = { bag_canon };
 
     ghost writable = { WritableBag };
@@ -272,7 +272,7 @@ impl Row for SafeBag {
     }
 }
 
-impl Row for PFX {
+impl GrammarRow for PFX {
     ghost canon = { store_canon };
 
     ghost writable = { WritableStore };

@@ -20,7 +20,7 @@ use std::alloc::Global;
 pub(crate) const MOST_OCTETS: usize = 0xffff_ffff;
 
 /// A part of a text, or a whole one.
-pub(crate) trait Row {
+pub(crate) trait GrammarRow {
     // the octets that are written
     ghost canon: { Self → List ℕ };
 
@@ -40,7 +40,7 @@ pub(crate) struct Held<'p> {
     pub(crate) octets: &'p [u8],
 }
 
-impl<'p> Row for Held<'p> {
+impl<'p> GrammarRow for Held<'p> {
     ghost canon = { λ h. el h.tag.first h.octets.now };
 
     ghost writable = { λ h. Unit {0} };
@@ -56,7 +56,7 @@ impl<'p> Row for Held<'p> {
 #[derive(Drop)]
 pub(crate) struct Number(pub(crate) u64);
 
-impl Row for Number {
+impl GrammarRow for Number {
     ghost canon = { λ n. uint n.0 };
 
     ghost writable = { λ n. Unit {0} };
@@ -75,7 +75,7 @@ impl Row for Number {
 #[derive(Drop)]
 pub(crate) struct Ia5<'p>(pub(crate) &'p str);
 
-impl<'p> Row for Ia5<'p> {
+impl<'p> GrammarRow for Ia5<'p> {
     ghost canon = { λ t. el 0x16 t.0.now };
 
     ghost writable = { λ t. IsTrue (is_ascii_text t.0.now) };
@@ -91,7 +91,7 @@ impl<'p> Row for Ia5<'p> {
 #[derive(Drop)]
 pub(crate) struct Bmp<'p>(pub(crate) &'p str);
 
-impl<'p> Row for Bmp<'p> {
+impl<'p> GrammarRow for Bmp<'p> {
     ghost canon = { λ t. el 0x1e (text_units t.0.now) };
 
     ghost writable = { λ t. Unit {0} };
@@ -103,7 +103,7 @@ impl<'p> Row for Bmp<'p> {
     }
 }
 
-impl Row for ObjectIdentifier {
+impl GrammarRow for ObjectIdentifier {
     ghost canon = { λ o. el 0x06 (oid_octets o) };
 
     ghost writable = { λ o. Unit {0} };
@@ -130,7 +130,7 @@ fn check_element(octets: &[u8]) -> Result<(), Error>
 }
 
 /// Octets that are written as they are: one whole element.
-impl Row for Octets {
+impl GrammarRow for Octets {
     ghost canon = { λ o. o };
 
     ghost writable = { IsElement };
@@ -148,7 +148,7 @@ impl Row for Octets {
 #[derive(Drop)]
 pub(crate) struct Encoded<'p, E>(pub(crate) &'p E);
 
-impl<'p, E: Encode> Row for Encoded<'p, E> {
+impl<'p, E: Encode> GrammarRow for Encoded<'p, E> {
     ghost canon = { λ e. E.canon e.0.now };
 
     ghost writable = { λ e. E.writable e.0.now };
@@ -159,7 +159,7 @@ impl<'p, E: Encode> Row for Encoded<'p, E> {
 }
 
 /// Nothing for None.
-impl<A: Row> Row for Option<A> {
+impl<A: GrammarRow> GrammarRow for Option<A> {
     ghost canon = { canon_option A.canon };
 
     ghost writable = { writable_option A.writable };
@@ -190,7 +190,7 @@ fn join(front: Octets, behind: &[u8]) -> Result<Octets, Error>
 #[derive(Drop)]
 pub(crate) struct Both<'p, A, B>(pub(crate) &'p A, pub(crate) &'p B);
 
-impl<'p, A: Row, B: Row> Row for Both<'p, A, B> {
+impl<'p, A: GrammarRow, B: GrammarRow> GrammarRow for Both<'p, A, B> {
     ghost canon = { λ p. A.canon p.0.now ++ B.canon p.1.now };
 
     ghost writable = { λ p. A.writable p.0.now × B.writable p.1.now };
@@ -209,7 +209,7 @@ pub(crate) struct Within<'p, A> {
     pub(crate) row: &'p A,
 }
 
-impl<'p, A: Row> Row for Within<'p, A> {
+impl<'p, A: GrammarRow> GrammarRow for Within<'p, A> {
     ghost canon = { λ x. el x.tag.first (A.canon x.row.now) };
 
     ghost writable = { λ x. A.writable x.row.now };
@@ -228,7 +228,7 @@ impl<'p, A: Row> Row for Within<'p, A> {
 #[derive(Drop)]
 pub(crate) struct Each<'p, T>(pub(crate) &'p [T]);
 
-impl<'p, T: Row> Row for Each<'p, T> {
+impl<'p, T: GrammarRow> GrammarRow for Each<'p, T> {
     ghost canon = { λ l. joined (map T.canon l.0.now) };
 
     ghost writable = { λ l. All T.writable l.0.now };
@@ -245,7 +245,7 @@ impl<'p, T: Row> Row for Each<'p, T> {
 }
 
 /// The texts of rows.
-fn texts_of<T: Row>(alloc: Global, rows: &[T]) -> Result<Items<Octets>, Error>
+fn texts_of<T: GrammarRow>(alloc: Global, rows: &[T]) -> Result<Items<Octets>, Error>
     ensures { MatchResult result
         (λ texts. (texts ≡ map T.canon rows.now) × All T.writable rows.now)
         (λ e. RefusesText (All T.writable rows.now) (joined (map T.canon rows.now)) e) }
@@ -261,7 +261,7 @@ fn texts_of<T: Row>(alloc: Global, rows: &[T]) -> Result<Items<Octets>, Error>
 #[derive(Drop)]
 pub(crate) struct SetOf<'p, T>(pub(crate) &'p [T]);
 
-impl<'p, T: Row> Row for SetOf<'p, T> {
+impl<'p, T: GrammarRow> GrammarRow for SetOf<'p, T> {
     ghost canon = { λ l. set_of (map T.canon l.0.now) };
 
     ghost writable = { λ l. All T.writable l.0.now };
@@ -275,7 +275,7 @@ impl<'p, T: Row> Row for SetOf<'p, T> {
 }
 
 /// A SEQUENCE of two rows.
-pub(crate) fn sequence<A: Row, B: Row>(
+pub(crate) fn sequence<A: GrammarRow, B: GrammarRow>(
     alloc: Global,
     first: &A,
     second: &B,
@@ -291,7 +291,11 @@ pub(crate) fn sequence<A: Row, B: Row>(
 }
 
 /// Writes a row whole.
-pub(crate) fn write_row<T: Row, W: Writer>(row: &T, alloc: Global, w: &mut W) -> Result<(), Error>
+pub(crate) fn write_row<T: GrammarRow, W: Writer>(
+    row: &T,
+    alloc: Global,
+    w: &mut W,
+) -> Result<(), Error>
     ensures writes { WritesText W.sink (T.writable row.now) (T.canon row.now) w.old result w.new }
     ensures short { OnOk result (IsShort (T.canon row.now)) }
     ensures lawful { OnOk result (T.writable row.now) }
@@ -301,7 +305,7 @@ pub(crate) fn write_row<T: Row, W: Writer>(row: &T, alloc: Global, w: &mut W) ->
 }
 
 /// The text of a row, by the errors of this crate.
-pub(crate) fn der_of<T: Row>(row: &T, alloc: Global) -> Result<Octets, error::Error>
+pub(crate) fn der_of<T: GrammarRow>(row: &T, alloc: Global) -> Result<Octets, error::Error>
     ensures { EncodesText (T.writable row.now) (T.canon row.now) result }
 {
     Ok(row.text(alloc)?)

@@ -10,14 +10,14 @@ use p12::{
 };
 use std::alloc::Global;
 
-/// A row that is read and written.
-trait Row: Sized + Drop {
+/// A part of the grammar that is read and then written.
+trait ReadAndWritten: Sized + Drop {
     fn read(alloc: Global, r: &mut SliceReader<'_>) -> Result<Self, Error>;
 
     fn written(&self, alloc: Global, w: &mut VecWriter) -> Result<(), asn1_core::Error>;
 }
 
-impl Row for CertBag {
+impl ReadAndWritten for CertBag {
     fn read(alloc: Global, r: &mut SliceReader<'_>) -> Result<CertBag, Error> {
         CertBag::parse(alloc, r)
     }
@@ -27,7 +27,7 @@ impl Row for CertBag {
     }
 }
 
-impl Row for ContentInfo {
+impl ReadAndWritten for ContentInfo {
     fn read(alloc: Global, r: &mut SliceReader<'_>) -> Result<ContentInfo, Error> {
         ContentInfo::parse(alloc, r)
     }
@@ -37,7 +37,7 @@ impl Row for ContentInfo {
     }
 }
 
-impl Row for DigestInfo {
+impl ReadAndWritten for DigestInfo {
     fn read(alloc: Global, r: &mut SliceReader<'_>) -> Result<DigestInfo, Error> {
         DigestInfo::parse(alloc, r)
     }
@@ -47,7 +47,7 @@ impl Row for DigestInfo {
     }
 }
 
-impl Row for EncryptedContentInfo {
+impl ReadAndWritten for EncryptedContentInfo {
     fn read(alloc: Global, r: &mut SliceReader<'_>) -> Result<EncryptedContentInfo, Error> {
         EncryptedContentInfo::parse(alloc, r)
     }
@@ -57,7 +57,7 @@ impl Row for EncryptedContentInfo {
     }
 }
 
-impl Row for EncryptedData {
+impl ReadAndWritten for EncryptedData {
     fn read(alloc: Global, r: &mut SliceReader<'_>) -> Result<EncryptedData, Error> {
         EncryptedData::parse(alloc, r)
     }
@@ -67,7 +67,7 @@ impl Row for EncryptedData {
     }
 }
 
-impl Row for MacData {
+impl ReadAndWritten for MacData {
     fn read(alloc: Global, r: &mut SliceReader<'_>) -> Result<MacData, Error> {
         MacData::parse(alloc, r)
     }
@@ -77,7 +77,7 @@ impl Row for MacData {
     }
 }
 
-impl Row for SafeBag {
+impl ReadAndWritten for SafeBag {
     fn read(alloc: Global, r: &mut SliceReader<'_>) -> Result<SafeBag, Error> {
         SafeBag::parse(alloc, r)
     }
@@ -88,14 +88,14 @@ impl Row for SafeBag {
 }
 
 /// What is written of a row that is read.
-fn again<T: Row>(alloc: Global, text: &[u8]) -> Result<Octets, Error> {
+fn again<T: ReadAndWritten>(alloc: Global, text: &[u8]) -> Result<Octets, Error> {
     let mut w = VecWriter::new(alloc);
     T::read(alloc, &mut SliceReader::new(text))?.written(alloc, &mut w)?;
     Ok(w.into_octets())
 }
 
 /// Whether a row is read, and written as wanted.
-fn is_written<T: Row>(alloc: Global, text: &[u8], wanted: &[u8]) -> bool {
+fn is_written<T: ReadAndWritten>(alloc: Global, text: &[u8], wanted: &[u8]) -> bool {
     calls::gives(again::<T>(alloc, text), wanted)
 }
 

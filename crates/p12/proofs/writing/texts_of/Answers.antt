@@ -6,12 +6,12 @@ use Rattle.p12.proofs.writing.texts_of.Goals as goal
 pub returns-in_err-text : goal.returns-in_err-text
 returns-in_err-text g c =
     let p = err_from_is_err_and c.from_residual.result c.from_residual.ensures.1 in
-    rw (p.1, p.2) (listed_refused g.T.Row.canon g.T.Row.writable c.args.rows.now c.loop-row.row-index c.row-item.result c.loop-row-test.true c.row-item.is _ c.in_err-text.ensures)
+    rw (p.1, p.2) (listed_refused g.T.GrammarRow.canon g.T.GrammarRow.writable c.args.rows.now c.loop-row.row-index c.row-item.result c.loop-row-test.true c.row-item.is _ c.in_err-text.ensures)
 
 pub loop-row-preserved : goal.loop-row-preserved
 loop-row-preserved g c =
-    let canon = g.T.Row.canon in
-    let can = g.T.Row.writable in
+    let canon = g.T.GrammarRow.canon in
+    let can = g.T.GrammarRow.writable in
     let rows = c.args.rows.now in
     let i = c.loop-row.row-index in
     let x = c.row-item.result in

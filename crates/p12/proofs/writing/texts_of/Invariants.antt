@@ -4,4 +4,4 @@ use Rattle.p12.proofs.writing.texts_of.Given as goal
 
 abbrev pub invariant-loop-row : goal.invariant-loop-row
 invariant-loop-row g l =
-    (map g.T.Row.canon l.rows ≡ l.texts ++ map g.T.Row.canon (drop l.row-index l.rows)) × (All g.T.Row.writable (drop l.row-index l.rows) → All g.T.Row.writable l.rows)
+    (map g.T.GrammarRow.canon l.rows ≡ l.texts ++ map g.T.GrammarRow.canon (drop l.row-index l.rows)) × (All g.T.GrammarRow.writable (drop l.row-index l.rows) → All g.T.GrammarRow.writable l.rows)

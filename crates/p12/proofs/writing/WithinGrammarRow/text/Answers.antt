@@ -1,6 +1,6 @@
 use Rattle.std.proofs.lemmas.Result.{err_from_is_err_and}
 use Rattle.p12.proofs.TextRefusals.{inside_refused}
-use Rattle.p12.proofs.writing.WithinRow.text.Goals as goal
+use Rattle.p12.proofs.writing.WithinGrammarRow.text.Goals as goal
 
 pub returns-in_err-value : goal.returns-in_err-value
 returns-in_err-value g c =

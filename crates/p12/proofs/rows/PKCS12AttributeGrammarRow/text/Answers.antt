@@ -1,5 +1,5 @@
 use Rattle.p12.proofs.TextRefusals.{other_made}
-use Rattle.p12.proofs.rows.PKCS12AttributeRow.text.Goals as goal
+use Rattle.p12.proofs.rows.PKCS12AttributeGrammarRow.text.Goals as goal
 
 pub returns-in-Other : goal.returns-in-Other
 returns-in-Other c =

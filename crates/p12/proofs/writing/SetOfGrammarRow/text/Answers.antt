@@ -3,7 +3,7 @@ use Rattle.std.proofs.lemmas.Result.{err_from_is_err_and}
 use Rattle.asn1_core.specs.Der.{IsShort}
 use Rattle.p12.specs.Canonical.{set_of}
 use Rattle.p12.proofs.TextRefusals.{set_refused}
-use Rattle.p12.proofs.writing.SetOfRow.text.Goals as goal
+use Rattle.p12.proofs.writing.SetOfGrammarRow.text.Goals as goal
 
 pub returns-in_err-texts : goal.returns-in_err-texts
 returns-in_err-texts g c =

@@ -1,7 +1,7 @@
 use Rattle.std.proofs.Common.{◌∙◌, []}
 use Rattle.std.proofs.lemmas.Result.{err_from_is_err_and}
 use Rattle.p12.proofs.TextRefusals.{memory_refused}
-use Rattle.p12.proofs.writing.BmpRow.text.Goals as goal
+use Rattle.p12.proofs.writing.BmpGrammarRow.text.Goals as goal
 
 pub returns-in_err-write_bmp : goal.returns-in_err-write_bmp
 returns-in_err-write_bmp c =
