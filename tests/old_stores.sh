@@ -91,10 +91,10 @@ made_by_bouncycastle_ber_rc2() { of_bouncycastle "$1" PKCS12 BER; }
 
 # By BouncyCastle under scrypt, whose costs N, r and p are the further words.
 of_scrypt() {
-    made=$1
+    scrypted=$1
     shift
     of_openssl "$work/to-import.p12" && java_class MakeScryptStore &&
-        java -cp "$work/java:$bouncycastle_jar:$bouncycastle_pkix" MakeScryptStore "$work/to-import.p12" "$work/old" "$@" "$made" 2>"$work/told"
+        java -cp "$work/java:$bouncycastle_jar:$bouncycastle_pkix" MakeScryptStore "$work/to-import.p12" "$work/old" "$@" "$scrypted" 2>"$work/told"
 }
 made_by_bouncycastle_scrypt() { of_scrypt "$1" 16384 8 1; }
 
@@ -300,7 +300,8 @@ no_password_decides() {
     openssl pkcs12 -export -nokeys -in "$work/rsa-cert.pem" -nomac -certpbe NONE -passout pass: -out "$work/open.p12" 2>"$work/told" &&
         ends 0 check "$work/open.p12" --allow-no-mac && grep -qxF 'MAC: none' "$work/said" &&
         ends 0 list "$work/open.p12" --allow-no-mac && grep -qF 'rsa.example' "$work/said" &&
-        fails 12 MacMissing '' check "$work/open.p12" && fails 8 PasswordMissing '' check "$work/bare.p12" --allow-no-mac
+        fails 12 MacMissing '' check "$work/open.p12" && of_openssl "$work/locked.p12" -nomac &&
+        fails 8 PasswordMissing '' check "$work/locked.p12" --allow-no-mac
 }
 holds a_store_that_no_password_protects_asks_for_none no_password_decides
 
