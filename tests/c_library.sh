@@ -111,7 +111,7 @@ holds meanings_are_the_same_in_each_language meanings
 # --- the stores of examples/, good and refused, and others ---
 
 # The library and the command on the store $1 under the password in the file $2: one number; and where both open it, the
-# certificates of both are the same text. The library opens no old store.
+# certificates of both are the same text. `pkcs12_open_pem` opens no old store.
 agrees() {
     library=0 command=0
     "$work/open" "$1" "$2" >"$work/text" 2>"$work/told" || library=$?
@@ -165,7 +165,7 @@ sys.stdout.write(pkcs12.list(store, password.rstrip(b"\r\n")))' "$1" "$2" 2>"$wo
 }
 each_list() {
     build inventory && built list "$sanitized" "$archive" || return 1
-    for store in "$home"/examples/*/store.p12 "$home"/examples/refused/*/store.p12; do
+    for store in "$home"/examples/*/store.p12; do
         lists "$store" "$(dirname "$store")/password" && lists "$store" "$work/new" || return 1
     done
     lists "$work/quick.p12" "$work/p" && lists "$work/short.p12" "$work/p" && lists "$home/examples/cert-0.der" "$work/p" &&
@@ -588,6 +588,34 @@ END
         openssl pkey -inform DER -in "$home/examples/openssl-key/key-0.der" -outform DER 2>"$work/told" | cmp - "$work/key.der"
 }
 holds a_store_under_the_algorithms_of_today upgraded
+# Old stores are listed and upgraded, and refused by the other calls: what is upgraded has the key and the certificates that went in,
+# and the table of the old store is what the program inventory says of the upgraded one.
+digests_of() { sha256sum "$1/cert-0.der" "$1/cert-1.der" | cut -d ' ' -f 1 | sort; }
+old_stores() {
+    build inventory && built list "$sanitized" "$archive" && built upgrade "$sanitized" "$archive" && built open "$sanitized" "$archive" || return 1
+    for store in "$home"/examples/refused/*/store.p12; do
+        folder=$(dirname "$store")
+        code=0
+        "$work/open" "$store" "$folder/password" >"$work/text" 2>"$work/told" || code=$?
+        { [ "$code" -eq 10 ] || [ "$code" -eq 11 ]; } && [ ! -s "$work/text" ] || return 1
+        "$work/upgrade" "$store" "$folder/password" "$work/new" >"$work/changed" 2>"$work/told" &&
+            "$work/list" "$store" "$folder/password" >"$work/table" 2>"$work/told" && [ -s "$work/table" ] &&
+            od -An -v -tx1 "$work/changed" | tr -d ' \n' |
+            "$home/crates/inventory/out/inventory" inventory "$(tr -d '\r' <"$work/new")" 100000000 | cmp - "$work/table" || return 1
+        code=0
+        "$work/list" "$store" "$work/new" >"$work/table" 2>"$work/told" || code=$?
+        [ "$code" -eq 16 ] && [ ! -s "$work/table" ] || return 1
+        rm -rf "$work/exported"
+        ends 0 export "$work/changed" --out "$work/exported" --password-file "$work/new" --same-password --rounds 1 --format der || return 1
+        digests_of "$folder" >"$work/due" && digests_of "$work/exported" | cmp - "$work/due" || return 1
+        ! have_openssl "$name" || {
+            openssl pkcs12 -in "$work/changed" -passin "file:$work/new" -nodes -nocerts 2>"$work/told" | openssl pkey -outform DER \
+                2>"$work/told" >"$work/key.der" &&
+                openssl pkey -inform DER -in "$folder/key-0.der" -outform DER 2>"$work/told" | cmp - "$work/key.der"
+        } || return 1
+    done
+}
+holds old_stores_are_listed_and_upgraded old_stores
 from_rust() {
     has rustc || return 0
     rustc --edition 2021 -O -o "$work/from_rust" "$crate/examples/rust/calls.rs" -L "$work/lib" -l static=pkcs12 2>"$work/told" &&

@@ -146,7 +146,7 @@ uint32_t pkcs12_open_pem(
     uint8_t *output, size_t output_len, size_t *needed);
 
 /* Opens the store, and writes the table of what it holds: a line for each X.509 certificate, then a line for each encrypted
- * private key, both in store order and numbered from 0.
+ * private key, both in store order and numbered from 0. It opens old stores too, as pkcs12_upgrade does.
  *
  *   cert 0 453fc35ac11be04ad4b7700cfa2205783db2ac2747569a2e16c7d74b06138d8e 1
  *   cert 1 a5845e53fad222c97589a36645dbf220d069af746ba0bae62474fab9cbf67df3 self
@@ -189,6 +189,11 @@ uint32_t pkcs12_rekey(
 /* As pkcs12_rekey, and brings the store to the algorithms of today: each key and content that is encrypted is sealed under PBES2,
  * PBKDF2 with HMAC-SHA-256 and AES-256-CBC, whatever it was under, and the MAC is made with HMAC-SHA-256, all in so many rounds.
  * The new password may be the old one.
+ *
+ * It takes old stores too, which the other calls but pkcs12_list refuse: stores in BER; under RC2 with 40 or 128 bits or Triple DES with
+ * two keys; under PBES2 with scrypt that takes at most 67,108,864 octets of memory; with a MAC under SHA-224, SHA-384 or SHA-512, or by
+ * PBMAC1 (RFC 9579); and, where the password is empty, stores that were made with no password at all. What it writes of one, the other
+ * calls take. A step of opening may be one Salsa20/8 core of scrypt (RFC 7914).
  *
  *   rounds        for each part and for the MAC, 1 to 100,000,000
  *   limit         the most steps that opening the store may take, and that opening the upgraded store may take

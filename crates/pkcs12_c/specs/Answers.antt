@@ -7,15 +7,17 @@ use Rattle.transfer.specs.declared.store.error.TransferError.{TransferError}
 use Rattle.transfer.specs.declared.store.error.TransferError.TheVariants as cause
 use Rattle.transfer.specs.declared.store.opened.Opened.{Opened}
 use Rattle.transfer.specs.declared.store.transfer.Transferred.{Transferred}
+use Rattle.legacy_store.specs.Verdicts.{IsDecidedUnder}
+use Rattle.legacy_store.specs.declared.mac_rule.MacRule.TheVariants.{Required}
 use Rattle.rekey_core.specs.Rekeyed.{IsSettled}
-use Rattle.rekey_core.specs.Upgraded.{IsUpgradeSettled}
 use Rattle.rekey_core.specs.declared.kinds.Rounds.{Rounds as Count}
+use Rattle.store_renewal.specs.Renewals.{IsOldSettled}
 use Rattle.pkcs12_c.specs.Changed.{ChangesDrawn, IsRefusedChange, IsRefusedUpgrade, UpgradesDrawn, renewal}
 use Rattle.pkcs12_c.specs.Created.{Asked, CreatesDrawn, IsRefusedCreation}
 use Rattle.pkcs12_c.specs.Drawn.{IsRefusedDrawn, TransfersDrawn}
 use Rattle.pkcs12_c.specs.Given.{IsGivenText}
 use Rattle.pkcs12_c.specs.Listed.{ListsWithin}
-use Rattle.pkcs12_c.specs.Opened.{IsRefusedOpening, OpensWithin}
+use Rattle.pkcs12_c.specs.Opened.{IsRefusedAny, IsRefusedOpening, OpensWithin}
 use Rattle.pkcs12_c.specs.Password.{IsPassword}
 use Rattle.pkcs12_c.specs.PemText.{opened_text, pem_text}
 use Rattle.pkcs12_c.specs.Refusal.{creation_refusal}
@@ -101,9 +103,9 @@ pub record StoreListed (b p : List ℕ) (limit : ℕ) (old new : List ℕ) (need
   -- it is the table of what the store holds
   pub lists : IfOk listed (ListsWithin b p limit)
   -- it is refused for its first cause
-  pub refused : IfErr listed (IsRefusedOpening b p limit)
+  pub refused : IfErr listed (IsRefusedAny b p limit)
   -- and each comes exactly where its cause holds, apart from being out of memory
-  pub exact : IsDecided b p limit listed
+  pub exact : IsDecidedUnder Required b p limit listed
   pub follows : Follows (λ t. t) listed old new needed r
 
 -- The result of a list: the password is tested first, then the store.
@@ -152,7 +154,7 @@ pub record StoreUpgraded (rounds : Count) (b p q random : List ℕ) (limit : ℕ
   -- it is refused for its first cause
   pub refused : IfErr upgraded (IsRefusedUpgrade rounds b p limit random)
   -- and each comes exactly where its cause holds, apart from being out of memory
-  pub exact : IsUpgradeSettled (renewal rounds limit) b p limit (Some random) upgraded
+  pub exact : IsOldSettled (renewal rounds limit) b p limit (Some random) upgraded
   pub follows : Follows (λ c. c) upgraded old new needed r
 
 -- The result of an upgrade: the rounds are tested first, then the passwords, then the store.

@@ -1,10 +1,10 @@
 -- The change of a store's password, and its upgrade, over random octets that are given.
 use Rattle.std.specs.Prelude.{ℕ, ◌≤◌, List, Some}
-use Rattle.rekey_core.specs.Rekeyed.{GrowsTooLong, GrowsTooLongTo, IsRefused, RefusedFor, Rekeys, RunsShort, RunsShortTo}
-use Rattle.rekey_core.specs.Upgraded.{SealsTooLong, UpgradeRefusedFor, Upgrades}
-use Rattle.rekey_core.specs.declared.kinds.Kinds.TheVariants.{Renewed}
+use Rattle.rekey_core.specs.Rekeyed.{GrowsTooLong, IsRefused, RefusedFor, Rekeys, RunsShort}
+use Rattle.rekey_core.specs.Upgraded.{UpgradeRefusedFor}
 use Rattle.rekey_core.specs.declared.kinds.Renewal.{Renewal}
 use Rattle.rekey_core.specs.declared.kinds.Rounds.{Rounds}
+use Rattle.store_renewal.specs.Renewals.{IsOldRefused, OldGrowsTooLong, OldRunsShort, OldSealsTooLong, RenewsOld}
 use Rattle.transfer.specs.declared.store.error.TransferError.{TransferError}
 
 -- The store is changed to the text c within the limit, and these random octets are to spare.
@@ -25,7 +25,7 @@ pub record IsRefusedChange (b p : List ℕ) (limit : ℕ) (random : List ℕ) (e
       (RunsShort b p limit (Some random) faults faults_after 0 steps)
       (GrowsTooLong b p limit (Some random) (Some spare) 0 steps) e
 
--- ---- an upgrade
+-- ---- an upgrade, of a store of today or of an old one
 
 -- so many rounds, where sealing may take no more in all than opening may take steps
 abbrev pub renewal : Rounds → ℕ → Renewal
@@ -35,10 +35,11 @@ renewal rounds limit = record { rounds = rounds; seal_limit = limit }
 -- are to spare.
 abbrev pub UpgradesDrawn : Rounds → List ℕ → List ℕ → List ℕ → ℕ → List ℕ → List ℕ → Type 0
 UpgradesDrawn rounds b p q limit random c = (spare : List ℕ) × (steps : ℕ)
-    × Upgrades (renewal rounds limit) b p q limit (Some random) (Some spare) 0 steps c
+    × RenewsOld (renewal rounds limit) b p q limit (Some random) (Some spare) 0 steps c
 
--- The store is refused for e as it is in a change of its password, or since the upgraded store would
--- take more steps to open than the limit.
+-- The store is refused for e, the first cause, within the limit; or there was no memory, or there
+-- are too few random octets, or the new store would have more octets than a store may have, or take
+-- more steps to open than the limit.
 pub record IsRefusedUpgrade (rounds : Rounds) (b p : List ℕ) (limit : ℕ) (random : List ℕ)
     (e : TransferError) : Type 0 where
   pub steps : ℕ
@@ -46,7 +47,7 @@ pub record IsRefusedUpgrade (rounds : Rounds) (b p : List ℕ) (limit : ℕ) (ra
   pub faults : ℕ
   pub faults_after : ℕ
   pub spare : List ℕ
-  pub cause : UpgradeRefusedFor (IsRefused b p limit 0 steps)
-      (SealsTooLong (renewal rounds limit) b p limit 0 steps)
-      (RunsShortTo (Renewed rounds) b p limit (Some random) faults faults_after 0 steps)
-      (GrowsTooLongTo (Renewed rounds) b p limit (Some random) (Some spare) 0 steps) e
+  pub cause : UpgradeRefusedFor (IsOldRefused b p limit 0 steps)
+      (OldSealsTooLong (renewal rounds limit) b p limit 0 steps)
+      (OldRunsShort (renewal rounds limit) b p limit (Some random) faults faults_after 0 steps)
+      (OldGrowsTooLong (renewal rounds limit) b p limit (Some random) (Some spare) 0 steps) e

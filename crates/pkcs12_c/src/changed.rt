@@ -27,8 +27,8 @@ fn changed_from<L: Ledger>(
     requires name { blank.name ≡ L.name }
     requires parts { blank.parts ≡ L.parts }
     requires some { 0 < blank.parts }
-    requires password { length password.now.text.now < 2 ^ 57 }
-    requires new_password { length new_password.now.text.now < 2 ^ 57 }
+    requires password { length password.now.text.now < 2 ^ 56 }
+    requires new_password { length new_password.now.text.now < 2 ^ 56 }
     ensures changed { IfOk result (ChangesDrawn store.now password.now.text.now
         new_password.now.text.now limit random.now) }
     ensures refused { IfErr result
@@ -51,7 +51,7 @@ fn changed_from<L: Ledger>(
 
 /// The store under another password, sealed anew with these random octets.
 ///
-/// Caller: both passwords have fewer than 2^57 octets.
+/// Caller: both passwords have fewer than 2^56 octets.
 pub fn changed(
     alloc: Global,
     store: &[u8],
@@ -60,8 +60,8 @@ pub fn changed(
     limit: u64,
     random: &[u8],
 ) -> Result<Octets, TransferError>
-    requires password { length password.now.text.now < 2 ^ 57 }
-    requires new_password { length new_password.now.text.now < 2 ^ 57 }
+    requires password { length password.now.text.now < 2 ^ 56 }
+    requires new_password { length new_password.now.text.now < 2 ^ 56 }
     ensures changed { IfOk result (ChangesDrawn store.now password.now.text.now
         new_password.now.text.now limit random.now) }
     ensures refused { IfErr result

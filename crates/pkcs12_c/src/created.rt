@@ -39,7 +39,7 @@ fn made(
     random: &[u8],
 ) -> Result<Octets, CreateError>
     requires rounds { 1 ≤ creation.now.rounds }
-    requires password { length creation.now.password.text.now < 2 ^ 57 }
+    requires password { length creation.now.password.text.now < 2 ^ 56 }
     ensures made { IfOk result (IsMade (asked_by creation.now) entries.now random.now) }
     ensures refused { IfErr result
         (RefusesToMake (asked_by creation.now) entries.now random.now) }
@@ -59,14 +59,14 @@ fn made(
 
 /// The store that is asked for, made over these random octets.
 ///
-/// Caller: at least one round, and a password of fewer than 2^57 octets.
+/// Caller: at least one round, and a password of fewer than 2^56 octets.
 pub fn created(
     alloc: Global,
     creation: &Creation<'_>,
     random: &[u8],
 ) -> Result<Octets, CreationRefusal>
     requires rounds { 1 ≤ creation.now.rounds }
-    requires password { length creation.now.password.text.now < 2 ^ 57 }
+    requires password { length creation.now.password.text.now < 2 ^ 56 }
     ensures created { IfOk result (CreatesDrawn (asked_by creation.now) random.now) }
     ensures refused { IfErr result (IsRefusedCreation (asked_by creation.now) random.now) }
 {

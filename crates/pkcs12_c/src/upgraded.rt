@@ -1,18 +1,19 @@
 //! The change of a store to the algorithms of today over random octets that are given, with a step counter of its own.
 ghost use Rattle.std.specs.Prelude.{◌≡◌, ◌<◌, ◌^◌, length, IfOk, IfErr, Some, None};
-ghost use Rattle.rekey_core.specs.Upgraded.{IsUpgradeSettled};
+ghost use Rattle.store_renewal.specs.Renewals.{IsOldSettled};
 ghost use Rattle.transfer.specs.Opening.{FirstCause};
 ghost use Rattle.pkcs12_c.specs.Changed.{IsRefusedUpgrade, UpgradesDrawn, renewal};
 
 use crate::password::Password;
 use asn1_core::Octets;
 use mac_modes::DrawnBytes;
-use rekey_core::laws::upgrades_reopen;
-use rekey_core::{Renewal, Rounds, upgrade};
+use rekey_core::{Renewal, Rounds};
 use std::alloc::Global;
 use std::marker::Brand;
 use std::sync::ledger::{Blank, Ledger};
 use steps::Steps;
+use store_renewal::laws::renewed_stores_open;
+use store_renewal::upgrade_any;
 use transfer::TransferError;
 
 /// The change with a step counter of its own.
@@ -29,21 +30,21 @@ fn upgraded_from<L: Ledger>(
     requires name { blank.name ≡ L.name }
     requires parts { blank.parts ≡ L.parts }
     requires some { 0 < blank.parts }
-    requires password { length password.now.text.now < 2 ^ 57 }
-    requires new_password { length new_password.now.text.now < 2 ^ 57 }
+    requires password { length password.now.text.now < 2 ^ 56 }
+    requires new_password { length new_password.now.text.now < 2 ^ 56 }
     ensures upgraded { IfOk result (UpgradesDrawn rounds store.now password.now.text.now
         new_password.now.text.now limit random.now) }
     ensures reopens { IfOk result (λ c. FirstCause c new_password.now.text.now limit None) }
     ensures refused { IfErr result (IsRefusedUpgrade rounds store.now password.now.text.now limit
         random.now) }
-    ensures exact { IsUpgradeSettled (renewal rounds limit) store.now password.now.text.now limit
+    ensures exact { IsOldSettled (renewal rounds limit) store.now password.now.text.now limit
         (Some random.now) result }
 {
-    upgrades_reopen();
+    renewed_stores_open();
     let octets = Octets::from_slice(alloc, random)?;
     let mut draw = DrawnBytes::new(octets);
     let mut steps = Steps::<L>::open(blank);
-    upgrade(
+    upgrade_any(
         alloc,
         store,
         password.text,
@@ -58,10 +59,10 @@ fn upgraded_from<L: Ledger>(
     )
 }
 
-/// The store under another password, each part and the MAC sealed anew in so many rounds with these random octets. `limit` is
+/// The store, which may be an old one, under another password, each part and the MAC sealed anew in so many rounds with these random octets. `limit` is
 /// that of opening the store, and of opening what is made of it.
 ///
-/// Caller: both passwords have fewer than 2^57 octets.
+/// Caller: both passwords have fewer than 2^56 octets.
 pub fn upgraded(
     alloc: Global,
     store: &[u8],
@@ -71,14 +72,14 @@ pub fn upgraded(
     limit: u64,
     random: &[u8],
 ) -> Result<Octets, TransferError>
-    requires password { length password.now.text.now < 2 ^ 57 }
-    requires new_password { length new_password.now.text.now < 2 ^ 57 }
+    requires password { length password.now.text.now < 2 ^ 56 }
+    requires new_password { length new_password.now.text.now < 2 ^ 56 }
     ensures upgraded { IfOk result (UpgradesDrawn rounds store.now password.now.text.now
         new_password.now.text.now limit random.now) }
     ensures reopens { IfOk result (λ c. FirstCause c new_password.now.text.now limit None) }
     ensures refused { IfErr result (IsRefusedUpgrade rounds store.now password.now.text.now limit
         random.now) }
-    ensures exact { IsUpgradeSettled (renewal rounds limit) store.now password.now.text.now limit
+    ensures exact { IsOldSettled (renewal rounds limit) store.now password.now.text.now limit
         (Some random.now) result }
 {
     upgraded_from::<Brand>(

@@ -4,4 +4,4 @@ use Rattle.pkcs12_c.proofs.upgraded.upgraded_from.Goals as goal
 
 pub returns-clause-reopens : goal.returns-clause-reopens
 returns-clause-reopens g c =
-    reopened c.upgrades_reopen.ensures (renewal c.args.rounds c.args.limit) c.args.store.now c.args.password.now.text.now c.args.new_password.now.text.now c.args.limit _ _ _ _ c.upgrade.result c.upgrade.ensures.changed
+    reopened c.renewed_stores_open.ensures (renewal c.args.rounds c.args.limit) c.args.store.now c.args.password.now.text.now c.args.new_password.now.text.now c.args.limit _ _ _ _ c.upgrade_any.result c.upgrade_any.ensures.changed
